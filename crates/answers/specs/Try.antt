@@ -1,0 +1,19 @@
+-- A refusal, or what was asked for: how judgements stand one after the other.
+use mathlib.Core.Bool.{Bool, true, false}
+use Rattle.answers.specs.declared.Refusal.{Refusal}
+
+pub data Try (A : Type 0) : Type 0 where
+  refused : Refusal → Try A
+  good : A → Try A
+
+module _ {A : Type 0} where
+  -- refused for this reason where the test holds, else as what follows says
+  abbrev pub unless : Bool → Refusal → Try A → Try A
+  unless true r rest = refused r
+  unless false r rest = rest
+
+  infixl 1 _>>=_
+  -- what follows, where nothing was refused so far; a `do` block is made of it
+  abbrev pub _>>=_ : {B : Type 0} → Try A → (A → Try B) → Try B
+  refused r >>= f = refused r
+  good a >>= f = f a

@@ -1,0 +1,5 @@
+pub mod Request
+pub mod Shape
+pub mod Taken
+pub mod Value
+pub mod Write

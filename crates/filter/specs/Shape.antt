@@ -1,0 +1,93 @@
+-- Document 01, "The filter": an AND (A0h) of one or more filters, to depth 4, or an equality (A3h) of two octet strings (04h).
+-- A filter is read by offsets: from `at`, within the end of the element around it.
+use mathlib.Core.Bool.{Bool, true, false, cond, not, _&&_, _||_}
+use mathlib.Core.List.{List, [], _∷_, _++_}
+use mathlib.Core.Option.{Option, none, some}
+use Prim.Native.Nat.{ℕ, zero, suc, _+_, _-_}
+use lib.Dec.{eqb, leb, ltb}
+use lib.ListN.{length, getD}
+use Rattle.octets.specs.Lists.{cut}
+use Rattle.octets.specs.Number.{big}
+
+-- an element: its tag, and where its contents start and end
+pub record Element : Type 0 where
+  pub tag : ℕ
+  pub start : ℕ
+  pub next : ℕ
+
+-- how many octets a length takes by its first one, past that one: none below 80h, one after 81h, two after 82h, else no length
+abbrev pub lengthWidth : ℕ → Option ℕ
+lengthWidth x = cond (ltb x 0x80) (some 0) (cond (eqb x 0x81) (some 1) (cond (eqb x 0x82) (some 2) none))
+
+abbrev pub lengthValue : List ℕ → ℕ → ℕ → ℕ
+lengthValue s at zero = getD s at 0
+lengthValue s at (suc w) = big (cut s (at + 1) (suc w))
+
+abbrev pub onWidth : Option ℕ → (ℕ → Option Element) → Option Element
+onWidth none f = none
+onWidth (some w) f = f w
+
+-- the element whose contents are n octets from `start`, if they end within `end`
+abbrev pub elementOf : ℕ → ℕ → ℕ → ℕ → Option Element
+elementOf tag start n end = cond (leb (start + n) end) (some (record { tag = tag; start = start; next = start + n })) none
+
+-- the element at `at`: a tag, a length, and the contents, all within `end`
+unfoldable pub elementAt : List ℕ → ℕ → ℕ → Option Element
+elementAt s at end =
+    cond (ltb end (at + 2))
+    none
+    (onWidth (lengthWidth (getD s (at + 1) 0)) (λ w.
+    cond (ltb end (at + 2 + w)) none (elementOf (getD s at 0) (at + 2 + w) (lengthValue s (at + 1) w) end)))
+
+-- a clause as it stands in a filter: the stretches of its name and its value
+pub record Found : Type 0 where
+  pub nameStart : ℕ
+  pub nameLength : ℕ
+  pub start : ℕ
+  pub len : ℕ
+
+abbrev pub onElement : {A : Type 0} → Option Element → (Element → Option A) → Option A
+onElement none f = none
+onElement (some e) f = f e
+
+abbrev pub when : {A : Type 0} → Bool → Option A → Option A
+when true x = x
+when false x = none
+
+-- a name and a value that fill the equality from `at` to `end`
+unfoldable pub equality : List ℕ → ℕ → ℕ → Option (List Found)
+equality s at end =
+    onElement (elementAt s at end) (λ n.
+    when (eqb (n .tag) 0x04) (onElement (elementAt s (n .next) end) (λ v.
+    when (eqb (v .tag) 0x04 && eqb (v .next) end)
+    (some (record { nameStart = n .start; nameLength = n .next - n .start; start = v .start; len = v .next - v .start } ∷ [])))))
+
+abbrev pub joinFound : List Found → Option (List Found) → Option (List Found)
+joinFound xs none = none
+joinFound xs (some ys) = some (xs ++ ys)
+
+abbrev pub onFound : Option (List Found) → (List Found → Option (List Found)) → Option (List Found)
+onFound none f = none
+onFound (some xs) f = f xs
+
+module _ (and : List ℕ → ℕ → ℕ → Option (List Found)) where
+  -- the filter that an element is, where `and` reads the contents of an AND
+  unfoldable pub one : List ℕ → Element → Option (List Found)
+  one s e = elim (eqb (e .tag) 0xA3) [ true ↦ equality s (e .start) (e .next) | false ↦ when (eqb (e .tag) 0xA0) (and s (e .start) (e .next)) ]
+
+  -- filters that fill the stretch from `at` to `end`, the last at least; k bounds how many there are
+  unfoldable pub siblings : ℕ → List ℕ → ℕ → ℕ → Option (List Found)
+  siblings zero s at end = none
+  siblings (suc k) s at end =
+      onElement (elementAt s at end) (λ e.
+      onFound (one s e) (λ xs.
+      elim (eqb (e .next) end) [ true ↦ some xs | false ↦ joinFound xs (siblings k s (e .next) end) ]))
+
+-- the contents of an AND, where it and d - 1 more may stand one inside the other
+unfoldable pub andOf : ℕ → List ℕ → ℕ → ℕ → Option (List Found)
+andOf zero s at end = none
+andOf (suc d) s at end = siblings (andOf d) (end - at) s at end
+
+-- a whole filter's clauses in order, or none where it is not of the shape: one element that fills the octets
+unfoldable pub clausesOf : List ℕ → Option (List Found)
+clausesOf s = onElement (elementAt s 0 (length s)) (λ e. when (eqb (e .next) (length s)) (one (andOf 4) s e))

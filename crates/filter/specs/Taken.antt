@@ -1,0 +1,54 @@
+-- Document 01, "The filter" and "Answer numbers": taking a filter apart, with 5 to 8, each judged over the whole filter.
+use mathlib.Core.Bool.{Bool, true, false, not}
+use mathlib.Core.List.{List, [], _∷_}
+use mathlib.Core.Option.{Option, none, some}
+use Prim.Native.Nat.{ℕ}
+use lib.Dec.{ltb}
+use lib.ListN.{length}
+use Rattle.answers.specs.declared.Refusal.the-variants.{FilterLength, FilterShape, ClauseName, ClauseTwice}
+use Rattle.answers.specs.Try.{Try, refused, good, unless}
+use Rattle.octets.specs.Lists.{all, any, first, apart, cut}
+use Rattle.octets.specs.Text.{sameFolded}
+use Rattle.filter.specs.declared.Clause.{Clause}
+use Rattle.filter.specs.declared.Clause.the-variants.{Absent, Present}
+use Rattle.filter.specs.declared.Request.{Request}
+use Rattle.filter.specs.declared.Taken.{Taken}
+use Rattle.filter.specs.declared.Taken.the-variants as taken
+use Rattle.filter.specs.Request.{Name, names, spelling, requestBy}
+use Rattle.filter.specs.Shape.{Found, clausesOf}
+
+-- a clause's name as it stands in the filter
+abbrev pub nameOf : List ℕ → Found → List ℕ
+nameOf s f = cut s (f .nameStart) (f .nameLength)
+
+-- a clause is of this name, ASCII case ignored
+unfoldable pub isNamed : List ℕ → Name → Found → Bool
+isNamed s name f = sameFolded (nameOf s f) (spelling name)
+
+-- 7: a clause of another name
+unfoldable pub strange : List ℕ → List Found → Bool
+strange s fs = any (λ f. not (any (λ name. isNamed s name f) names)) fs
+
+-- 8: a clause twice
+unfoldable pub twice : List ℕ → List Found → Bool
+twice s fs = not (apart (λ f g. sameFolded (nameOf s f) (nameOf s g)) fs)
+
+abbrev pub asClause : Option Found → Clause
+asClause none = Absent
+asClause (some f) = Present (f .start) (f .len)
+
+-- the request that clauses make
+unfoldable pub requestOf : List ℕ → List Found → Request
+requestOf s fs = requestBy (λ name. asClause (first (isNamed s name) fs))
+
+abbrev pub judged : List ℕ → Option (List Found) → Try Request
+judged s none = refused FilterShape
+judged s (some fs) = unless (strange s fs) ClauseName (unless (twice s fs) ClauseTwice (good (requestOf s fs)))
+
+unfoldable pub requestIn : List ℕ → Try Request
+requestIn s = unless (ltb 2048 (length s)) FilterLength (judged s (clausesOf s))
+
+-- the answer of taking a filter apart, as the enum that the call returns
+abbrev pub takenAs : Try Request → Taken
+takenAs (refused r) = taken.Refused r
+takenAs (good q) = taken.Request q

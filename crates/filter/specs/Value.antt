@@ -1,0 +1,65 @@
+-- Document 01, "Answer numbers" 9 and 10: the values of a request's clauses, judged over the whole filter.
+use mathlib.Core.Bool.{Bool, not, _&&_, _||_}
+use mathlib.Core.List.{List}
+use mathlib.Core.Option.{Option, none, some}
+use Prim.Native.Nat.{ℕ}
+use lib.Dec.{eqb, leb}
+use lib.ListN.{length}
+use Rattle.answers.specs.declared.Refusal.the-variants.{ClauseValue, NoVersion}
+use Rattle.answers.specs.Try.{Try, refused, good, unless}
+use Rattle.octets.specs.Lists.{holds}
+use Rattle.octets.specs.NameRule.{without}
+use Rattle.octets.specs.Number.{little}
+use Rattle.octets.specs.Utf8.{isUtf8}
+use Rattle.filter.specs.declared.Request.{Request}
+use Rattle.filter.specs.Request.{octetsOf}
+
+-- what the clauses of a request say that the answer goes by: absent, or their octets
+pub record Ping : Type 0 where
+  pub dnsDomain : Option (List ℕ)
+  pub user : Option (List ℕ)
+  pub aac : Option (List ℕ)
+  pub domainSid : Option (List ℕ)
+  pub domainGuid : Option (List ℕ)
+  pub version : ℕ
+
+-- the octets of a number are four
+abbrev pub isNumber : List ℕ → Bool
+isNumber s = eqb (length s) 4
+
+abbrev pub isUser : List ℕ → Bool
+isUser s = leb (length s) 63 && isUtf8 s && without 0 s
+
+-- 9: NtVer or AAC not 4 octets; User over 63, not UTF-8, or holding a zero octet
+unfoldable pub wrongValue : List ℕ → Request → Bool
+wrongValue s r =
+    holds (λ x. not (isNumber x)) (octetsOf s (r .«nt_ver»))
+    || holds (λ x. not (isNumber x)) (octetsOf s (r .«aac»))
+    || holds (λ x. not (isUser x)) (octetsOf s (r .«user»))
+
+-- the version asked, where there is one
+abbrev pub versionFrom : Option (List ℕ) → Option ℕ
+versionFrom none = none
+versionFrom (some x) = some (little x)
+
+unfoldable pub versionAsked : List ℕ → Request → Option ℕ
+versionAsked s r = versionFrom (octetsOf s (r .«nt_ver»))
+
+abbrev pub pingOf : List ℕ → Request → ℕ → Ping
+pingOf s r v =
+    record {
+      dnsDomain = octetsOf s (r .«dns_domain»);
+      user = octetsOf s (r .«user»);
+      aac = octetsOf s (r .«aac»);
+      domainSid = octetsOf s (r .«domain_sid»);
+      domainGuid = octetsOf s (r .«domain_guid»);
+      version = v;
+    }
+
+-- 10: no NtVer
+abbrev pub withVersion : List ℕ → Request → Option ℕ → Try Ping
+withVersion s r none = refused NoVersion
+withVersion s r (some v) = good (pingOf s r v)
+
+unfoldable pub pingIn : List ℕ → Request → Try Ping
+pingIn s r = unless (wrongValue s r) ClauseValue (withVersion s r (versionAsked s r))

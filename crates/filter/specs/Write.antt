@@ -1,0 +1,48 @@
+-- Document 01, "The filter": the writer, with 6, 5 and 19.
+use mathlib.Core.Bool.{Bool, true, false, cond, not}
+use mathlib.Core.List.{List, [], _∷_, _++_, flatMap}
+use mathlib.Core.Option.{Option, none, some}
+use Prim.Native.Nat.{ℕ}
+use lib.Dec.{ltb}
+use lib.ListN.{length}
+use Rattle.answers.specs.declared.Refusal.the-variants.{FilterShape, FilterLength, NoRoom}
+use Rattle.answers.specs.Try.{Try, refused, good, unless}
+use Rattle.octets.specs.Lists.{any}
+use Rattle.octets.specs.Number.{bigOctets}
+use Rattle.filter.specs.declared.Request.{Request}
+use Rattle.filter.specs.declared.Written.{Written}
+use Rattle.filter.specs.declared.Written.the-variants as written
+use Rattle.filter.specs.Request.{Name, names, spelling, clause, isPresent, octetsOf}
+
+-- the shortest length
+unfoldable pub lengthOctets : ℕ → List ℕ
+lengthOctets n = cond (ltb n 0x80) (bigOctets 1 n) (cond (ltb n 0x100) (0x81 ∷ bigOctets 1 n) (0x82 ∷ bigOctets 2 n))
+
+unfoldable pub element : ℕ → List ℕ → List ℕ
+element tag contents = (tag ∷ lengthOctets (length contents)) ++ contents
+
+-- the equality of a clause that is present
+abbrev pub equalityFor : Name → Option (List ℕ) → List ℕ
+equalityFor name none = []
+equalityFor name (some value) = element 0xA3 (element 0x04 (spelling name) ++ element 0x04 value)
+
+-- the present clauses, whose octets lie in the source, in document 01's order inside one AND
+unfoldable pub filterOctets : List ℕ → Request → List ℕ
+filterOctets source r = element 0xA0 (flatMap (λ name. equalityFor name (octetsOf source (clause r name))) names)
+
+unfoldable pub filterFor : List ℕ → Request → ℕ → Try (List ℕ)
+filterFor source r room =
+    let octets = filterOctets source r in
+    unless (not (any (λ name. isPresent (clause r name)) names)) FilterShape
+    (unless (ltb 2048 (length octets)) FilterLength
+    (unless (ltb room (length octets)) NoRoom (good octets)))
+
+-- the answer of the writer, as the enum that the call returns
+abbrev pub writtenAs : Try (List ℕ) → Written
+writtenAs (refused r) = written.Refused r
+writtenAs (good octets) = written.Length (length octets)
+
+-- the octets that it writes: none where it refuses
+abbrev pub writtenOctets : Try (List ℕ) → List ℕ
+writtenOctets (refused r) = []
+writtenOctets (good octets) = octets

@@ -1,0 +1,78 @@
+-- Document 01, "Answer numbers": the answer to a ping, as one function of table image, client address, filter and room.
+use mathlib.Core.Bool.{Bool, true, false, not, _&&_, _||_}
+use mathlib.Core.List.{List, []}
+use Prim.Native.Nat.{ℕ}
+use lib.Dec.{eqb, ltb}
+use lib.ListN.{length}
+use Rattle.answers.specs.declared.Form.{Form}
+use Rattle.answers.specs.declared.Form.the-variants.{Nt40, Response, Ex}
+use Rattle.answers.specs.declared.Refusal.the-variants.{UserLabelEmpty, NoRoom}
+use Rattle.answers.specs.Refusal.{number}
+use Rattle.answers.specs.Try.{Try, refused, good, unless, _>>=_}
+use Rattle.filter.specs.Taken.{requestIn}
+use Rattle.filter.specs.Value.{Ping, pingIn}
+use Rattle.octets.specs.Label.{labels}
+use Rattle.octets.specs.Lists.{any, holds}
+use Rattle.reply.specs.Reply.{octetsIn}
+use Rattle.table.specs.declared.ContextNumber.{ContextNumber}
+use Rattle.table.specs.Judgement.{tableIn}
+use Rattle.table.specs.Records.{Context}
+use Rattle.table.specs.Table.{Table}
+use Rattle.locator.specs.declared.Answer.{Answer}
+use Rattle.locator.specs.declared.Answer.the-variants as answer
+use Rattle.locator.specs.Choose.{formOf, replyFor}
+use Rattle.locator.specs.Judge.{contextIn}
+
+abbrev pub isEx : Form → Bool
+isEx Nt40 = false
+isEx Response = false
+isEx Ex = true
+
+-- 18: EX form, User not empty, and some part between dots empty
+unfoldable pub wrongUser : Form → Ping → Bool
+wrongUser form p = isEx form && holds (λ name. any (λ l. eqb (length l) 0) (labels name)) (p .user)
+
+-- an answer: the context used, the form and the reply's octets
+pub record Outcome : Type 0 where
+  pub context : ContextNumber
+  pub form : Form
+  pub octets : List ℕ
+
+unfoldable pub replyTo : Table → List ℕ → Ping → ℕ → Context → Try Outcome
+replyTo t client p room c =
+    let form = formOf (t .server) (p .version) in
+    let octets = octetsIn form (replyFor t client p c form) in
+    unless (wrongUser form p) UserLabelEmpty
+    (unless (ltb room (length octets)) NoRoom (good (record { context = c .number; form = form; octets = octets })))
+
+-- the numbers are judged in their order, each over the whole table or filter
+unfoldable pub answerTo : List ℕ → List ℕ → List ℕ → ℕ → Try Outcome
+answerTo image client filter room = do
+  t ← tableIn image
+  r ← requestIn filter
+  p ← pingIn filter r
+  c ← contextIn t p
+  replyTo t client p room c
+
+-- the answer as the enum that the call returns
+abbrev pub answerAs : Try Outcome → Answer
+answerAs (refused r) = answer.Refused r
+answerAs (good a) = answer.Answered (length (a .octets)) (a .context) (a .form)
+
+-- the octets that it writes: none where it refuses
+abbrev pub octetsWritten : Try Outcome → List ℕ
+octetsWritten (refused r) = []
+octetsWritten (good a) = a .octets
+
+-- document 01's values of an answer: its number, and the length and the context, both 0 with a refusal
+abbrev pub numberOf : Answer → ℕ
+numberOf (answer.Answered length context form) = 0
+numberOf (answer.Refused r) = number r
+
+abbrev pub lengthOf : Answer → ℕ
+lengthOf (answer.Answered length context form) = length
+lengthOf (answer.Refused r) = 0
+
+abbrev pub contextOf : Answer → ℕ
+contextOf (answer.Answered length context form) = context .0
+contextOf (answer.Refused r) = 0

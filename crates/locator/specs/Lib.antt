@@ -1,0 +1,5 @@
+pub mod Find
+pub mod Judge
+pub mod Choose
+pub mod Answer
+pub mod Samples

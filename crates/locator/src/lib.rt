@@ -1,0 +1,14 @@
+// The locator: document 01, "Answer numbers" and "Choosing the answer".
+use answers::Form;
+use answers::Refusal;
+use table::ContextNumber;
+
+// The answer to a ping: its values are those of specs/Answer.antt.
+pub enum Answer {
+    Answered {
+        length: usize,
+        context: ContextNumber,
+        form: Form,
+    },
+    Refused(Refusal),
+}

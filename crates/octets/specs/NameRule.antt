@@ -1,0 +1,31 @@
+-- Document 01, "The table image": what a name of each kind must be.
+use mathlib.Core.Bool.{Bool, _&&_, not}
+use mathlib.Core.List.{List}
+use Prim.Native.Nat.{ℕ}
+use lib.Dec.{eqb}
+use lib.ListN.{length}
+use Rattle.octets.specs.Label.{parts}
+use Rattle.octets.specs.Lists.{all}
+use Rattle.octets.specs.Text.{within}
+use Rattle.octets.specs.Utf8.{isUtf8}
+
+abbrev pub sized : ℕ → ℕ → List ℕ → Bool
+sized low high s = within low high (length s)
+
+abbrev pub printable : List ℕ → Bool
+printable = all (within 0x21 0x7E)
+
+abbrev pub without : ℕ → List ℕ → Bool
+without x = all (λ y. not (eqb y x))
+
+unfoldable pub isDnsName : List ℕ → Bool
+isDnsName s = sized 1 253 s && printable s && all (sized 1 63) (parts s)
+
+unfoldable pub isNetbiosName : List ℕ → Bool
+isNetbiosName s = sized 1 15 s && printable s && without 46 s
+
+unfoldable pub isSiteName : List ℕ → Bool
+isSiteName s = sized 1 63 s && printable s && without 46 s
+
+unfoldable pub isAccountName : List ℕ → Bool
+isAccountName s = sized 1 63 s && isUtf8 s && without 0 s

@@ -1,0 +1,4 @@
+pub mod Field
+pub mod Text
+pub mod Name
+pub mod Reader

@@ -1,0 +1,1 @@
+// Reading a received reply: document 01, "Reading a reply".

@@ -1,0 +1,1 @@
+// The octets of a reply: document 01, "Reply octets".

@@ -1,0 +1,34 @@
+-- Document 01, "Answer numbers" 1 to 4: an image judged, each number over the whole image once the earlier ones passed.
+use mathlib.Core.Bool.{Bool, not, _&&_}
+use mathlib.Core.List.{List}
+use Prim.Native.Nat.{ℕ, _%_}
+use lib.Dec.{eqb}
+use lib.ListN.{length}
+use Rattle.answers.specs.declared.Refusal.the-variants.{ImageLength, BlockCheck, BlockLayout, TableWhole}
+use Rattle.answers.specs.Try.{Try, refused, good, unless}
+use Rattle.octets.specs.Lists.{all}
+use Rattle.octets.specs.Text.{within}
+use Rattle.table.specs.declared.Judgement.{Judgement}
+use Rattle.table.specs.declared.Judgement.the-variants.{Passed, Refused}
+use Rattle.table.specs.Check.{goodCheck}
+use Rattle.table.specs.Layout.{layoutsFrom}
+use Rattle.table.specs.Table.{Table, blocksOf, tableOf}
+use Rattle.table.specs.Whole.{goodWhole}
+
+-- a multiple of 512 from 1,024 to 65,536
+unfoldable pub goodLength : List ℕ → Bool
+goodLength image = within 1024 65536 (length image) && eqb (length image % 512) 0
+
+-- the table of an image, or why there is none
+unfoldable pub tableIn : List ℕ → Try Table
+tableIn image =
+    let blocks = blocksOf image in
+    unless (not (goodLength image)) ImageLength
+    (unless (not (all goodCheck blocks)) BlockCheck
+    (unless (not (layoutsFrom 0 blocks)) BlockLayout
+    (unless (not (goodWhole (tableOf blocks))) TableWhole (good (tableOf blocks)))))
+
+-- the answer of judging an image, as the enum that the call returns
+abbrev pub judgedAs : Try Table → Judgement
+judgedAs (refused r) = Refused r
+judgedAs (good t) = Passed

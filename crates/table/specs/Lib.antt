@@ -1,0 +1,7 @@
+pub mod Check
+pub mod Field
+pub mod Records
+pub mod Layout
+pub mod Table
+pub mod Whole
+pub mod Judgement

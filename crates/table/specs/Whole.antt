@@ -1,0 +1,67 @@
+-- Document 01, "The table image": the table as a whole.
+use mathlib.Core.Bool.{Bool, true, false, not, _&&_}
+use mathlib.Core.List.{List}
+use mathlib.Core.Option.{Option, none, some}
+use Prim.Native.Nat.{ℕ}
+use lib.Dec.{leb}
+use lib.ListN.{length}
+use Rattle.octets.specs.Lists.{all, any, apart, holds}
+use Rattle.octets.specs.Text.{same, sameFolded, within}
+use Rattle.table.specs.declared.ContextNumber.{ContextNumber}
+use Rattle.table.specs.declared.SiteNumber.{SiteNumber}
+use Rattle.table.specs.Records.{Context, Account, Site, Subnet, sameContext, sameSite}
+use Rattle.table.specs.Table.{Table}
+
+-- the same account name: ASCII case ignored
+unfoldable pub sameAccountName : List ℕ → List ℕ → Bool
+sameAccountName = sameFolded
+
+-- a context without SID has the SID of no other
+abbrev pub sameSid : Option (List ℕ) → Option (List ℕ) → Bool
+sameSid none t = false
+sameSid (some s) none = false
+sameSid (some s) (some t) = same s t
+
+unfoldable pub contextsApart : List Context → Bool
+contextsApart cs =
+    apart (λ c d. sameContext (c .number) (d .number)) cs
+    && apart (λ c d. same (c .guid) (d .guid)) cs
+    && apart (λ c d. sameSid (c .sid) (d .sid)) cs
+    && apart (λ c d. sameFolded (c .dns) (d .dns)) cs
+
+unfoldable pub accountsApart : List Account → Bool
+accountsApart = apart (λ a b. sameContext (a .context) (b .context) && sameAccountName (a .name) (b .name))
+
+unfoldable pub sitesApart : List Site → Bool
+sitesApart = apart (λ s t. sameSite (s .number) (t .number))
+
+-- the context, or the site, of a number exists
+unfoldable pub hasContext : Table → ContextNumber → Bool
+hasContext t n = any (λ c. sameContext (c .number) n) (t .contexts)
+
+unfoldable pub hasSite : Table → SiteNumber → Bool
+hasSite t n = any (λ s. sameSite (s .number) n) (t .sites)
+
+-- where there is none, nothing is referred to
+abbrev pub noneOr : (SiteNumber → Bool) → Option SiteNumber → Bool
+noneOr p none = true
+noneOr p (some n) = p n
+
+-- every number referred to exists
+unfoldable pub refersRightly : Table → Bool
+refersRightly t =
+    hasSite t (t .server .site)
+    && hasContext t (t .server .defaultContext)
+    && all (λ a. hasContext t (a .context)) (t .accounts)
+    && all (λ s. noneOr (hasSite t) (s .next)) (t .sites)
+    && all (λ n. noneOr (hasSite t) (n .site)) (t .subnets)
+
+unfoldable pub goodWhole : Table → Bool
+goodWhole t =
+    within 1 16 (length (t .contexts))
+    && leb 1 (length (t .sites))
+    && contextsApart (t .contexts)
+    && sitesApart (t .sites)
+    && accountsApart (t .accounts)
+    && refersRightly t
+    && all (λ s. not (holds (sameSite (s .number)) (s .next))) (t .sites)

@@ -1,0 +1,15 @@
+// The table image: document 01, "The table image".
+use answers::Refusal;
+
+// Naming-context numbers, site numbers and block places are three countings, and none is used for another.
+pub struct ContextNumber(pub u16);
+
+pub struct SiteNumber(pub u16);
+
+pub struct BlockPlace(pub u16);
+
+// What judging an image gives: 0, or 1 to 4.
+pub enum Judgement {
+    Passed,
+    Refused(Refusal),
+}
