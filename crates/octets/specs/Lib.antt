@@ -1,8 +1,11 @@
 pub mod Lists
 pub mod Number
 pub mod Text
+pub mod Class
 pub mod Utf8
+pub mod Utf8Step
 pub mod Utf16
 pub mod Label
 pub mod NameRule
+pub mod LabelStep
 pub mod Sid

@@ -21,11 +21,15 @@ without x = all (λ y. not (eqb y x))
 unfoldable pub isDnsName : List ℕ → Bool
 isDnsName s = sized 1 253 s && printable s && all (sized 1 63) (parts s)
 
-unfoldable pub isNetbiosName : List ℕ → Bool
-isNetbiosName s = sized 1 15 s && printable s && without 46 s
+-- NetBIOS and site names: the same octets, no dot, and as many as there is room for
+unfoldable pub isPlainName : ℕ → List ℕ → Bool
+isPlainName room s = sized 1 room s && printable s && without 46 s
 
-unfoldable pub isSiteName : List ℕ → Bool
-isSiteName s = sized 1 63 s && printable s && without 46 s
+abbrev pub isNetbiosName : List ℕ → Bool
+isNetbiosName = isPlainName 15
+
+abbrev pub isSiteName : List ℕ → Bool
+isSiteName = isPlainName 63
 
 unfoldable pub isAccountName : List ℕ → Bool
 isAccountName s = sized 1 63 s && isUtf8 s && without 0 s

@@ -4,6 +4,7 @@ use mathlib.Core.List.{List, [], _∷_, map}
 use Prim.Native.Nat.{ℕ, _+_}
 use lib.Dec.{eqb, leb}
 use Rattle.octets.specs.Lists.{all}
+pub mod Properties
 
 unfoldable pub same : List ℕ → List ℕ → Bool
 same [] [] = true
@@ -15,12 +16,17 @@ same (x ∷ xs) (y ∷ ys) = eqb x y && same xs ys
 unfoldable pub lower : ℕ → ℕ
 lower x = cond (leb 65 x && leb x 90) (x + 32) x
 
-unfoldable pub sameFolded : List ℕ → List ℕ → Bool
+-- an octet as it is compared, with ASCII case ignored or not
+abbrev pub foldIf : Bool → ℕ → ℕ
+foldIf true x = lower x
+foldIf false x = x
+
+abbrev pub sameFolded : List ℕ → List ℕ → Bool
 sameFolded xs ys = same (map lower xs) (map lower ys)
 
 -- a number from low to high, both included
 abbrev pub within : ℕ → ℕ → ℕ → Bool
 within low high n = leb low n && leb n high
 
-unfoldable pub allZero : List ℕ → Bool
+abbrev pub allZero : List ℕ → Bool
 allZero = all (λ x. eqb x 0)

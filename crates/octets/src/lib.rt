@@ -1,1 +1,5 @@
 // Octets and texts, which every other part of document 01 is written in.
+pub mod name_rule;
+pub mod number;
+pub mod text;
+pub mod utf8;

@@ -1,0 +1,124 @@
+// What a name of each kind must be, and a SID.
+ghost use mathlib.Core.Path.{_≡_};
+ghost use Prim.Native.Nat.{_≤_};
+ghost use lib.ListN.{length};
+ghost use Rattle.octets.specs.Lists.{all};
+ghost use Rattle.octets.specs.Label.{parts};
+ghost use Rattle.octets.specs.LabelStep.{labelStep, InLabel};
+ghost use Rattle.octets.specs.NameRule.{sized, isDnsName, isPlainName, isNetbiosName, isSiteName, isAccountName};
+ghost use Rattle.octets.specs.Sid.{isSid};
+use crate::number::wide;
+use crate::text::is_printable;
+use crate::text::lacks;
+use crate::utf8::is_utf8;
+
+fn is_sized(s: &[u8], low: usize, high: usize) -> bool
+    ensures { λ r. ⌜ r ≡ sized low high (now (s .entry)) ⌝ }
+{
+    if s.len() < low {
+        return false;
+    }
+    s.len() <= high
+}
+
+// What an octet does to the label it stands in: a wrong length, or the octets of the label so far.
+pub enum LabelStep {
+    Bad,
+    Length(usize),
+}
+
+fn label_step(n: usize, x: u8) -> LabelStep
+    ensures { λ r. ⌜ r ≡ labelStep n x ⌝ }
+    ensures { λ r. ⌜ InLabel r ⌝ }
+{
+    if x == 46 {
+        if n == 0 {
+            return LabelStep::Bad;
+        }
+        return LabelStep::Length(0);
+    }
+    if 63 <= n {
+        return LabelStep::Bad;
+    }
+    LabelStep::Length(n + 1)
+}
+
+// Whether each label has 1 to 63 octets.
+fn has_good_labels(s: &[u8]) -> bool
+    ensures { λ r. ⌜ r ≡ all (sized 1 63) (parts (now (s .entry))) ⌝ }
+{
+    let mut n = 0;
+    let mut i = 0;
+    while i < s.len() {
+        let LabelStep::Length(next) = label_step(n, s[i]) else {
+            return false;
+        };
+        n = next;
+        i += 1;
+    }
+    1 <= n
+}
+
+pub fn is_dns_name(s: &[u8]) -> bool
+    ensures { λ r. ⌜ r ≡ isDnsName (now (s .entry)) ⌝ }
+{
+    if !is_sized(s, 1, 253) {
+        return false;
+    }
+    if !is_printable(s) {
+        return false;
+    }
+    has_good_labels(s)
+}
+
+fn is_plain_name(s: &[u8], room: usize) -> bool
+    ensures { λ r. ⌜ r ≡ isPlainName room (now (s .entry)) ⌝ }
+{
+    if !is_sized(s, 1, room) {
+        return false;
+    }
+    if !is_printable(s) {
+        return false;
+    }
+    lacks(s, 46)
+}
+
+pub fn is_netbios_name(s: &[u8]) -> bool
+    ensures { λ r. ⌜ r ≡ isNetbiosName (now (s .entry)) ⌝ }
+{
+    is_plain_name(s, 15)
+}
+
+pub fn is_site_name(s: &[u8]) -> bool
+    ensures { λ r. ⌜ r ≡ isSiteName (now (s .entry)) ⌝ }
+{
+    is_plain_name(s, 63)
+}
+
+pub fn is_account_name(s: &[u8]) -> bool
+    ensures { λ r. ⌜ r ≡ isAccountName (now (s .entry)) ⌝ }
+{
+    if !is_sized(s, 1, 63) {
+        return false;
+    }
+    if !is_utf8(s) {
+        return false;
+    }
+    lacks(s, 0)
+}
+
+pub fn is_sid(s: &[u8]) -> bool
+    ensures { λ r. ⌜ r ≡ isSid (now (s .entry)) ⌝ }
+{
+    if s.len() < 8 {
+        return false;
+    }
+    if s[0] != 1 {
+        return false;
+    }
+    let count = wide(s[1]) as usize;
+    if 15 < count {
+        return false;
+    }
+    s.len() == 8 + 4 * count
+}
