@@ -9,7 +9,7 @@ use lib.ListN.{length, getD}
 use Rattle.octets.specs.Lists.{cut}
 use Rattle.octets.specs.Number.{big}
 
--- an element: its tag, and where its contents start and end
+-- an element: its tag, where its contents start, and where what follows it does
 pub record Element : Type 0 where
   pub tag : ℕ
   pub start : ℕ
@@ -75,7 +75,7 @@ module _ (and : List ℕ → ℕ → ℕ → Option (List Found)) where
   unfoldable pub one : List ℕ → Element → Option (List Found)
   one s e = elim (eqb (e .tag) 0xA3) [ true ↦ equality s (e .start) (e .next) | false ↦ when (eqb (e .tag) 0xA0) (and s (e .start) (e .next)) ]
 
-  -- filters that fill the stretch from `at` to `end`, the last at least; k bounds how many there are
+  -- filters that fill the stretch from `at` to `end`, one at least; k bounds how many there are
   unfoldable pub siblings : ℕ → List ℕ → ℕ → ℕ → Option (List Found)
   siblings zero s at end = none
   siblings (suc k) s at end =

@@ -1,14 +1,13 @@
 -- Document 01, "Choosing the answer": what is looked up in the table. Found or nothing; a record is never taken for a missing one.
-use mathlib.Core.Bool.{Bool, true, false, _&&_}
+use mathlib.Core.Bool.{Bool, _&&_}
 use mathlib.Core.List.{List, [], _∷_}
 use mathlib.Core.Option.{Option, none, some}
-use Prim.Native.Nat.{ℕ, _-_, _/_, _^_}
-use lib.Dec.{eqb}
+use Prim.Native.Nat.{ℕ}
 use Rattle.octets.specs.Lists.{first, holds}
-use Rattle.octets.specs.Number.{big}
 use Rattle.octets.specs.Text.{same, sameFolded}
 use Rattle.table.specs.declared.ContextNumber.{ContextNumber}
 use Rattle.table.specs.declared.SiteNumber.{SiteNumber}
+use Rattle.table.specs.Address.{sharePrefix}
 use Rattle.table.specs.Records.{Context, Account, Site, Subnet, sameContext, sameSite}
 use Rattle.table.specs.Table.{Table}
 use Rattle.table.specs.Whole.{sameAccountName}
@@ -27,7 +26,7 @@ isNamedBy asked c = sameFolded (c .dns) asked
 unfoldable pub contextByDnsName : Table → List ℕ → Option Context
 contextByDnsName t asked = first (isNamedBy asked) (contextsSearched t)
 
--- a context without SID is held by no SID
+-- a context without SID holds none
 unfoldable pub holdsSid : List ℕ → Context → Bool
 holdsSid sid c = holds (λ s. same s sid) (c .sid)
 
@@ -47,15 +46,9 @@ accountByName t n name = first (λ a. sameContext (a .context) n && sameAccountN
 unfoldable pub siteByNumber : Table → SiteNumber → Option Site
 siteByNumber t n = first (λ s. sameSite (s .number) n) (t .sites)
 
--- an address of four octets as the number that prefixes are taken of
-unfoldable pub addressNumber : List ℕ → ℕ
-addressNumber = big
-
--- a subnet holds an address: the bits of its prefix agree
-unfoldable pub inSubnet : List ℕ → Subnet → Bool
-inSubnet client n =
-    let rest = 2 ^ (32 - n .prefix) in
-    eqb (addressNumber client / rest) (addressNumber (n .address) / rest)
+-- the subnet that decides: the first in table order that holds the client's address
+unfoldable pub subnetFor : Table → List ℕ → Option Subnet
+subnetFor t client = first (λ n. sharePrefix (n .prefix) client (n .address)) (t .subnets)
 
 -- the site of a number that may be none
 abbrev pub siteIfAny : Table → Option SiteNumber → Option Site
@@ -66,11 +59,11 @@ abbrev pub siteOfSubnet : Table → Option Subnet → Option Site
 siteOfSubnet t none = none
 siteOfSubnet t (some n) = siteIfAny t (n .site)
 
--- document 01's client site s: the only site, or that of the first subnet in table order that holds the address
+-- document 01's client site s: the only site, or that of the subnet that decides
 abbrev pub siteFor : Table → List ℕ → List Site → Option Site
 siteFor t client [] = none
 siteFor t client (s ∷ []) = some s
-siteFor t client (s ∷ r ∷ rest) = siteOfSubnet t (first (inSubnet client) (t .subnets))
+siteFor t client (s ∷ r ∷ rest) = siteOfSubnet t (subnetFor t client)
 
 unfoldable pub clientSite : Table → List ℕ → Option Site
 clientSite t client = siteFor t client (t .sites)

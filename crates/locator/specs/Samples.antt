@@ -29,6 +29,7 @@ use Rattle.reader.specs.Name as reading
 use Rattle.reader.specs.Reader.{Fields, nt40, response, ex, Named, opcodeIn, numberAt, tokensAt, addressAt, hasNextSite, lastAt, readEx, readIn}
 use Rattle.reader.specs.Reader as reader
 use Rattle.reply.specs.Reply.{text16, ending, opening, nt40Octets, responseHead, responseOctets, exHead, exOctets}
+use Rattle.table.specs.Address.{addressNumber, isPrefixOnly, sharePrefix}
 use Rattle.table.specs.Check.{grown, checkOf, goodCheck}
 use Rattle.table.specs.Field.{zeros, textField}
 use Rattle.table.specs.Judgement.{goodLength, tableIn}
@@ -41,7 +42,7 @@ use Rattle.locator.specs.declared.Answer.the-variants as answer
 use Rattle.locator.specs.Answer.{answerTo, answerAs, octetsWritten, numberOf, lengthOf, wrongUser, replyTo}
 use Rattle.locator.specs.Answer as answers
 use Rattle.locator.specs.Choose.{mayLogOn, isKnown, userUnknown, formOf, isHeldBack, opcodeOf, namesApplication, exFlags, responseFlags, nextSite, replyFor}
-use Rattle.locator.specs.Find.{contextsSearched, contextByGuid, isNamedBy, contextByDnsName, holdsSid, contextBySid, contextByNumber, defaultContext, accountByName, siteByNumber, addressNumber, inSubnet, clientSite}
+use Rattle.locator.specs.Find.{contextsSearched, contextByGuid, isNamedBy, contextByDnsName, holdsSid, contextBySid, contextByNumber, defaultContext, accountByName, siteByNumber, subnetFor, clientSite}
 use Rattle.locator.specs.Judge.{contextUsed, contextIn}
 
 -- the base table
@@ -213,5 +214,5 @@ samples =
     ∷ []
 
 pub samples-hold : map (λ r. r .got) samples ≡ map (λ r. r .due) samples
-unfolding samples checked block example corp CORP DC1 dc1 HQ ann guid ipv4 image filter version six client pings summary refusal P1 asks named elementAt equality one siblings andOf clausesOf isNamed strange twice requestOf requestIn wrongValue versionAsked pingIn lengthOctets element pointer label labelsAt nameAt namesAt lookAt walkFrom walk parts labels joined all any first keep apart pieces isDnsName isPlainName isAccountName little big littleOctets bigOctets has isSid same lower pointOctets pointsOctets utf16 lead follow pointsFrom isUtf8 octetsAt fixedAt reading.nameFrom reading.nameAt reader.namesAt opcodeIn numberAt tokensAt addressAt hasNextSite lastAt readEx text16 ending opening nt40Octets responseHead responseOctets exHead exOctets grown checkOf goodCheck zeros textField goodLength tableIn serverLayout forestLayout contextLayout accountLayout siteLayout subnetLayout bodyLayout blockLayout layoutsFrom serverOf contextOf accountOf siteOf subnetOf blocksOf bodies recordsOf tableOf sameAccountName contextsApart accountsApart sitesApart hasContext hasSite refersRightly goodWhole answerTo wrongUser replyTo mayLogOn isKnown userUnknown formOf isHeldBack opcodeOf namesApplication exFlags responseFlags nextSite replyFor contextsSearched contextByGuid isNamedBy contextByDnsName holdsSid contextBySid contextByNumber defaultContext accountByName siteByNumber addressNumber inSubnet clientSite contextUsed contextIn flatMap
+unfolding samples checked block example corp CORP DC1 dc1 HQ ann guid ipv4 image filter version six client pings summary refusal P1 asks named elementAt equality one siblings andOf clausesOf isNamed strange twice requestOf requestIn wrongValue versionAsked pingIn lengthOctets element pointer label labelsAt nameAt namesAt lookAt walkFrom walk parts labels joined all any first keep apart pieces isDnsName isPlainName isAccountName little big littleOctets bigOctets has isSid same lower pointOctets pointsOctets utf16 lead follow pointsFrom isUtf8 octetsAt fixedAt reading.nameFrom reading.nameAt reader.namesAt opcodeIn numberAt tokensAt addressAt hasNextSite lastAt readEx text16 ending opening nt40Octets responseHead responseOctets exHead exOctets grown checkOf goodCheck zeros textField goodLength tableIn serverLayout forestLayout contextLayout accountLayout siteLayout subnetLayout bodyLayout blockLayout layoutsFrom serverOf contextOf accountOf siteOf subnetOf blocksOf bodies recordsOf tableOf sameAccountName contextsApart accountsApart sitesApart hasContext hasSite refersRightly goodWhole answerTo wrongUser replyTo mayLogOn isKnown userUnknown formOf isHeldBack opcodeOf namesApplication exFlags responseFlags nextSite replyFor contextsSearched contextByGuid isNamedBy contextByDnsName holdsSid contextBySid contextByNumber defaultContext accountByName siteByNumber addressNumber isPrefixOnly sharePrefix subnetFor clientSite contextUsed contextIn flatMap
 samples-hold = refl

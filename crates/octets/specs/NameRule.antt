@@ -6,14 +6,14 @@ use lib.Dec.{eqb}
 use lib.ListN.{length}
 use Rattle.octets.specs.Label.{parts}
 use Rattle.octets.specs.Lists.{all}
-use Rattle.octets.specs.Text.{within}
+use Rattle.octets.specs.Text.{within, isPrintable}
 use Rattle.octets.specs.Utf8.{isUtf8}
 
 abbrev pub sized : ℕ → ℕ → List ℕ → Bool
 sized low high s = within low high (length s)
 
 abbrev pub printable : List ℕ → Bool
-printable = all (within 0x21 0x7E)
+printable = all isPrintable
 
 abbrev pub without : ℕ → List ℕ → Bool
 without x = all (λ y. not (eqb y x))

@@ -28,5 +28,8 @@ sameFolded xs ys = same (map lower xs) (map lower ys)
 abbrev pub within : ℕ → ℕ → ℕ → Bool
 within low high n = leb low n && leb n high
 
+abbrev pub isPrintable : ℕ → Bool
+isPrintable = within 0x21 0x7E
+
 abbrev pub allZero : List ℕ → Bool
 allZero = all (λ x. eqb x 0)

@@ -1,5 +1,6 @@
 // Octets and texts, which every other part of document 01 is written in.
 pub mod name_rule;
 pub mod number;
+pub mod part;
 pub mod text;
 pub mod utf8;

@@ -1,15 +1,16 @@
 -- Document 01, "The table image": the layout of each kind of block, octet for octet. Every octet not named is zero.
 use mathlib.Core.Bool.{Bool, true, false, cond, not, _&&_, _||_}
 use mathlib.Core.List.{List, [], _∷_}
-use Prim.Native.Nat.{ℕ, zero, suc, _+_, _-_, _%_, _^_}
+use Prim.Native.Nat.{ℕ, _+_}
 use lib.Dec.{eqb, leb, ltb}
 use lib.ListN.{length, getD}
 use Rattle.octets.specs.Lists.{all, cut, pieces}
 use Rattle.octets.specs.NameRule.{isDnsName, isNetbiosName, isSiteName, isAccountName}
-use Rattle.octets.specs.Number.{big, u16At, u32At}
-use Rattle.octets.specs.Sid.{isSid, sidLength}
+use Rattle.octets.specs.Number.{u16At, u32At}
+use Rattle.octets.specs.Sid.{isSid}
 use Rattle.octets.specs.Text.{allZero}
 use Rattle.table.specs.declared.BlockPlace.{BlockPlace}
+use Rattle.table.specs.Address.{isPrefixOnly}
 use Rattle.table.specs.Field.{zeros, textField}
 use Rattle.table.specs.Records.{sidAt}
 
@@ -72,13 +73,9 @@ accountLayout r = given (u16At r 0) && zeros r 2 4 && textField isAccountName r 
 unfoldable pub siteLayout : List ℕ → Bool
 siteLayout r = given (u16At r 0) && textField isSiteName r 2 63 && zeros r 68 72
 
--- the address bits past a prefix are zero
-abbrev pub prefixFits : List ℕ → ℕ → Bool
-prefixFits address prefix = eqb (big address % 2 ^ (32 - prefix)) 0
-
 -- kind 6
 unfoldable pub subnetLayout : List ℕ → Bool
-subnetLayout r = leb (getD r 4 0) 32 && prefixFits (cut r 0 4) (getD r 4 0) && eqb (getD r 5 0) 1 && zeros r 8 12
+subnetLayout r = leb (getD r 4 0) 32 && isPrefixOnly (cut r 0 4) (getD r 4 0) && eqb (getD r 5 0) 1 && zeros r 8 12
 
 -- the body by its kind: kind 1 at block 0, kind 2 at block 1, and neither elsewhere
 unfoldable pub bodyLayout : ℕ → ℕ → List ℕ → Bool

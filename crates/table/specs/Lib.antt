@@ -1,4 +1,5 @@
 pub mod Check
+pub mod Address
 pub mod Field
 pub mod Records
 pub mod Layout

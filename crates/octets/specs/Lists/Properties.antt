@@ -2,11 +2,13 @@
 use mathlib.Core.Path.{_≡_, refl, sym, ap, _∙_}
 use mathlib.Core.Bool.{Bool, true, false, _&&_}
 use mathlib.Core.List.{List, [], _∷_, _++_}
-use Prim.Native.Nat.{ℕ, zero, suc, _+_, _≤_, _<_}
+use Prim.Native.Nat.{ℕ, zero, suc, _+_, _-_, _*_, _≤_, _<_}
+use native.Mathlib.Nat.{mul-zero, mul-suc, sub-zero, zero-sub, suc-sub-suc, add-comm, not-suc-le-zero, le-of-suc-le-suc}
+use native.Mathlib.Omega.{arith}
 use native.Mathlib.Numerals.{add-one}
-use lib.ListN.{length, getD, take, drop, drop-of-length-le}
-use lib.Seq.{drop-cons}
-use Rattle.octets.specs.Lists.{all, cut}
+use lib.ListN.{length, getD, take, drop, length-take, length-drop, drop-of-length-le}
+use lib.Seq.{drop-cons, getD-take, getD-drop, take-take, drop-drop, take-nil, drop-nil, take-all}
+use Rattle.octets.specs.Lists.{all, cut, pieces}
 
 module _ {A : Type 0} where
   module _ (p : A → Bool) (s : List A) (i : ℕ) (d : A) (h : i < length s) where
@@ -30,3 +32,40 @@ module _ {A : Type 0} where
   -- a stretch by its first element
   pub cut-cons : (s : List A) (at n : ℕ) (d : A) → at < length s → cut s at (suc n) ≡ getD s at d ∷ cut s (at + 1) n
   cut-cons s at n d h = rw (add-one, drop-cons s at d)
+
+  drop-take : (m n : ℕ) (s : List A) → drop m (take n s) ≡ take (n - m) (drop m s)
+  drop-take zero n s = rw (sub-zero n)
+  drop-take (suc m) zero s = rw (zero-sub (suc m))
+  drop-take (suc m) (suc n) [] = sym (take-nil (suc n - suc m))
+  drop-take (suc m) (suc n) (x ∷ s) = drop-take m n s ∙ ap (λ k. take k (drop m s)) (sym (suc-sub-suc n m))
+
+  pub cut-length : (s : List A) (at n : ℕ) → at + n ≤ length s → length (cut s at n) ≡ n
+  cut-length s at n h = simp (length-take, length-drop) (omega arith)
+
+  pub getD-cut : (s : List A) (at n i : ℕ) (d : A) → i < n → getD (cut s at n) i d ≡ getD s (at + i) d
+  getD-cut s at n i d h = rw (getD-take, getD-drop)
+
+  -- a stretch of a stretch
+  pub cut-cut : (s : List A) (at n from m : ℕ) → from + m ≤ n → cut (cut s at n) from m ≡ cut s (at + from) m
+  cut-cut s at n from m h =
+      ap (take m) (drop-take from n (drop at s)) ∙ take-take m (n - from) (drop from (drop at s)) (omega arith) ∙ ap (take m) (drop-drop from at s)
+
+  -- past the end there is nothing, and up to the end everything that is left
+  pub cut-past : (s : List A) (at n : ℕ) → length s ≤ at → cut s at n ≡ []
+  cut-past s at n h = rw (drop-of-length-le s) (take-nil n)
+
+  pub cut-rest : (s : List A) (at n : ℕ) → length s - at ≤ n → cut s at n ≡ drop at s
+  cut-rest s at n h = take-all n (drop at s) (simp length-drop h)
+
+  -- pieces by their number: each is a stretch
+  pub length-pieces : (n w : ℕ) (s : List A) → length (pieces n w s) ≡ n
+  unfolding pieces
+  length-pieces zero w s = refl
+  length-pieces (suc n) w s = ap suc (length-pieces n w (drop w s))
+
+  pub getD-pieces : (n w : ℕ) (s : List A) (i : ℕ) → i < n → getD (pieces n w s) i [] ≡ cut s (w * i) w
+  unfolding pieces
+  getD-pieces zero w s i h = absurd (not-suc-le-zero h)
+  getD-pieces (suc n) w s zero h = rw (mul-zero w)
+  getD-pieces (suc n) w s (suc i) h =
+      getD-pieces n w (drop w s) i (le-of-suc-le-suc h) ∙ ap (take w) (drop-drop (w * i) w s ∙ ap (λ k. drop k s) (add-comm w (w * i) ∙ sym (mul-suc w i)))
