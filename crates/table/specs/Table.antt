@@ -1,14 +1,15 @@
 -- The table that an image holds: its server, forest, contexts, accounts, sites and subnets, in table order.
 use mathlib.Core.Bool.{Bool, not}
 use mathlib.Core.List.{List, [], _∷_, map, flatMap}
-use Prim.Native.Nat.{ℕ, _/_}
+use Prim.Native.Nat.{ℕ, _*_, _/_}
 use lib.Dec.{eqb}
 use lib.ListN.{length, getD}
-use Rattle.octets.specs.Lists.{keep, pieces}
+use Rattle.octets.specs.Lists.{cut, keep, pieces}
 use Rattle.octets.specs.Text.{allZero}
 use Rattle.table.specs.Field.{textAt}
 use Rattle.table.specs.Layout.{body}
 use Rattle.table.specs.Records.{Server, Context, Account, Site, Subnet, serverOf, contextOf, accountOf, siteOf, subnetOf}
+pub mod Properties
 
 pub record Table : Type 0 where
   pub server : Server
@@ -17,6 +18,10 @@ pub record Table : Type 0 where
   pub accounts : List Account
   pub sites : List Site
   pub subnets : List Subnet
+
+-- the block at a place
+abbrev pub blockAt : List ℕ → ℕ → List ℕ
+blockAt image place = cut image (512 * place) 512
 
 -- the blocks of an image
 unfoldable pub blocksOf : List ℕ → List (List ℕ)

@@ -1,6 +1,8 @@
 // The table image: document 01, "The table image".
 use answers::Refusal;
 
+pub mod block;
+
 // Naming-context numbers, site numbers and block places are three countings, and none is used for another.
 pub struct ContextNumber(pub u16);
 

@@ -1,14 +1,15 @@
 -- Laws of tests, stretches and pieces of a list.
 use mathlib.Core.Path.{_≡_, refl, sym, ap, _∙_}
-use mathlib.Core.Bool.{Bool, true, false, _&&_}
+use mathlib.Core.Bool.{Bool, true, false, _&&_, _||_, and-assoc, or-assoc}
 use mathlib.Core.List.{List, [], _∷_, _++_}
+use mathlib.Core.Option.{Option, none, some}
 use Prim.Native.Nat.{ℕ, zero, suc, _+_, _-_, _*_, _≤_, _<_}
 use native.Mathlib.Nat.{mul-zero, mul-suc, sub-zero, zero-sub, suc-sub-suc, add-comm, not-suc-le-zero, le-of-suc-le-suc}
 use native.Mathlib.Omega.{arith}
 use native.Mathlib.Numerals.{add-one}
 use lib.ListN.{length, getD, take, drop, length-take, length-drop, drop-of-length-le}
 use lib.Seq.{drop-cons, getD-take, getD-drop, take-take, drop-drop, take-nil, drop-nil, take-all}
-use Rattle.octets.specs.Lists.{all, cut, pieces}
+use Rattle.octets.specs.Lists.{all, any, first, firstOr, keep, keepIf, cut, pieces}
 
 module _ {A : Type 0} where
   module _ (p : A → Bool) (s : List A) (i : ℕ) (d : A) (h : i < length s) where
@@ -69,3 +70,36 @@ module _ {A : Type 0} where
   getD-pieces (suc n) w s zero h = rw (mul-zero w)
   getD-pieces (suc n) w s (suc i) h =
       getD-pieces n w (drop w s) i (le-of-suc-le-suc h) ∙ ap (take w) (drop-drop (w * i) w s ∙ ap (λ k. drop k s) (add-comm w (w * i) ∙ sym (mul-suc w i)))
+
+  -- tests and searches over two lists, one behind the other
+  pub all-append : (p : A → Bool) (s t : List A) → all p (s ++ t) ≡ (all p s && all p t)
+  unfolding all
+  all-append p [] t = refl
+  all-append p (x ∷ s) t = rw (all-append p s t) (sym (and-assoc (p x) (all p s) (all p t)))
+
+  pub any-append : (p : A → Bool) (s t : List A) → any p (s ++ t) ≡ (any p s || any p t)
+  unfolding any
+  any-append p [] t = refl
+  any-append p (x ∷ s) t = rw (any-append p s t) (sym (or-assoc (p x) (any p s) (any p t)))
+
+  pub keep-append : (p : A → Bool) (s t : List A) → keep p (s ++ t) ≡ keep p s ++ keep p t
+  unfolding keep
+  keep-append p [] t = refl
+  keep-append p (x ∷ s) t = go (p x) (keep-append p s t)
+    where
+      go : (b : Bool) → keep p (s ++ t) ≡ keep p s ++ keep p t → keepIf b x (keep p (s ++ t)) ≡ keepIf b x (keep p s) ++ keep p t
+      go true e = ap (λ (l : List A). x ∷ l) e
+      go false e = e
+
+  abbrev pub orElse : Option A → Option A → Option A
+  orElse none o = o
+  orElse (some x) o = some x
+
+  pub first-append : (p : A → Bool) (s t : List A) → first p (s ++ t) ≡ orElse (first p s) (first p t)
+  unfolding first
+  first-append p [] t = refl
+  first-append p (x ∷ s) t = go (p x) (first-append p s t)
+    where
+      go : (b : Bool) → first p (s ++ t) ≡ orElse (first p s) (first p t) → firstOr b x (first p (s ++ t)) ≡ orElse (firstOr b x (first p s)) (first p t)
+      go true e = refl
+      go false e = e

@@ -1,0 +1,71 @@
+-- Laws of an image's blocks: by their places, and what each adds to the table's lists.
+use mathlib.Core.Path.{_≡_, refl, sym, ap, _∙_}
+use mathlib.Core.Bool.{Bool, true, false, not}
+use mathlib.Core.List.{List, [], _∷_, _++_, map, flatMap}
+use Prim.Native.Nat.{ℕ, zero, suc, _+_, _*_, _/_, _≤_, _<_}
+use native.Mathlib.Numerals.{add-one}
+use native.Mathlib.Omega.{arith}
+use lib.Dec.{eqb}
+use lib.ListN.{length, getD, drop, drop-of-length-le}
+use lib.Seq.{drop-cons}
+use Rattle.octets.specs.Lists.{keep, keepIf, pieces}
+use Rattle.octets.specs.Lists.Properties.{length-pieces, getD-pieces, keep-append, cut-length}
+use Rattle.octets.specs.Text.{allZero}
+use Rattle.table.specs.Layout.{body}
+use Rattle.table.specs.Table.{blockAt, blocksOf, bodies, recordsOf}
+
+pub length-blocks : (image : List ℕ) → length (blocksOf image) ≡ length image / 512
+unfolding blocksOf
+length-blocks image = length-pieces (length image / 512) 512 image
+
+-- what is left at a place: the block there, and what is left behind it
+module _ (image : List ℕ) (i : ℕ) (h : i < length image / 512) where
+  pub block-there : getD (blocksOf image) i [] ≡ blockAt image i
+  unfolding blocksOf
+  block-there = getD-pieces (length image / 512) 512 image i h
+
+  pub blocks-step : drop i (blocksOf image) ≡ blockAt image i ∷ drop (i + 1) (blocksOf image)
+  blocks-step =
+      let k : i < length (blocksOf image) = rw (length-blocks image) h in
+      rw (add-one, drop-cons (blocksOf image) i [], block-there)
+
+  pub block-length : length (blockAt image i) ≡ 512
+  block-length = cut-length image (512 * i) 512 (omega arith)
+
+pub blocks-end : (image : List ℕ) (i : ℕ) → length image / 512 ≤ i → drop i (blocksOf image) ≡ []
+blocks-end image i h =
+    let k : length (blocksOf image) ≤ i = rw (length-blocks image) h in
+    drop-of-length-le (blocksOf image) k
+
+-- the body that a block adds to those of a kind, and the used records that it adds
+abbrev pub bodyIf : Bool → List ℕ → List (List ℕ)
+bodyIf true block = body block ∷ []
+bodyIf false block = []
+
+pub bodies-cons : (kind : ℕ) (block : List ℕ) (blocks : List (List ℕ)) → bodies kind (block ∷ blocks) ≡ bodyIf (eqb (getD block 0 0) kind) block ++ bodies kind blocks
+unfolding bodies keep
+bodies-cons kind block blocks = go (eqb (getD block 0 0) kind)
+  where
+    go : (b : Bool) → map body (keepIf b block (keep (λ c. eqb (getD c 0 0) kind) blocks)) ≡ bodyIf b block ++ map body (keep (λ c. eqb (getD c 0 0) kind) blocks)
+    go true = refl
+    go false = refl
+
+-- the used records of a body
+abbrev pub used : ℕ → ℕ → List ℕ → List (List ℕ)
+used n w b = keep (λ r. not (allZero r)) (pieces n w b)
+
+abbrev pub usedIf : Bool → ℕ → ℕ → List ℕ → List (List ℕ)
+usedIf true n w block = used n w (body block)
+usedIf false n w block = []
+
+pub records-cons : (kind n w : ℕ) (block : List ℕ) (blocks : List (List ℕ))
+    → recordsOf kind n w (block ∷ blocks) ≡ usedIf (eqb (getD block 0 0) kind) n w block ++ recordsOf kind n w blocks
+unfolding recordsOf flatMap bodies keep
+records-cons kind n w block blocks = go (eqb (getD block 0 0) kind)
+  where
+    rest : List (List ℕ)
+    rest = map body (keep (λ c. eqb (getD c 0 0) kind) blocks)
+
+    go : (b : Bool) → keep (λ r. not (allZero r)) (flatMap (pieces n w) (map body (keepIf b block (keep (λ c. eqb (getD c 0 0) kind) blocks)))) ≡ usedIf b n w block ++ keep (λ r. not (allZero r)) (flatMap (pieces n w) rest)
+    go true = keep-append (λ r. not (allZero r)) (pieces n w (body block)) (flatMap (pieces n w) rest)
+    go false = refl
