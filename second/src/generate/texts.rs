@@ -1,0 +1,108 @@
+//! Texts that keep or break each rule on names, one rule at a time.
+
+/// Octets around the ends of 21h to 7Eh, and far outside.
+const EDGE_OCTETS: [u8; 8] = [0x00, 0x1F, 0x20, 0x21, 0x7E, 0x7F, 0x80, 0xFF];
+
+/// A good DNS name of a given length, up to 255.
+pub fn dns_name_of_length(length: usize) -> Vec<u8> {
+    let mut name = Vec::new();
+    while name.len() < length {
+        let left = length - name.len();
+        // A dot must not be the last octet, so a label gives way by one where only it would be left.
+        let label = if left == 64 { 62 } else { left.min(63) };
+        name.extend(vec![b'n'; label]);
+        if name.len() < length {
+            name.push(b'.');
+        }
+    }
+    name
+}
+
+fn with_edge_octets(text: &[u8]) -> Vec<Vec<u8>> {
+    let mut texts = Vec::new();
+    for place in [0, text.len() / 2, text.len() - 1] {
+        for octet in EDGE_OCTETS {
+            let mut edge = text.to_vec();
+            edge[place] = octet;
+            texts.push(edge);
+        }
+    }
+    texts
+}
+
+/// For a DNS name of 253 octets of room.
+pub fn dns_texts() -> Vec<Vec<u8>> {
+    let mut texts: Vec<Vec<u8>> = ["", ".", "a", "a.", ".a", "a..b", "a.b", "..", "a.b.", "a-_!~.b"]
+        .iter()
+        .map(|text| text.as_bytes().to_vec())
+        .collect();
+    texts.extend([63, 64, 65].map(|length| vec![b'x'; length]));
+    texts.push([&[b'x'; 63][..], b".y"].concat());
+    texts.push([&b"y."[..], &[b'x'; 64]].concat());
+    texts.push([&[b'x'; 64][..], b".y"].concat());
+    texts.extend([252, 253, 254, 255].map(dns_name_of_length));
+    texts.extend(with_edge_octets(b"abcde"));
+    texts
+}
+
+/// For a NetBIOS or site name with this much room.
+pub fn label_texts(room: usize) -> Vec<Vec<u8>> {
+    let mut texts = vec![Vec::new(), b"A".to_vec(), b".".to_vec(), b"A.B".to_vec(), b"AB.".to_vec()];
+    texts.extend([room - 1, room, room + 1, 255].map(|length| vec![b'Z'; length]));
+    texts.extend(with_edge_octets(b"ABCDE"));
+    texts
+}
+
+/// Sequences that RFC 3629 allows, with those next to its limits.
+const GOOD_UTF8: [&[u8]; 14] = [
+    b"\x01",
+    b"\x7F",
+    b"\xC2\x80",
+    b"\xDF\xBF",
+    b"\xE0\xA0\x80",
+    b"\xE1\x80\x80",
+    b"\xED\x9F\xBF",
+    b"\xEE\x80\x80",
+    b"\xEF\xBF\xBF",
+    b"\xF0\x90\x80\x80",
+    b"\xF1\x80\x80\x80",
+    b"\xF3\xBF\xBF\xBF",
+    b"\xF4\x8F\xBF\xBF",
+    b"a\xC3\x98\xE2\x82\xAC\xF0\x9F\x98\x80.z",
+];
+
+/// Sequences that RFC 3629 does not allow: long spellings, surrogates, past 10FFFFh, tails missing or alone.
+const BAD_UTF8: [&[u8]; 21] = [
+    b"\x80",
+    b"\xBF",
+    b"\xC0\x80",
+    b"\xC1\xBF",
+    b"\xC2",
+    b"\xC2\x7F",
+    b"\xC2\xC0",
+    b"\xE0\x9F\xBF",
+    b"\xE0\xA0",
+    b"\xE1\x80\x7F",
+    b"\xE1\x80\xC0",
+    b"\xED\xA0\x80",
+    b"\xED\xBF\xBF",
+    b"\xF0\x8F\xBF\xBF",
+    b"\xF0\x90\x80",
+    b"\xF1\x80\x80\x41",
+    b"\xF4\x90\x80\x80",
+    b"\xF5\x80\x80\x80",
+    b"\xFE",
+    b"\xFF",
+    b"ok\xC3",
+];
+
+/// For an account or a User clause. An empty text is among them, good for the clause alone.
+pub fn account_texts() -> Vec<Vec<u8>> {
+    let mut texts: Vec<Vec<u8>> = GOOD_UTF8.iter().chain(&BAD_UTF8).map(|text| text.to_vec()).collect();
+    texts.extend([Vec::new(), vec![0], b"a\0b".to_vec(), b"ab\0".to_vec(), b"a b.c".to_vec()]);
+    texts.extend([62, 63, 64, 255].map(|length| vec![b'u'; length]));
+    // A sequence that the limit of 63 octets cuts, and one that just fits.
+    texts.push([&[b'u'; 61][..], b"\xC3\x98"].concat());
+    texts.push([&[b'u'; 62][..], b"\xC3\x98"].concat());
+    texts
+}
