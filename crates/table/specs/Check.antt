@@ -5,10 +5,8 @@ use Prim.Native.Nat.{ℕ, _+_, _%_}
 use lib.Dec.{eqb}
 use lib.ListN.{take}
 use Rattle.octets.specs.Number.{u16At}
-
-pub record Check : Type 0 where
-  pub a : ℕ
-  pub b : ℕ
+use Rattle.table.specs.declared.check.Check.{Check}
+pub mod Properties
 
 -- a grows by an octet, then b by a, both modulo 65,536
 abbrev pub grow : Check → ℕ → Check

@@ -1,7 +1,11 @@
 // The table image: document 01, "The table image".
 use answers::Refusal;
 
+pub mod address;
 pub mod block;
+pub mod check;
+pub mod field;
+pub mod layout;
 
 // Naming-context numbers, site numbers and block places are three countings, and none is used for another.
 pub struct ContextNumber(pub u16);

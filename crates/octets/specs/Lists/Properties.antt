@@ -103,3 +103,22 @@ module _ {A : Type 0} where
       go : (b : Bool) → first p (s ++ t) ≡ orElse (first p s) (first p t) → firstOr b x (first p (s ++ t)) ≡ orElse (firstOr b x (first p s)) (first p t)
       go true e = refl
       go false e = e
+
+-- tests of pieces: over what is left at a piece
+module _ {A : Type 0} where
+  module _ (p : List A → Bool) (n w : ℕ) (s : List A) (i : ℕ) where
+    module _ (h : i < n) where
+      pub all-piece-fails : p (cut s (w * i) w) ≡ false → false ≡ all p (drop i (pieces n w s))
+      all-piece-fails e =
+          let k : i < length (pieces n w s) = rw length-pieces h in
+          all-fails p (pieces n w s) i [] k (ap p (getD-pieces n w s i h) ∙ e)
+
+      pub all-piece-next : p (cut s (w * i) w) ≡ true → all p (drop (i + 1) (pieces n w s)) ≡ all p (drop i (pieces n w s))
+      all-piece-next e =
+          let k : i < length (pieces n w s) = rw length-pieces h in
+          all-next p (pieces n w s) i [] k (ap p (getD-pieces n w s i h) ∙ e)
+
+    pub all-pieces-end : n ≤ i → true ≡ all p (drop i (pieces n w s))
+    all-pieces-end h =
+        let k : length (pieces n w s) ≤ i = rw length-pieces h in
+        all-end p (pieces n w s) i k

@@ -1,0 +1,78 @@
+use Rattle.table.specs.Table.Properties.{block-length, blocks-step, blocks-end}
+use Rattle.table.specs.Table.{blockAt, blocksOf}
+use Rattle.table.specs.Layout.Properties.{layouts-fail, layouts-next, layouts-end}
+use Rattle.table.specs.Layout.{blockLayout, blockPlace, layoutsFrom}
+use borrow.Author.Tests.{not-true, not-false}
+use borrow.Author.Needs.{needs}
+use lib.ListN.{length, drop}
+use native.Mathlib.Omega.{arith}
+use Prim.Native.Nat.{_+_, _-_, _/_, _≤_}
+use mathlib.Core.Path.{_≡_, refl, sym, ap, _∙_}
+use Rattle.table.proofs.layout.good_layouts.Statement.{statement}
+use Rattle.table.proofs.layout.good_layouts.Tie as tie
+
+abbrev Inv-loop : tie.InvT-loop
+Inv-loop image n i₀ i = (i ≤ length image / 512) × (layoutsFrom i (drop i (blocksOf image)) ≡ layoutsFrom 0 (blocksOf image))
+
+abbrev μ-loop : tie.MeasureT-loop
+μ-loop image n i₀ i = length image / 512 - i
+
+loop-holds : tie.Need-loop-holds Inv-loop μ-loop
+loop-holds c = (omega arith, refl)
+
+cast-t6 : tie.Need-cast-t6 Inv-loop μ-loop
+cast-t6 c = omega arith
+
+block-at-requires : tie.Need-block-at-requires Inv-loop μ-loop
+block-at-requires c κs = omega arith
+
+block-layout-requires : tie.Need-block-layout-requires Inv-loop μ-loop
+block-layout-requires c κs = ap length (c .block-at .ensures) ∙ block-length (c .before .before .before .before .args .image .now) (c .before .before .loop .i) (omega arith)
+
+returns : tie.Need-returns Inv-loop μ-loop
+returns c =
+    let s = c .before .before .before .before .before .before .args .image .now in
+    let l = c .before .before .before .before .loop in
+    layouts-fail (l .i) (blockAt s (l .i)) (drop (l .i + 1) (blocksOf s))
+    (ap (blockLayout (blockPlace (l .i))) (sym (c .before .before .block-at .ensures)) ∙ sym (c .before .block-layout .ensures) ∙ not-true _ (c .if1 .taken))
+    ∙ ap (layoutsFrom (l .i)) (sym (blocks-step s (l .i) (omega arith)))
+    ∙ l .inv .1
+
+add-i : tie.Need-add-i Inv-loop μ-loop
+add-i c = search needs
+
+loop-less : tie.Need-loop-less Inv-loop μ-loop
+loop-less c = search needs
+
+loop-again : tie.Need-loop-again Inv-loop μ-loop
+loop-again c =
+    let s = c .before .before .before .before .before .before .args .image .now in
+    let l = c .before .before .before .before .loop in (
+      omega arith,
+      layouts-next (l .i) (blockAt s (l .i)) (drop (l .i + 1) (blocksOf s))
+          (ap (blockLayout (blockPlace (l .i))) (sym (c .before .before .block-at .ensures)) ∙ sym (c .before .block-layout .ensures) ∙ not-false _ (c .if1 .left))
+          ∙ ap (layoutsFrom (l .i)) (sym (blocks-step s (l .i) (omega arith)))
+          ∙ l .inv .1,
+    )
+
+returns-2 : tie.Need-returns-2 Inv-loop μ-loop
+returns-2 c =
+    let s = c .before .before .before .args .image .now in
+    let l = c .before .loop in
+    layouts-end (l .i) ∙ ap (layoutsFrom (l .i)) (sym (blocks-end s (l .i) (omega arith))) ∙ l .inv .1
+
+pub good-layouts-spec : {M : Type 1} → statement M
+good-layouts-spec =
+    tie.close
+    (tie.spec
+    Inv-loop
+    μ-loop
+    loop-holds
+    cast-t6
+    block-at-requires
+    block-layout-requires
+    returns
+    add-i
+    loop-less
+    loop-again
+    returns-2)
