@@ -5,7 +5,7 @@ ghost use Rattle.table.specs.Address.{addressNumber, shareSize, isPrefix
 use octets::number::big_u32_at;
 
 // An address as the number that prefixes are taken of.
-pub fn address_number(address: &[u8]) -> u32
+fn address_number(address: &[u8]) -> u32
     requires { ⌜ length (now address) ≡ 4 ⌝ }
     ensures { λ r. ⌜ r ≡ addressNumber (now (address .entry)) ⌝ }
 {
@@ -13,7 +13,7 @@ pub fn address_number(address: &[u8]) -> u32
 }
 
 // How many addresses share a prefix.
-pub fn share_size(prefix: u8) -> u64
+fn share_size(prefix: u8) -> u64
     ensures { λ r. ⌜ r ≡ shareSize prefix ⌝ }
 {
     if 32 <= prefix {

@@ -22,12 +22,13 @@ use octets::number::wide;
 use octets::part::part;
 use octets::text::all_zero;
 
+// Twelve roles and four states, and no other bit of theirs.
 fn server_layout(b: &[u8]) -> bool
     requires { ⌜ length (now b) ≡ 504 ⌝ }
     ensures { λ r. ⌜ r ≡ serverLayout (now (b .entry)) ⌝ }
 {
-    (u32_at(b, 0) < 0x1000)
-        & (u32_at(b, 4) < 0x10)
+    (u32_at(b, 0) & 0xFFFFF000 == 0)
+        & (u32_at(b, 4) & 0xFFFFFFF0 == 0)
         & (u16_at(b, 12) != 0)
         & (u16_at(b, 14) != 0)
         & text_field(b, Rule::Netbios, 16, 15)
@@ -112,7 +113,7 @@ pub enum RecordKind {
     Subnet,
 }
 
-pub fn record_width(kind: RecordKind) -> usize
+fn record_width(kind: RecordKind) -> usize
     ensures { λ r. ⌜ r ≡ recordWidth kind ⌝ }
 {
     match kind {
@@ -122,7 +123,7 @@ pub fn record_width(kind: RecordKind) -> usize
     }
 }
 
-pub fn record_count(kind: RecordKind) -> usize
+fn record_count(kind: RecordKind) -> usize
     ensures { λ r. ⌜ r ≡ recordCount kind ⌝ }
 {
     match kind {

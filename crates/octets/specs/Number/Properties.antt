@@ -1,13 +1,30 @@
 -- Laws of numbers in octets.
 use mathlib.Core.Path.{_≡_, refl, sym, ap, _∙_}
+use mathlib.Core.Bool.{Bool, true, false}
 use mathlib.Core.List.{List, [], _∷_}
-use Prim.Native.Nat.{ℕ, zero, suc, _+_, _*_, _≤_, _<_}
-use native.Mathlib.Nat.{add-assoc}
+use Prim.Native.Nat.{ℕ, zero, suc, _+_, _-_, _*_, _/_, _%_, _^_, _≤_, _<_}
+use native.Mathlib.Nat.{zero-mul, mod-lt, div-eq-of-lt}
 use native.Mathlib.Omega.{arith}
+use lib.Bits.{bitAnd, and-high}
+use lib.Dec.{eqb, ltb}
 use lib.ListN.{length, getD}
+use lib.Pow.{pow-pos, split, shr-mod}
+use borrow.Author.Tests.{eq-eqb, ne-eqb, ltb-true, ltb-false}
 use Rattle.octets.specs.Lists.{cut}
 use Rattle.octets.specs.Lists.Properties.{cut-cons}
 use Rattle.octets.specs.Number.{little, big}
+
+-- a number has none of the j bits from k on exactly where it is below 2 ^ k
+pub no-high-bits : (x j k : ℕ) → x < 2 ^ (j + k) → eqb (bitAnd x (2 ^ (j + k) - 2 ^ k)) 0 ≡ ltb x (2 ^ k)
+no-high-bits x j k h = ap (λ (y : ℕ). eqb y 0) (and-high x j k ∙ ap (λ (q : ℕ). q * 2 ^ k) (shr-mod j k h)) ∙ go (ltb x (2 ^ k)) refl
+  where
+    go : (t : Bool) → ltb x (2 ^ k) ≡ t → eqb (x / 2 ^ k * 2 ^ k) 0 ≡ t
+    go true e = eq-eqb (x / 2 ^ k * 2 ^ k) 0 (ap (λ (q : ℕ). q * 2 ^ k) (div-eq-of-lt (ltb-true x (2 ^ k) e)) ∙ zero-mul (2 ^ k))
+    go false e =
+        let whole : x / 2 ^ k * 2 ^ k + x % 2 ^ k ≡ x = split x k in
+        let low : x % 2 ^ k < 2 ^ k = mod-lt x (pow-pos k) in
+        let large : 2 ^ k ≤ x = ltb-false x (2 ^ k) e in
+        ne-eqb (x / 2 ^ k * 2 ^ k) 0 (λ z. omega arith)
 
 -- a number by its first octet
 pub little-cons : (s : List ℕ) (at w : ℕ) → at < length s → little (cut s at (suc w)) ≡ getD s at 0 + 256 * little (cut s (at + 1) w)

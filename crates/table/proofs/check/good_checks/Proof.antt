@@ -1,5 +1,5 @@
 use Rattle.table.specs.Table.Properties.{block-length}
-use Rattle.table.specs.Table.{blocksOf}
+use Rattle.table.specs.Table.{blockAt, blocksOf}
 use Rattle.table.specs.Check.{goodCheck}
 use Rattle.octets.specs.Lists.Properties.{all-piece-fails, all-piece-next, all-pieces-end}
 use Rattle.octets.specs.Lists.{all}
@@ -27,13 +27,17 @@ block-at-requires c κs = omega arith
 good-check-requires : tie.Need-good-check-requires Inv-loop μ-loop
 good-check-requires c κs = ap length (c .block-at .ensures) ∙ block-length (c .before .before .before .before .args .image .now) (c .before .before .loop .i) (omega arith)
 
+-- what the block at i is judged to be
+judged : (c : tie.After-good-check Inv-loop μ-loop) → goodCheck (blockAt (c .before .before .before .before .before .args .image .now) (c .before .before .before .loop .i)) ≡ c .good-check .result
+judged c = ap goodCheck (sym (c .before .block-at .ensures)) ∙ sym (c .good-check .ensures)
+
 returns : tie.Need-returns Inv-loop μ-loop
 unfolding blocksOf
 returns c =
     let s = c .before .before .before .before .before .before .args .image .now in
     let l = c .before .before .before .before .loop in
     all-piece-fails goodCheck (length s / 512) 512 s (l .i) (omega arith)
-    (ap goodCheck (sym (c .before .before .block-at .ensures)) ∙ sym (c .before .good-check .ensures) ∙ not-true _ (c .if1 .taken))
+    (judged (c .before) ∙ not-true _ (c .if1 .taken))
     ∙ l .inv .1
 
 add-i : tie.Need-add-i Inv-loop μ-loop
@@ -49,7 +53,7 @@ loop-again c =
     let l = c .before .before .before .before .loop in (
       omega arith,
       all-piece-next goodCheck (length s / 512) 512 s (l .i) (omega arith)
-          (ap goodCheck (sym (c .before .before .block-at .ensures)) ∙ sym (c .before .good-check .ensures) ∙ not-false _ (c .if1 .left))
+          (judged (c .before) ∙ not-false _ (c .if1 .left))
           ∙ l .inv .1,
     )
 

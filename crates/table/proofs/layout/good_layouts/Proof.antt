@@ -29,12 +29,17 @@ block-at-requires c κs = omega arith
 block-layout-requires : tie.Need-block-layout-requires Inv-loop μ-loop
 block-layout-requires c κs = ap length (c .block-at .ensures) ∙ block-length (c .before .before .before .before .args .image .now) (c .before .before .loop .i) (omega arith)
 
+-- what the block at i is judged to be
+judged : (c : tie.After-block-layout Inv-loop μ-loop)
+    → blockLayout (blockPlace (c .before .before .before .loop .i)) (blockAt (c .before .before .before .before .before .args .image .now) (c .before .before .before .loop .i)) ≡ c .block-layout .result
+judged c = ap (blockLayout (blockPlace (c .before .before .before .loop .i))) (sym (c .before .block-at .ensures)) ∙ sym (c .block-layout .ensures)
+
 returns : tie.Need-returns Inv-loop μ-loop
 returns c =
     let s = c .before .before .before .before .before .before .args .image .now in
     let l = c .before .before .before .before .loop in
     layouts-fail (l .i) (blockAt s (l .i)) (drop (l .i + 1) (blocksOf s))
-    (ap (blockLayout (blockPlace (l .i))) (sym (c .before .before .block-at .ensures)) ∙ sym (c .before .block-layout .ensures) ∙ not-true _ (c .if1 .taken))
+    (judged (c .before) ∙ not-true _ (c .if1 .taken))
     ∙ ap (layoutsFrom (l .i)) (sym (blocks-step s (l .i) (omega arith)))
     ∙ l .inv .1
 
@@ -50,7 +55,7 @@ loop-again c =
     let l = c .before .before .before .before .loop in (
       omega arith,
       layouts-next (l .i) (blockAt s (l .i)) (drop (l .i + 1) (blocksOf s))
-          (ap (blockLayout (blockPlace (l .i))) (sym (c .before .before .block-at .ensures)) ∙ sym (c .before .block-layout .ensures) ∙ not-false _ (c .if1 .left))
+          (judged (c .before) ∙ not-false _ (c .if1 .left))
           ∙ ap (layoutsFrom (l .i)) (sym (blocks-step s (l .i) (omega arith)))
           ∙ l .inv .1,
     )

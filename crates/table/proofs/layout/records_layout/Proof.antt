@@ -50,14 +50,21 @@ record-layout-requires c κs =
     ap length (c .part .ensures ∙ ap (λ (w : ℕ). cut (p .b .now) (w * i) w) (c .before .before .before .record-width .ensures))
     ∙ cut-length (p .b .now) (recordWidth (p .kind) * i) (recordWidth (p .kind)) (omega (arith, record-fits (p .kind) i h))
 
+-- what the record at i is judged to be
+judged : (c : tie.After-record-layout Inv-loop μ-loop)
+    → (let p = c .before .before .before .before .before .before .before .args in recordLayout (recordRule (p .kind)) (cut (p .b .now) (recordWidth (p .kind) * c .before .before .before .loop .i) (recordWidth (p .kind))))
+    ≡ c .record-layout .result
+judged c =
+    let p = c .before .before .before .before .before .before .before .args in
+    let rule : List ℕ → Bool = recordLayout (recordRule (p .kind)) in
+    ap (λ (w : ℕ). rule (cut (p .b .now) (w * c .before .before .before .loop .i) w)) (sym (c .before .before .before .before .record-width .ensures)) ∙ ap rule (sym (c .before .part .ensures)) ∙ sym (c .record-layout .ensures)
+
 returns : tie.Need-returns Inv-loop μ-loop
 returns c =
     let p = c .before .before .before .before .before .before .before .before .args in
     let l = c .before .before .before .before .loop in
-    let b = p .b .now in
-    let rule : List ℕ → Bool = recordLayout (recordRule (p .kind)) in
-    all-piece-fails rule (recordCount (p .kind)) (recordWidth (p .kind)) b (l .i) (omega arith)
-    (ap (λ (w : ℕ). rule (cut b (w * l .i) w)) (sym (c .before .before .before .before .before .record-width .ensures)) ∙ ap rule (sym (c .before .before .part .ensures)) ∙ sym (c .before .record-layout .ensures) ∙ not-true _ (c .if1 .taken))
+    all-piece-fails (recordLayout (recordRule (p .kind))) (recordCount (p .kind)) (recordWidth (p .kind)) (p .b .now) (l .i) (omega arith)
+    (judged (c .before) ∙ not-true _ (c .if1 .taken))
     ∙ l .inv .1
 
 add-i : tie.Need-add-i Inv-loop μ-loop
@@ -69,12 +76,10 @@ loop-less c = search needs
 loop-again : tie.Need-loop-again Inv-loop μ-loop
 loop-again c =
     let p = c .before .before .before .before .before .before .before .before .args in
-    let l = c .before .before .before .before .loop in
-    let b = p .b .now in
-    let rule : List ℕ → Bool = recordLayout (recordRule (p .kind)) in (
+    let l = c .before .before .before .before .loop in (
       omega arith,
-      all-piece-next rule (recordCount (p .kind)) (recordWidth (p .kind)) b (l .i) (omega arith)
-          (ap (λ (w : ℕ). rule (cut b (w * l .i) w)) (sym (c .before .before .before .before .before .record-width .ensures)) ∙ ap rule (sym (c .before .before .part .ensures)) ∙ sym (c .before .record-layout .ensures) ∙ not-false _ (c .if1 .left))
+      all-piece-next (recordLayout (recordRule (p .kind))) (recordCount (p .kind)) (recordWidth (p .kind)) (p .b .now) (l .i) (omega arith)
+          (judged (c .before) ∙ not-false _ (c .if1 .left))
           ∙ l .inv .1,
     )
 

@@ -1,4 +1,6 @@
+use Rattle.octets.specs.Number.Properties.{no-high-bits}
 use Rattle.table.specs.Layout.{serverLayout}
+use native.Mathlib.Omega.{arith}
 use borrow.Author.Needs.{needs}
 use Rattle.table.proofs.layout.server_layout.Statement.{statement}
 use Rattle.table.proofs.layout.server_layout.Tie as tie
@@ -28,6 +30,8 @@ returns : tie.Need-returns
 unfolding serverLayout
 returns c =
     rw (
+      no-high-bits (c .before .before .before .before .before .before .u32-at .result) 20 12 (omega arith),
+      no-high-bits (c .before .before .before .before .before .u32-at2 .result) 28 4 (omega arith),
       c .before .before .before .before .before .before .u32-at .ensures,
       c .before .before .before .before .before .u32-at2 .ensures,
       c .before .before .before .before .u16-at .ensures,
