@@ -9,6 +9,7 @@ use Rattle.answers.specs.Try.{Try, refused, good, _>>=_}
 use Rattle.octets.specs.Number.{little}
 use Rattle.octets.specs.Utf16.{isHigh, isLow}
 use Rattle.reader.specs.Field.{Read, octetsAt}
+pub mod Properties
 
 pub record Stretch : Type 0 where
   pub start : ℕ

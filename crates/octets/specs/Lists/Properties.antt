@@ -1,15 +1,15 @@
 -- Laws of tests, stretches and pieces of a list.
-use mathlib.Core.Path.{_≡_, refl, sym, ap, _∙_}
-use mathlib.Core.Bool.{Bool, true, false, _&&_, _||_, and-assoc, or-assoc}
-use mathlib.Core.List.{List, [], _∷_, _++_}
+use mathlib.Core.Path.{_≡_, refl, sym, ap, _∙_, subst}
+use mathlib.Core.Bool.{Bool, true, false, _&&_, _||_, and-assoc, or-assoc, cond}
+use mathlib.Core.List.{List, [], _∷_, _++_, map, flatMap}
 use mathlib.Core.Option.{Option, none, some}
 use Prim.Native.Nat.{ℕ, zero, suc, _+_, _-_, _*_, _≤_, _<_}
-use native.Mathlib.Nat.{mul-zero, mul-suc, sub-zero, zero-sub, suc-sub-suc, add-comm, not-suc-le-zero, le-of-suc-le-suc}
+use native.Mathlib.Nat.{mul-zero, mul-suc, sub-zero, zero-sub, suc-sub-suc, add-comm, not-suc-le-zero, le-of-suc-le-suc, suc-mul}
 use native.Mathlib.Omega.{arith}
 use native.Mathlib.Numerals.{add-one}
 use lib.ListN.{length, getD, take, drop, length-take, length-drop, drop-of-length-le}
-use lib.Seq.{drop-cons, getD-take, getD-drop, take-take, drop-drop, take-nil, drop-nil, take-all}
-use Rattle.octets.specs.Lists.{all, any, first, firstOr, keep, keepIf, cut, pieces}
+use lib.Seq.{drop-cons, getD-take, getD-drop, take-take, drop-drop, take-nil, drop-nil, take-all, take-append-seam, drop-append-seam, take-append-le, drop-append-le, length-take-le}
+use Rattle.octets.specs.Lists.{all, any, first, firstOr, keep, keepIf, cut, pieces, apart}
 
 module _ {A : Type 0} where
   module _ (p : A → Bool) (s : List A) (i : ℕ) (d : A) (h : i < length s) where
@@ -122,3 +122,162 @@ module _ {A : Type 0} where
     all-pieces-end h =
         let k : length (pieces n w s) ≤ i = rw length-pieces h in
         all-end p (pieces n w s) i k
+
+-- Laws of the tests and searches: what holds of each element holds of the one found, kept or mapped.
+
+pub true-not-false : true ≡ false → ⊥
+true-not-false e = let z : _≡_ {A = ℕ} 0 1 = cc in omega arith
+
+pub none-not-some : {A : Type 0} (x : A) → none ≡ some x → ⊥
+none-not-some x e = let z : _≡_ {A = ℕ} 0 1 = cc in omega arith
+
+-- what holds in either case of a test holds of what it picks
+pub cond-has : {A : Type 0} (P : A → Type 0) (b : Bool) (x y : A) → (b ≡ true → P x) → (b ≡ false → P y) → P (cond b x y)
+cond-has P true x y f g = f refl
+cond-has P false x y f g = g refl
+
+-- ---- tests joined
+
+pub both-left : (a b : Bool) → a && b ≡ true → a ≡ true
+both-left true b e = refl
+both-left false b e = e
+
+pub both-right : (a b : Bool) → a && b ≡ true → b ≡ true
+both-right true b e = e
+both-right false b e = absurd (true-not-false (sym e))
+
+pub neither-left : (a b : Bool) → a || b ≡ false → a ≡ false
+neither-left true b e = e
+neither-left false b e = refl
+
+pub neither-right : (a b : Bool) → a || b ≡ false → b ≡ false
+neither-right true b e = absurd (true-not-false e)
+neither-right false b e = e
+
+pub other-right : (a b : Bool) → a || b ≡ true → a ≡ false → b ≡ true
+other-right true b e n = absurd (true-not-false n)
+other-right false b e n = e
+
+-- ---- each element
+
+module _ {A : Type 0} where
+  abbrev pub Every : (A → Type 0) → List A → Type 0
+  Every P [] = Unit {0}
+  Every P (x ∷ xs) = P x × Every P xs
+
+  pub every-all : (p : A → Bool) (P : A → Type 0) → ((x : A) → p x ≡ true → P x) → (xs : List A) → all p xs ≡ true → Every P xs
+  unfolding all
+  every-all p P f [] e = tt
+  every-all p P f (x ∷ xs) e = (f x (both-left (p x) (all p xs) e), every-all p P f xs (both-right (p x) (all p xs) e))
+
+  pub all-every : (p : A → Bool) (xs : List A) → Every (λ x. p x ≡ true) xs → all p xs ≡ true
+  unfolding all
+  all-every p [] h = refl
+  all-every p (x ∷ xs) h = rw (h .0, all-every p xs (h .1))
+
+  pub every-none : (p : A → Bool) (P : A → Type 0) → ((x : A) → p x ≡ false → P x) → (xs : List A) → any p xs ≡ false → Every P xs
+  unfolding any
+  every-none p P f [] e = tt
+  every-none p P f (x ∷ xs) e = (f x (neither-left (p x) (any p xs) e), every-none p P f xs (neither-right (p x) (any p xs) e))
+
+  pub every-weaken : (P Q : A → Type 0) → ((x : A) → P x → Q x) → (xs : List A) → Every P xs → Every Q xs
+  every-weaken P Q f [] h = tt
+  every-weaken P Q f (x ∷ xs) h = (f x (h .0), every-weaken P Q f xs (h .1))
+
+  pub every-append : (P : A → Type 0) (xs ys : List A) → Every P xs → Every P ys → Every P (xs ++ ys)
+  every-append P [] ys h k = k
+  every-append P (x ∷ xs) ys h k = (h .0, every-append P xs ys (h .1) k)
+
+  pub every-take : (P : A → Type 0) (n : ℕ) (xs : List A) → Every P xs → Every P (take n xs)
+  every-take P zero xs h = tt
+  every-take P (suc n) [] h = tt
+  every-take P (suc n) (x ∷ xs) h = (h .0, every-take P n xs (h .1))
+
+  -- what is kept passed the test
+  pub every-keep : (p : A → Bool) (P Q : A → Type 0) → ((x : A) → p x ≡ true → P x → Q x) → (xs : List A) → Every P xs → Every Q (keep p xs)
+  unfolding keep
+  every-keep p P Q f [] h = tt
+  every-keep p P Q f (x ∷ xs) h = go (p x) refl (every-keep p P Q f xs (h .1))
+    where
+      go : (b : Bool) → p x ≡ b → Every Q (keep p xs) → Every Q (keepIf b x (keep p xs))
+      go true e r = (f x e (h .0), r)
+      go false e r = r
+
+  -- what is found is one of the list, and passed the test
+  pub found : (p : A → Bool) (P : A → Type 0) (xs : List A) (y : A) → Every P xs → first p xs ≡ some y → P y × (p y ≡ true)
+  unfolding first
+  found p P [] y h e = absurd (none-not-some y e)
+  found p P (x ∷ xs) y h e = go (p x) refl (λ q. found p P xs y (h .1) q)
+    where
+      go : (b : Bool) → p x ≡ b → (first p xs ≡ some y → P y × (p y ≡ true)) → P y × (p y ≡ true)
+      go true q f =
+          let s : some x ≡ some y = rw q at e in
+          let k : x ≡ y = cc in
+          subst (λ (z : A). P z × (p z ≡ true)) k (h .0, q)
+      go false q f = f (rw q at e)
+
+-- where nothing is found, nothing passes
+pub not-found : {A : Type 0} (p : A → Bool) (xs : List A) → first p xs ≡ none → Every (λ x. p x ≡ false) xs
+unfolding first
+not-found p [] e = tt
+not-found p (x ∷ xs) e = go (p x) refl (λ q. not-found p xs q)
+  where
+    go : (b : Bool) → p x ≡ b → (first p xs ≡ none → Every (λ y. p y ≡ false) xs) → Every (λ y. p y ≡ false) (x ∷ xs)
+    go true q f = let s : some x ≡ none = rw q at e in absurd (none-not-some x (sym s))
+    go false q f = (q, f (rw q at e))
+
+pub none-any : {A : Type 0} (p : A → Bool) (xs : List A) → Every (λ x. p x ≡ false) xs → any p xs ≡ false
+unfolding any
+none-any p [] h = refl
+none-any p (x ∷ xs) h = rw (h .0, none-any p xs (h .1))
+
+-- no two alike, one list behind the other: each by itself, and none of the one like any of the other
+module _ {A : Type 0} (alike : A → A → Bool) where
+  abbrev pub Apart : List A → Type 0
+  Apart [] = Unit {0}
+  Apart (x ∷ xs) = Every (λ y. alike x y ≡ false) xs × Apart xs
+
+  pub apart-append : (xs ys : List A) → Apart xs → Apart ys → Every (λ y. Every (λ x. alike x y ≡ false) xs) ys → Apart (xs ++ ys)
+  apart-append [] ys h k c = k
+  apart-append (x ∷ xs) ys h k c = (
+    every-append (λ y. alike x y ≡ false) xs ys (h .0) (every-weaken (λ y. Every (λ z. alike z y ≡ false) (x ∷ xs)) (λ y. alike x y ≡ false) (λ y q. q .0) ys c),
+    apart-append xs ys (h .1) k (every-weaken (λ y. Every (λ z. alike z y ≡ false) (x ∷ xs)) (λ y. Every (λ z. alike z y ≡ false) xs) (λ y q. q .1) ys c),
+  )
+
+  pub apart-tested : (xs : List A) → Apart xs → apart alike xs ≡ true
+  unfolding apart
+  apart-tested [] h = refl
+  apart-tested (x ∷ xs) h = rw (none-any (alike x) xs (h .0), apart-tested xs (h .1))
+
+pub every-map : {A B : Type 0} (f : B → A) (P : B → Type 0) (Q : A → Type 0) → ((x : B) → P x → Q (f x)) → (xs : List B) → Every P xs → Every Q (map f xs)
+every-map f P Q g [] h = tt
+every-map f P Q g (x ∷ xs) h = (g x (h .0), every-map f P Q g xs (h .1))
+
+pub every-flat : {A B : Type 0} (f : B → List A) (P : B → Type 0) (Q : A → Type 0) → ((x : B) → P x → Every Q (f x)) → (xs : List B) → Every P xs → Every Q (flatMap f xs)
+unfolding flatMap
+every-flat f P Q g [] h = tt
+every-flat f P Q g (x ∷ xs) h = every-append Q (f x) (flatMap f xs) (g x (h .0)) (every-flat f P Q g xs (h .1))
+
+-- ---- stretches
+
+module _ {A : Type 0} where
+  -- what stands behind a front
+  pub cut-behind : (p x q : List A) → cut (p ++ (x ++ q)) (length p) (length x) ≡ x
+  cut-behind p x q = rw (drop-append-seam p (x ++ q), take-append-seam x q)
+
+  -- what is appended changes no stretch that was all there
+  pub cut-longer : (s t : List A) (at n : ℕ) → at + n ≤ length s → cut (s ++ t) at n ≡ cut s at n
+  cut-longer s t at n h =
+      let a : at ≤ length s = omega arith in
+      let b : n ≤ length (drop at s) = simp length-drop (omega arith) in
+      rw (drop-append-le at s t, take-append-le n (drop at s) t)
+
+  -- every piece has its width where there is enough
+  pub pieces-wide : (n w : ℕ) (s : List A) → n * w ≤ length s → Every (λ x. length x ≡ w) (pieces n w s)
+  unfolding pieces
+  pieces-wide zero w s h = tt
+  pieces-wide (suc n) w s h =
+      let a : w + n * w ≤ length s = omega (arith, suc-mul n w) in
+      let b : w ≤ length s = omega arith in
+      let c : n * w ≤ length (drop w s) = simp length-drop (omega arith) in
+      (length-take-le w s b, pieces-wide n w (drop w s) c)

@@ -1,9 +1,9 @@
 -- Laws of numbers in octets.
 use mathlib.Core.Path.{_≡_, refl, sym, ap, _∙_}
 use mathlib.Core.Bool.{Bool, true, false}
-use mathlib.Core.List.{List, [], _∷_}
+use mathlib.Core.List.{List, [], _∷_, reverse-reverse}
 use Prim.Native.Nat.{ℕ, zero, suc, _+_, _-_, _*_, _/_, _%_, _^_, _≤_, _<_}
-use native.Mathlib.Nat.{zero-mul, mod-lt, div-eq-of-lt}
+use native.Mathlib.Nat.{zero-mul, mod-lt, div-eq-of-lt, div-lt-iff-lt-mul, pow-suc}
 use native.Mathlib.Omega.{arith}
 use lib.Bits.{bitAnd, and-high}
 use lib.Dec.{eqb, ltb}
@@ -12,7 +12,7 @@ use lib.Pow.{pow-pos, split, shr-mod}
 use borrow.Author.Tests.{eq-eqb, ne-eqb, ltb-true, ltb-false}
 use Rattle.octets.specs.Lists.{cut}
 use Rattle.octets.specs.Lists.Properties.{cut-cons}
-use Rattle.octets.specs.Number.{little, big}
+use Rattle.octets.specs.Number.{little, big, littleOctets, bigOctets}
 
 -- a number has none of the j bits from k on exactly where it is below 2 ^ k
 pub no-high-bits : (x j k : ℕ) → x < 2 ^ (j + k) → eqb (bitAnd x (2 ^ (j + k) - 2 ^ k)) 0 ≡ ltb x (2 ^ k)
@@ -56,3 +56,22 @@ big-two s at h = rw (cut-two s at h) (omega arith)
 pub big-halves : (s : List ℕ) (at : ℕ) → at + 4 ≤ length s → big (cut s at 4) ≡ 65536 * big (cut s at 2) + big (cut s (at + 2) 2)
 unfolding big little
 big-halves s at h = rw (cut-four s at h, cut-two s at (omega arith), cut-two s (at + 2) (omega arith)) (omega arith)
+
+-- A number written in w octets is read back, and its octets are w.
+
+pub length-little : (w n : ℕ) → length (littleOctets w n) ≡ w
+unfolding littleOctets
+length-little zero n = refl
+length-little (suc w) n = ap suc (length-little w (n / 256))
+
+pub little-back : (w n : ℕ) → n < 256 ^ w → little (littleOctets w n) ≡ n
+unfolding little littleOctets
+little-back zero n h = omega arith
+little-back (suc w) n h =
+    let a : n < 256 ^ w * 256 = rw pow-suc at h in
+    let b : n / 256 < 256 ^ w = div-lt-iff-lt-mul {k = 256} {x = n} {y = 256 ^ w} (omega arith) .1 a in
+    rw (little-back w (n / 256) b) (omega arith)
+
+pub big-back : (w n : ℕ) → n < 256 ^ w → big (bigOctets w n) ≡ n
+unfolding big bigOctets
+big-back w n h = rw (reverse-reverse (littleOctets w n)) (little-back w n h)

@@ -4,21 +4,26 @@ use mathlib.Core.Bool.{Bool, true, false, _&&_, and-false}
 use mathlib.Core.List.{List, [], _∷_, map}
 use Prim.Native.Nat.{ℕ, zero, suc, _+_, _≤_, _<_}
 use native.Mathlib.Numerals.{add-one}
-use lib.Dec.{eqb}
+use lib.Dec.{eqb, leb}
 use lib.ListN.{length, getD, drop, drop-of-length-le}
 use lib.Seq.{drop-cons}
-use borrow.Author.Tests.{eq-eqb, ne-eqb}
-use Rattle.octets.specs.Text.{same}
+use borrow.Author.Tests.{eq-eqb, ne-eqb, eqb-true, leb-true}
+use Rattle.octets.specs.Text.{same, within}
+use Rattle.octets.specs.Lists.Properties.{both-left, both-right, true-not-false}
+
+-- texts of other lengths are not the same
+pub same-lengths : (x y : List ℕ) → (length x ≡ length y → ⊥) → same x y ≡ false
+unfolding same
+same-lengths [] [] h = absurd (h refl)
+same-lengths [] (y ∷ ys) h = refl
+same-lengths (x ∷ xs) [] h = refl
+same-lengths (x ∷ xs) (y ∷ ys) h = go (eqb x y) (same-lengths xs ys (λ e. h (ap suc e)))
+  where
+    go : (t : Bool) → same xs ys ≡ false → t && same xs ys ≡ false
+    go true e = e
+    go false e = refl
 
 module _ (f : ℕ → ℕ) where
-  -- texts of two lengths differ
-  pub same-lengths : (a b : List ℕ) → (length a ≡ length b → ⊥) → same (map f a) (map f b) ≡ false
-  unfolding same
-  same-lengths [] [] h = absurd (h refl)
-  same-lengths [] (y ∷ b) h = refl
-  same-lengths (x ∷ a) [] h = refl
-  same-lengths (x ∷ a) (y ∷ b) h = rw (same-lengths a b (λ e. h (ap suc e))) (and-false (eqb (f x) (f y)))
-
   module _ (a b : List ℕ) (i : ℕ) (ha : i < length a) (hb : i < length b) where
     same-step : same (map f (drop i a)) (map f (drop i b)) ≡ (eqb (f (getD a i 0)) (f (getD b i 0)) && same (map f (drop (i + 1) a)) (map f (drop (i + 1) b)))
     unfolding same
@@ -40,3 +45,26 @@ module _ (f : ℕ → ℕ) where
 pub map-id : (s : List ℕ) → map (λ x. x) s ≡ s
 map-id [] = refl
 map-id (x ∷ s) = ap (λ (l : List ℕ). x ∷ l) (map-id s)
+
+-- The same text is the same list.
+
+pub same-equal : (x y : List ℕ) → same x y ≡ true → x ≡ y
+unfolding same
+same-equal [] [] e = refl
+same-equal [] (y ∷ ys) e = absurd (true-not-false (sym e))
+same-equal (x ∷ xs) [] e = absurd (true-not-false (sym e))
+same-equal (x ∷ xs) (y ∷ ys) e =
+    let a : x ≡ y = eqb-true x y (both-left (eqb x y) (same xs ys) e) in
+    let b : xs ≡ ys = same-equal xs ys (both-right (eqb x y) (same xs ys) e) in
+    cc
+
+pub same-self : (x : List ℕ) → same x x ≡ true
+unfolding same
+same-self [] = refl
+same-self (x ∷ xs) = rw (eq-eqb x x refl, same-self xs)
+
+pub within-low : (low high n : ℕ) → within low high n ≡ true → low ≤ n
+within-low low high n e = leb-true low n (both-left (leb low n) (leb n high) e)
+
+pub within-high : (low high n : ℕ) → within low high n ≡ true → n ≤ high
+within-high low high n e = leb-true n high (both-right (leb low n) (leb n high) e)

@@ -1,7 +1,7 @@
 use Rattle.octets.specs.Text.Properties.{same-lengths, same-fails, same-next, same-end}
 use Rattle.octets.specs.Text.{same, foldIf}
 use borrow.Author.Needs.{needs}
-use lib.ListN.{length, drop}
+use lib.ListN.{length, drop, length-map}
 use native.Mathlib.Omega.{arith}
 use Prim.Native.Nat.{_-_, _≤_}
 use mathlib.Core.List.{map}
@@ -18,7 +18,11 @@ abbrev μ-loop : tie.MeasureT-loop
 returns : tie.Need-returns Inv-loop μ-loop
 returns c =
     let p = c .before .before .before .args in
-    sym (same-lengths (foldIf (p .ignore-case)) (p .a .now) (p .b .now) (c .if1 .taken))
+    let f = foldIf (p .ignore-case) in
+    let differ : length (map f (p .a .now)) ≡ length (map f (p .b .now)) → ⊥ =
+    λ e. c .if1 .taken (sym (length-map (p .a .now) f) ∙ e ∙ length-map (p .b .now) f)
+    in
+    sym (same-lengths (map f (p .a .now)) (map f (p .b .now)) differ)
 
 loop-holds : tie.Need-loop-holds Inv-loop μ-loop
 loop-holds c = (omega arith, refl)
