@@ -1,0 +1,5 @@
+pub mod Made
+pub mod ReplyLaw
+pub mod Demand3
+pub mod Length
+pub mod Pointers

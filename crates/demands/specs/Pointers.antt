@@ -1,0 +1,35 @@
+-- What pointers aim at. The tails that a name may point to are those that the names before it left: each starts at an offset of 14 bits, and
+-- none is written twice. So of the tails that fit, the first is the only one, and the lowest.
+use mathlib.Core.Path.{_≡_}
+use mathlib.Core.Bool.{true, not, _||_}
+use mathlib.Core.List.{List, []}
+use mathlib.Core.Option.{some}
+use Prim.Native.Nat.{ℕ}
+use lib.Dec.{leb, ltb}
+use lib.ListN.{length, take}
+use Rattle.answers.specs.declared.Form.{Form}
+use Rattle.answers.specs.Try.{good}
+use Rattle.locator.specs.Answer.{Outcome, answerTo}
+use Rattle.names.specs.Name.{Tail, namesAt}
+use Rattle.octets.specs.Lists.{all, apart, first}
+use Rattle.octets.specs.Text.{same}
+use Rattle.reply.specs.Reply.{Reply}
+use Rattle.demands.specs.Demand3.{headOf, namesOf}
+use Rattle.demands.specs.Made.{Made, said}
+pub mod Properties
+
+-- the tails that the first k names of a form leave
+abbrev pub tailsBefore : Form → Reply → ℕ → List Tail
+tailsBefore form r k = namesAt [] (length (headOf form r)) (take k (namesOf form r)) .tails
+
+pub record Fit (tails : List Tail) : Type 0 where
+  pub low : all (λ t. ltb (t .offset) 0x4000) tails ≡ true
+  pub once : apart (λ t u. same (t .text) (u .text)) tails ≡ true
+  pub lowest : (text : List ℕ) (t : Tail)
+      → first (λ u. same (u .text) text) tails ≡ some t → all (λ u. not (same (u .text) text) || leb (t .offset) (u .offset)) tails ≡ true
+
+abbrev pub PointersFit : Type 0
+PointersFit =
+    (image client filter : List ℕ) (room : ℕ) (a : Outcome)
+    → answerTo image client filter room ≡ good a
+    → (m : Made image client filter room a) × ((k : ℕ) → Fit (tailsBefore (a .form) (said m) k))

@@ -1,0 +1,81 @@
+-- The reply law: for every table image, client address, filter and room that get an answer, the reader, given the reply's octets, its form
+-- and the version bits asked, accepts the reply with its length and gives back the texts and numbers that went in.
+use mathlib.Core.Path.{_≡_}
+use mathlib.Core.Bool.{Bool, true, false}
+use mathlib.Core.List.{List, map}
+use mathlib.Core.Option.{Option, none, some}
+use Prim.Native.Nat.{ℕ}
+use lib.ListN.{length}
+use Rattle.answers.specs.declared.Form.{Form}
+use Rattle.answers.specs.declared.Form.the-variants.{Nt40, Response, Ex}
+use Rattle.answers.specs.Try.{good}
+use Rattle.locator.specs.Answer.{Outcome, answerTo}
+use Rattle.octets.specs.Lists.{cut}
+use Rattle.octets.specs.Utf16.{utf16}
+use Rattle.reader.specs.Reader.{Named, Nt40Fields, ResponseFields, ExFields, nt40, response, ex, readIn, readLength}
+use Rattle.reader.specs.Text.{Stretch}
+use Rattle.reply.specs.Reply.{Reply, responseNames, exNames}
+use Rattle.demands.specs.Made.{Made, said}
+pub mod Properties
+
+-- the octets of a stretch
+abbrev pub stretchOf : List ℕ → Stretch → List ℕ
+stretchOf s t = cut s (t .start) (t .len)
+
+abbrev pub textOf : Named → List ℕ
+textOf n = n .text
+
+abbrev pub textIfAny : Option Named → Option (List ℕ)
+textIfAny none = none
+textIfAny (some n) = some (n .text)
+
+-- the address, exactly where it was written
+abbrev pub addressWritten : Reply → Bool → Option (List ℕ)
+addressWritten r true = some (r .ipv4)
+addressWritten r false = none
+
+-- the EX version: 15h with name 8
+abbrev pub exVersion : Option (List ℕ) → ℕ
+exVersion none = 5
+exVersion (some text) = 0x15
+
+pub record Nt40Back (r : Reply) (s : List ℕ) (f : Nt40Fields) : Type 0 where
+  pub opcode : f .opcode ≡ r .opcode
+  pub server : stretchOf s (f .server) ≡ utf16 (r .server)
+  pub user : stretchOf s (f .user) ≡ utf16 (r .user)
+  pub domain : stretchOf s (f .domain) ≡ utf16 (r .netbios)
+  pub version : f .version ≡ 1
+
+pub record ResponseBack (r : Reply) (s : List ℕ) (f : ResponseFields) : Type 0 where
+  pub opcode : f .opcode ≡ r .opcode
+  pub server : stretchOf s (f .server) ≡ utf16 (r .server)
+  pub user : stretchOf s (f .user) ≡ utf16 (r .user)
+  pub domain : stretchOf s (f .domain) ≡ utf16 (r .netbios)
+  pub guid : f .guid ≡ r .guid
+  pub names : map textOf (f .names) ≡ responseNames r
+  pub ipv4 : f .ipv4 ≡ r .ipv4
+  pub flags : f .flags ≡ r .flags
+  pub version : f .version ≡ 3
+
+pub record ExBack (r : Reply) (f : ExFields) : Type 0 where
+  pub opcode : f .opcode ≡ r .opcode
+  pub flags : f .flags ≡ r .flags
+  pub guid : f .guid ≡ r .guid
+  pub names : map textOf (f .names) ≡ exNames r
+  pub ipv4 : f .ipv4 ≡ addressWritten r (r .withAddress)
+  pub nextSite : textIfAny (f .nextSite) ≡ r .nextSite
+  pub version : f .version ≡ exVersion (r .nextSite)
+
+-- what the reader gives back of a reply r in its form, whose octets are s
+abbrev pub GivenBack : Form → ℕ → Reply → List ℕ → Type 0
+GivenBack Nt40 v r s = (f : Nt40Fields) × (readIn Nt40 v s ≡ good (nt40 f)) × Nt40Back r s f
+GivenBack Response v r s = (f : ResponseFields) × (readIn Response v s ≡ good (response f)) × ResponseBack r s f
+GivenBack Ex v r s = (f : ExFields) × (readIn Ex v s ≡ good (ex f)) × ExBack r f
+
+abbrev pub ReplyLaw : Type 0
+ReplyLaw =
+    (image client filter : List ℕ) (room : ℕ) (a : Outcome)
+    → answerTo image client filter room ≡ good a
+    → (m : Made image client filter room a)
+    × GivenBack (a .form) (m .ping .version) (said m) (a .octets)
+    × (readLength (readIn (a .form) (m .ping .version) (a .octets)) (a .octets) ≡ length (a .octets))
