@@ -1,6 +1,6 @@
 -- Document 01, "The filter": an AND (A0h) of one or more filters, to depth 4, or an equality (A3h) of two octet strings (04h).
 -- A filter is read by offsets: from `at`, within the end of the element around it.
-use mathlib.Core.Bool.{Bool, true, false, cond, not, _&&_, _||_}
+use mathlib.Core.Bool.{Bool, true, false, cond, _&&_}
 use mathlib.Core.List.{List, [], _∷_, _++_}
 use mathlib.Core.Option.{Option, none, some}
 use Prim.Native.Nat.{ℕ, zero, suc, _+_, _-_}
@@ -8,6 +8,7 @@ use lib.Dec.{eqb, leb, ltb}
 use lib.ListN.{length, getD}
 use Rattle.octets.specs.Lists.{cut}
 use Rattle.octets.specs.Number.{big}
+use Rattle.filter.specs.declared.Found.{Found}
 
 -- an element: its tag, where its contents start, and where what follows it does
 pub record Element : Type 0 where
@@ -39,13 +40,6 @@ elementAt s at end =
     (onWidth (lengthWidth (getD s (at + 1) 0)) (λ w.
     cond (ltb end (at + 2 + w)) none (elementOf (getD s at 0) (at + 2 + w) (lengthValue s (at + 1) w) end)))
 
--- a clause as it stands in a filter: the stretches of its name and its value
-pub record Found : Type 0 where
-  pub nameStart : ℕ
-  pub nameLength : ℕ
-  pub start : ℕ
-  pub len : ℕ
-
 abbrev pub onElement : {A : Type 0} → Option Element → (Element → Option A) → Option A
 onElement none f = none
 onElement (some e) f = f e
@@ -54,13 +48,18 @@ abbrev pub when : {A : Type 0} → Bool → Option A → Option A
 when true x = x
 when false x = none
 
--- a name and a value that fill the equality from `at` to `end`
-unfoldable pub equality : List ℕ → ℕ → ℕ → Option (List Found)
+-- a name and a value that fill the equality from `at` to `end`: the clause that they are
+unfoldable pub equality : List ℕ → ℕ → ℕ → Option Found
 equality s at end =
     onElement (elementAt s at end) (λ n.
     when (eqb (n .tag) 0x04) (onElement (elementAt s (n .next) end) (λ v.
     when (eqb (v .tag) 0x04 && eqb (v .next) end)
-    (some (record { nameStart = n .start; nameLength = n .next - n .start; start = v .start; len = v .next - v .start } ∷ [])))))
+    (some (record { «name_start» = n .start; «name_len» = n .next - n .start; start = v .start; len = v .next - v .start })))))
+
+-- one clause alone
+abbrev pub alone : Option Found → Option (List Found)
+alone none = none
+alone (some f) = some (f ∷ [])
 
 abbrev pub joinFound : List Found → Option (List Found) → Option (List Found)
 joinFound xs none = none
@@ -73,7 +72,7 @@ onFound (some xs) f = f xs
 module _ (and : List ℕ → ℕ → ℕ → Option (List Found)) where
   -- the filter that an element is, where `and` reads the contents of an AND
   unfoldable pub one : List ℕ → Element → Option (List Found)
-  one s e = elim (eqb (e .tag) 0xA3) [ true ↦ equality s (e .start) (e .next) | false ↦ when (eqb (e .tag) 0xA0) (and s (e .start) (e .next)) ]
+  one s e = elim (eqb (e .tag) 0xA3) [ true ↦ alone (equality s (e .start) (e .next)) | false ↦ when (eqb (e .tag) 0xA0) (and s (e .start) (e .next)) ]
 
   -- filters that fill the stretch from `at` to `end`, one at least; k bounds how many there are
   unfoldable pub siblings : ℕ → List ℕ → ℕ → ℕ → Option (List Found)

@@ -1,25 +1,27 @@
 -- Document 01, "The filter" and "Answer numbers": taking a filter apart, with 5 to 8, each judged over the whole filter.
-use mathlib.Core.Bool.{Bool, true, false, not}
-use mathlib.Core.List.{List, [], _∷_}
+use mathlib.Core.Bool.{Bool, not}
+use mathlib.Core.List.{List}
 use mathlib.Core.Option.{Option, none, some}
 use Prim.Native.Nat.{ℕ}
 use lib.Dec.{ltb}
 use lib.ListN.{length}
 use Rattle.answers.specs.declared.Refusal.the-variants.{FilterLength, FilterShape, ClauseName, ClauseTwice}
 use Rattle.answers.specs.Try.{Try, refused, good, unless}
-use Rattle.octets.specs.Lists.{all, any, first, apart, cut}
+use Rattle.octets.specs.Lists.{any, first, apart, cut}
 use Rattle.octets.specs.Text.{sameFolded}
 use Rattle.filter.specs.declared.Clause.{Clause}
 use Rattle.filter.specs.declared.Clause.the-variants.{Absent, Present}
+use Rattle.filter.specs.declared.Found.{Found}
+use Rattle.filter.specs.declared.Name.{Name}
 use Rattle.filter.specs.declared.Request.{Request}
 use Rattle.filter.specs.declared.Taken.{Taken}
 use Rattle.filter.specs.declared.Taken.the-variants as taken
-use Rattle.filter.specs.Request.{Name, names, spelling, requestBy}
-use Rattle.filter.specs.Shape.{Found, clausesOf}
+use Rattle.filter.specs.Request.{names, spelling, requestBy}
+use Rattle.filter.specs.Shape.{clausesOf}
 
 -- a clause's name as it stands in the filter
 abbrev pub nameOf : List ℕ → Found → List ℕ
-nameOf s f = cut s (f .nameStart) (f .nameLength)
+nameOf s f = cut s (f .«name_start») (f .«name_len»)
 
 -- a clause is of this name, ASCII case ignored
 unfoldable pub isNamed : List ℕ → Name → Found → Bool

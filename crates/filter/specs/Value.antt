@@ -11,6 +11,8 @@ use Rattle.octets.specs.Lists.{holds}
 use Rattle.octets.specs.NameRule.{without}
 use Rattle.octets.specs.Number.{little}
 use Rattle.octets.specs.Utf8.{isUtf8}
+use Rattle.filter.specs.declared.Judged.{Judged}
+use Rattle.filter.specs.declared.Judged.the-variants as judged
 use Rattle.filter.specs.declared.Request.{Request}
 use Rattle.filter.specs.Request.{octetsOf}
 
@@ -63,3 +65,8 @@ withVersion s r (some v) = good (pingOf s r v)
 
 unfoldable pub pingIn : List ℕ → Request → Try Ping
 pingIn s r = unless (wrongValue s r) ClauseValue (withVersion s r (versionAsked s r))
+
+-- the answer of judging a request's values, as the enum that the call returns
+abbrev pub judgedAs : Try Ping → Judged
+judgedAs (refused r) = judged.Refused r
+judgedAs (good p) = judged.Version (p .version)

@@ -1,5 +1,6 @@
 -- Document 01, "The filter": the writer, with 6, 5 and 19.
-use mathlib.Core.Bool.{Bool, true, false, cond, not}
+pub mod Properties
+use mathlib.Core.Bool.{cond, not}
 use mathlib.Core.List.{List, [], _∷_, _++_, flatMap}
 use mathlib.Core.Option.{Option, none, some}
 use Prim.Native.Nat.{ℕ}
@@ -9,10 +10,11 @@ use Rattle.answers.specs.declared.Refusal.the-variants.{FilterShape, FilterLeng
 use Rattle.answers.specs.Try.{Try, refused, good, unless}
 use Rattle.octets.specs.Lists.{any}
 use Rattle.octets.specs.Number.{bigOctets}
+use Rattle.filter.specs.declared.Name.{Name}
 use Rattle.filter.specs.declared.Request.{Request}
 use Rattle.filter.specs.declared.Written.{Written}
 use Rattle.filter.specs.declared.Written.the-variants as written
-use Rattle.filter.specs.Request.{Name, names, spelling, clause, isPresent, octetsOf}
+use Rattle.filter.specs.Request.{names, spelling, clause, isPresent, octetsOf}
 
 -- the shortest length
 unfoldable pub lengthOctets : ℕ → List ℕ

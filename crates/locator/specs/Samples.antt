@@ -8,7 +8,8 @@ use lib.ListN.{length, take, replicate}
 use Rattle.answers.specs.declared.Form.{Form}
 use Rattle.answers.specs.declared.Form.the-variants.{Nt40, Response, Ex}
 use Rattle.answers.specs.Try.{Try, refused, good}
-use Rattle.filter.specs.Request.{Name, user, aac, domainGuid, ntVer}
+use Rattle.filter.specs.declared.Name.{Name}
+use Rattle.filter.specs.declared.Name.the-variants.{User, Aac, DomainGuid, NtVer}
 use Rattle.filter.specs.Shape.{elementAt, equality, one, siblings, andOf, clausesOf}
 use Rattle.filter.specs.Taken.{isNamed, strange, twice, requestOf, requestIn}
 use Rattle.filter.specs.Value.{wrongValue, versionAsked, pingIn}
@@ -116,7 +117,7 @@ filter : List Value → List ℕ
 filter vs = element 0xA0 (flatMap (λ v. equalityFor (v .name) (some (v .octets))) vs)
 
 version : ℕ → Value
-version v = record { name = ntVer; octets = u32 v }
+version v = record { name = NtVer; octets = u32 v }
 
 -- the filter that document 01 writes out, for version 6
 six : List ℕ
@@ -168,7 +169,7 @@ asks : ℕ → List Value → List ℕ
 asks v more = filter (version v ∷ more)
 
 named : List ℕ → Value
-named s = record { name = user; octets = s }
+named s = record { name = User; octets = s }
 
 -- a row: what the definitions give, and what the document says is due
 pub record Row : Type 0 where
@@ -199,10 +200,10 @@ samples =
     ∷ row (summary (pings 0x200 (asks 6 []) 2000)) (0 ∷ 30 ∷ 1 ∷ 1 ∷ 19 ∷ [])
     ∷ row (summary (pings 0x200 (asks 0x01000006 []) 2000)) (0 ∷ 72 ∷ 1 ∷ 3 ∷ 23 ∷ [])
     -- P8: a GUID clause of sixteen zeros
-    ∷ row (summary (pings 0 (asks 6 (record { name = domainGuid; octets = replicate 16 0 } ∷ [])) 2000)) (refusal 12)
+    ∷ row (summary (pings 0 (asks 6 (record { name = DomainGuid; octets = replicate 16 0 } ∷ [])) 2000)) (refusal 12)
     -- P9: without and with AAC
     ∷ row (summary (pings 0 (asks 6 (named ann ∷ [])) 2000)) (0 ∷ 76 ∷ 1 ∷ 3 ∷ 25 ∷ [])
-    ∷ row (summary (pings 0 (asks 6 (named ann ∷ record { name = aac; octets = u32 0x10 } ∷ [])) 2000)) (0 ∷ 76 ∷ 1 ∷ 3 ∷ 23 ∷ [])
+    ∷ row (summary (pings 0 (asks 6 (named ann ∷ record { name = Aac; octets = u32 0x10 } ∷ [])) 2000)) (0 ∷ 76 ∷ 1 ∷ 3 ∷ 23 ∷ [])
     -- P10: an empty user, and none
     ∷ row (summary (pings 0 (asks 6 (named [] ∷ [])) 2000)) (0 ∷ 72 ∷ 1 ∷ 3 ∷ 25 ∷ [])
     ∷ row (summary (pings 0 (asks 6 []) 2000)) (0 ∷ 72 ∷ 1 ∷ 3 ∷ 23 ∷ [])

@@ -1,4 +1,5 @@
 pub mod Lists
+pub mod Buffer
 pub mod Number
 pub mod Text
 pub mod Class

@@ -9,7 +9,7 @@ use native.Mathlib.Omega.{arith}
 use native.Mathlib.Numerals.{add-one}
 use lib.ListN.{length, getD, take, drop, length-take, length-drop, drop-of-length-le}
 use lib.Seq.{drop-cons, getD-take, getD-drop, take-take, drop-drop, take-nil, drop-nil, take-all, take-append-seam, drop-append-seam, take-append-le, drop-append-le, length-take-le}
-use Rattle.octets.specs.Lists.{all, any, first, firstOr, keep, keepIf, cut, pieces, apart}
+use Rattle.octets.specs.Lists.{all, any, first, firstOr, keep, keepIf, cut, pieces, apart, isSome}
 
 module _ {A : Type 0} where
   module _ (p : A → Bool) (s : List A) (i : ℕ) (d : A) (h : i < length s) where
@@ -281,3 +281,88 @@ module _ {A : Type 0} where
       let b : w ≤ length s = omega arith in
       let c : n * w ≤ length (drop w s) = simp length-drop (omega arith) in
       (length-take-le w s b, pieces-wide n w (drop w s) c)
+
+  -- something is found where the test holds of some element
+  pub first-any : (p : A → Bool) (xs : List A) → isSome (first p xs) ≡ any p xs
+  unfolding first any
+  first-any p [] = refl
+  first-any p (x ∷ xs) = found (p x) (first-any p xs)
+    where
+      found : (b : Bool) → isSome (first p xs) ≡ any p xs → isSome (firstOr b x (first p xs)) ≡ (b || any p xs)
+      found true e = refl
+      found false e = e
+
+  -- the test holds of what is found
+  pub first-holds : (p : A → Bool) (xs : List A) (y : A) → first p xs ≡ some y → p y ≡ true
+  unfolding first
+  first-holds p [] y e = let z : _≡_ {A = ℕ} 0 1 = cc in absurd (omega arith)
+  first-holds p (x ∷ xs) y e = found (p x) refl e (first-holds p xs y)
+    where
+      found : (b : Bool) → p x ≡ b → firstOr b x (first p xs) ≡ some y → (first p xs ≡ some y → p y ≡ true) → p y ≡ true
+      found true q f rest = let h : x ≡ y = cc in ap p (sym h) ∙ q
+      found false q f rest = rest f
+
+  -- tests that agree on each element
+  pub any-ext : (p q : A → Bool) (xs : List A) → ((x : A) → p x ≡ q x) → any p xs ≡ any q xs
+  unfolding any
+  any-ext p q [] e = refl
+  any-ext p q (x ∷ xs) e = rw (e x, any-ext p q xs e)
+
+  pub any-never : (xs : List A) → any (λ x. false) xs ≡ false
+  unfolding any
+  any-never [] = refl
+  any-never (x ∷ xs) = any-never xs
+
+  pub any-or : (p q : A → Bool) (xs : List A) → any (λ x. p x || q x) xs ≡ (any p xs || any q xs)
+  unfolding any
+  any-or p q [] = refl
+  any-or p q (x ∷ xs) = rw (any-or p q xs) (regroup (p x) (q x) (any p xs) (any q xs))
+    where
+      regroup : (a b c d : Bool) → (a || b || (c || d)) ≡ ((a || c) || (b || d))
+      regroup true b c d = refl
+      regroup false true true d = refl
+      regroup false true false d = refl
+      regroup false false c d = refl
+
+  -- a test of each element, at one place
+  pub any-false : (p : A → Bool) (xs : List A) (i : ℕ) (d : A) → i < length xs → any p xs ≡ false → p (getD xs i d) ≡ false
+  unfolding any
+  any-false p [] i d h e = absurd (not-suc-le-zero h)
+  any-false p (x ∷ xs) zero d h e = here (p x) e
+    where
+      here : (b : Bool) → (b || any p xs) ≡ false → b ≡ false
+      here true q = q
+      here false q = refl
+  any-false p (x ∷ xs) (suc i) d h e = any-false p xs i d (omega arith) (there (p x) e)
+    where
+      there : (b : Bool) → (b || any p xs) ≡ false → any p xs ≡ false
+      there true q = let z : _≡_ {A = ℕ} 0 1 = cc in absurd (omega arith)
+      there false q = q
+
+  pub all-true : (p : A → Bool) (xs : List A) (i : ℕ) (d : A) → i < length xs → all p xs ≡ true → p (getD xs i d) ≡ true
+  unfolding all
+  all-true p [] i d h e = absurd (not-suc-le-zero h)
+  all-true p (x ∷ xs) zero d h e = here (p x) e
+    where
+      here : (b : Bool) → (b && all p xs) ≡ true → b ≡ true
+      here true q = refl
+      here false q = q
+  all-true p (x ∷ xs) (suc i) d h e = all-true p xs i d (omega arith) (there (p x) e)
+    where
+      there : (b : Bool) → (b && all p xs) ≡ true → all p xs ≡ true
+      there true q = q
+      there false q = let z : _≡_ {A = ℕ} 0 1 = cc in absurd (omega arith)
+
+  -- a search for one element of which the test holds: what is left at i
+  module _ (p : A → Bool) (s : List A) (i : ℕ) where
+    pub any-found : (d : A) → i < length s → p (getD s i d) ≡ true → any p (drop i s) ≡ true
+    unfolding any
+    any-found d h e = rw (drop-cons s i d h, e)
+
+    pub any-next : (d : A) → i < length s → p (getD s i d) ≡ false → any p (drop i s) ≡ any p (drop (i + 1) s)
+    unfolding any
+    any-next d h e = rw (add-one, drop-cons s i d h, e)
+
+    pub any-end : length s ≤ i → any p (drop i s) ≡ false
+    unfolding any
+    any-end h = rw (drop-of-length-le s h)

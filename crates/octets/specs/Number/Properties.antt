@@ -49,6 +49,10 @@ pub u32-halves : (s : List ℕ) (at : ℕ) → at + 4 ≤ length s → little (c
 unfolding little
 u32-halves s at h = rw (cut-four s at h, cut-two s at (omega arith)) (omega arith)
 
+pub big-one : (s : List ℕ) (at : ℕ) → at < length s → big (cut s at 1) ≡ getD s at 0
+unfolding big little
+big-one s at h = rw (cut-cons s at 0 0) (omega arith)
+
 pub big-two : (s : List ℕ) (at : ℕ) → at + 2 ≤ length s → big (cut s at 2) ≡ 256 * getD s at 0 + getD s (at + 1) 0
 unfolding big little
 big-two s at h = rw (cut-two s at h) (omega arith)

@@ -7,9 +7,10 @@ use native.Mathlib.Numerals.{add-one}
 use lib.Dec.{eqb, leb}
 use lib.ListN.{length, getD, drop, drop-of-length-le}
 use lib.Seq.{drop-cons}
-use borrow.Author.Tests.{eq-eqb, ne-eqb, eqb-true, leb-true}
-use Rattle.octets.specs.Text.{same, within}
+use borrow.Author.Tests.{eq-eqb, ne-eqb, eqb-true, leb-true, eqb-false}
+use Rattle.octets.specs.Text.{same, within, lower, sameFolded}
 use Rattle.octets.specs.Lists.Properties.{both-left, both-right, true-not-false}
+use native.Mathlib.Omega.{arith}
 
 -- texts of other lengths are not the same
 pub same-lengths : (x y : List ℕ) → (length x ≡ length y → ⊥) → same x y ≡ false
@@ -68,3 +69,40 @@ within-low low high n e = leb-true low n (both-left (leb low n) (leb n high) e)
 
 pub within-high : (low high n : ℕ) → within low high n ≡ true → n ≤ high
 within-high low high n e = leb-true n high (both-right (leb low n) (leb n high) e)
+
+-- octets that test as the same are the same
+pub same-eq : (xs ys : List ℕ) → same xs ys ≡ true → xs ≡ ys
+unfolding same
+same-eq [] [] e = refl
+same-eq [] (y ∷ ys) e = let z : _≡_ {A = ℕ} 0 1 = cc in absurd (omega arith)
+same-eq (x ∷ xs) [] e = let z : _≡_ {A = ℕ} 0 1 = cc in absurd (omega arith)
+same-eq (x ∷ xs) (y ∷ ys) e = both (eqb x y) refl e (same-eq xs ys)
+  where
+    both : (b : Bool) → eqb x y ≡ b → (b && same xs ys) ≡ true → (same xs ys ≡ true → xs ≡ ys) → x ∷ xs ≡ y ∷ ys
+    both true q t rest =
+        let h : x ≡ y = eqb-true x y q in
+        let r : xs ≡ ys = rest t in
+        cc
+    both false q t rest = let z : _≡_ {A = ℕ} 0 1 = cc in absurd (omega arith)
+
+pub same-sym : (xs ys : List ℕ) → same xs ys ≡ same ys xs
+unfolding same
+same-sym [] [] = refl
+same-sym [] (y ∷ ys) = refl
+same-sym (x ∷ xs) [] = refl
+same-sym (x ∷ xs) (y ∷ ys) = heads (eqb x y) refl (same-sym xs ys)
+  where
+    heads : (b : Bool) → eqb x y ≡ b → same xs ys ≡ same ys xs → (eqb x y && same xs ys) ≡ (eqb y x && same ys xs)
+    heads true q e =
+        let h : x ≡ y = eqb-true x y q in
+        rw (q, eq-eqb y x (sym h)) e
+    heads false q e =
+        let h : eqb y x ≡ false = ne-eqb y x (λ (p : y ≡ x). eqb-false x y q (sym p)) in
+        rw (q, h)
+
+-- texts that are the same with case ignored compare alike
+pub folded-left : (xs ys zs : List ℕ) → sameFolded xs ys ≡ true → sameFolded xs zs ≡ sameFolded ys zs
+folded-left xs ys zs e = ap (λ (l : List ℕ). same l (map lower zs)) (same-eq (map lower xs) (map lower ys) e)
+
+pub folded-sym : (xs ys : List ℕ) → sameFolded xs ys ≡ sameFolded ys xs
+folded-sym xs ys = same-sym (map lower xs) (map lower ys)
