@@ -1,0 +1,39 @@
+-- Document 01, "The filter": "Taking apart what it wrote gives the same clauses." The statements; RoundTrip/Properties.antt has the proofs.
+pub mod Elements
+pub mod Clauses
+pub mod Properties
+use mathlib.Core.Path.{_≡_}
+use mathlib.Core.List.{List}
+use Prim.Native.Nat.{ℕ}
+use lib.ListN.{length, take}
+use Rattle.answers.specs.Try.{good}
+use Rattle.octets.specs.Buffer.{over}
+use Rattle.filter.specs.declared.Name.{Name}
+use Rattle.filter.specs.declared.Request.{Request}
+use Rattle.filter.specs.declared.Taken.{Taken}
+use Rattle.filter.specs.declared.Taken.the-variants as taken
+use Rattle.filter.specs.declared.Written.{Written}
+use Rattle.filter.specs.declared.Written.the-variants as written
+use Rattle.filter.specs.Request.{clause, octetsOf}
+use Rattle.filter.specs.Taken.{requestIn, takenAs}
+use Rattle.filter.specs.Write.{filterFor, writtenAs, writtenOctets}
+
+-- the same clauses: for each name both are absent, or both are present with the same octets
+abbrev pub SameClauses : List ℕ → Request → List ℕ → Request → Type 0
+SameClauses s q source r = (name : Name) → octetsOf s (clause q name) ≡ octetsOf source (clause r name)
+
+-- of the definitions: for all clauses and rooms where the writer refuses nothing, its octets are taken apart to the same clauses
+abbrev pub RoundTrip : Type 0
+RoundTrip =
+    (source : List ℕ) (r : Request) (room : ℕ) (octets : List ℕ) → filterFor source r room ≡ good octets
+    → (q : Request) × (requestIn octets ≡ good q) × SameClauses octets q source r
+
+-- of the two calls, by what their contracts ensure: where `write_filter` answers with a length, `take_apart` of that many octets of the buffer answers with the same clauses
+abbrev pub CallsRoundTrip : Type 0
+CallsRoundTrip =
+    (source : List ℕ) (r : Request) (before after : List ℕ) (w : Written) (n : ℕ) (t : Taken)
+    → w ≡ writtenAs (filterFor source r (length before))
+    → after ≡ over (writtenOctets (filterFor source r (length before))) before
+    → w ≡ written.Length n
+    → t ≡ takenAs (requestIn (take n after))
+    → (q : Request) × (t ≡ taken.Request q) × SameClauses (take n after) q source r
