@@ -3,7 +3,6 @@ use mathlib.Core.Bool.{Bool, true, false, cond, not, _&&_, _||_}
 use mathlib.Core.List.{List, [], _∷_}
 use mathlib.Core.Option.{Option, none, some}
 use Prim.Native.Nat.{ℕ, _+_}
-use lib.Bits.{bitAnd}
 use lib.Dec.{eqb}
 use Rattle.answers.specs.declared.Form.{Form}
 use Rattle.answers.specs.declared.Form.the-variants.{Nt40, Response, Ex}
@@ -12,9 +11,10 @@ use Rattle.octets.specs.Lists.{holds, isSome}
 use Rattle.octets.specs.Number.{has, little}
 use Rattle.reply.specs.Reply.{Reply}
 use Rattle.table.specs.declared.SiteNumber.{SiteNumber}
-use Rattle.table.specs.Records.{Server, Context, Account, Site, sameSite}
+use Rattle.table.specs.Records.{Server, Context, Site, sameSite}
 use Rattle.table.specs.Table.{Table}
-use Rattle.locator.specs.Find.{contextByDnsName, accountByName, siteByNumber, siteIfAny, clientSite}
+use Rattle.table_find.specs.Find.{contextByDnsName, accountByName, siteByNumber, siteIfAny, clientSite}
+use Rattle.table_find.specs.LogOn.{mayLogOn}
 
 -- the roles and states of the server block, from bit 0
 abbrev pub PDC : ℕ
@@ -69,10 +69,6 @@ frsPaused = 0x8
 abbrev pub aacOf : Option (List ℕ) → ℕ
 aacOf none = 0
 aacOf (some octets) = little octets
-
--- an account is not disabled, and the allowed kinds meet its own
-unfoldable pub mayLogOn : ℕ → Account → Bool
-mayLogOn aac a = not (has (a .control) 0x1) && has (bitAnd aac (a .control)) 0x1D8
 
 -- document 01's user x is not none, for the user asked for
 unfoldable pub isKnown : Table → Context → ℕ → List ℕ → Bool

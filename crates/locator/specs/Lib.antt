@@ -1,4 +1,3 @@
-pub mod Find
 pub mod Judge
 pub mod Choose
 pub mod Answer

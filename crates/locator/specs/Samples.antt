@@ -42,8 +42,9 @@ use Rattle.locator.specs.declared.Answer.{Answer}
 use Rattle.locator.specs.declared.Answer.the-variants as answer
 use Rattle.locator.specs.Answer.{answerTo, answerAs, octetsWritten, numberOf, lengthOf, wrongUser, replyTo}
 use Rattle.locator.specs.Answer as answers
-use Rattle.locator.specs.Choose.{mayLogOn, isKnown, userUnknown, formOf, isHeldBack, opcodeOf, namesApplication, exFlags, responseFlags, nextSite, replyFor}
-use Rattle.locator.specs.Find.{contextsSearched, contextByGuid, isNamedBy, contextByDnsName, holdsSid, contextBySid, contextByNumber, defaultContext, accountByName, siteByNumber, subnetFor, clientSite}
+use Rattle.locator.specs.Choose.{isKnown, userUnknown, formOf, isHeldBack, opcodeOf, namesApplication, exFlags, responseFlags, nextSite, replyFor}
+use Rattle.table_find.specs.Find.{contextsSearched, contextByGuid, isNamedBy, contextByDnsName, holdsSid, contextBySid, contextByNumber, defaultContext, accountByName, siteByNumber, subnetFor, clientSite}
+use Rattle.table_find.specs.LogOn.{mayLogOn}
 use Rattle.locator.specs.Judge.{contextUsed, contextIn}
 
 -- the base table

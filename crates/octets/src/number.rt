@@ -2,7 +2,7 @@
 ghost use mathlib.Core.Path.{_≡_};
 ghost use Prim.Native.Nat.{_+_, _≤_, _<_};
 ghost use lib.ListN.{length};
-ghost use Rattle.octets.specs.Number.{u16At, u32At, big};
+ghost use Rattle.octets.specs.Number.{u16At, u32At, big, has};
 ghost use Rattle.octets.specs.Lists.{cut};
 
 // An octet as a wider number; it stays below 256.
@@ -42,4 +42,11 @@ pub fn big_u32_at(s: &[u8], at: usize) -> u32
     ensures { λ r. ⌜ r ≡ big (cut (now (s .entry)) at 4) ⌝ }
 {
     65536 * (big_u16_at(s, at) as u32) + (big_u16_at(s, at + 2) as u32)
+}
+
+// Whether some bit of a mask is set.
+pub fn has_bits(bits: u32, mask: u32) -> bool
+    ensures { λ r. ⌜ r ≡ has bits mask ⌝ }
+{
+    bits & mask != 0
 }

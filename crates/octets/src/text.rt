@@ -79,7 +79,7 @@ fn folded(x: u8, ignore_case: bool) -> u8
 }
 
 // Whether two texts are the same, octet for octet as they are compared.
-fn alike(a: &[u8], b: &[u8], ignore_case: bool) -> bool
+pub fn alike(a: &[u8], b: &[u8], ignore_case: bool) -> bool
     ensures { λ r. ⌜ r ≡ same (map (foldIf «ignore_case») (now (a .entry))) (map (foldIf «ignore_case») (now (b .entry))) ⌝ }
 {
     if a.len() != b.len() {

@@ -19,7 +19,7 @@ use Rattle.filter.specs.Taken.{requestIn}
 use Rattle.filter.specs.Value.{Ping, isNumber, isUser, wrongValue, pingOf, versionAsked, withVersion, pingIn}
 use Rattle.locator.specs.Answer.{Outcome, wrongUser, replyTo, answerTo}
 use Rattle.locator.specs.Choose.{PDC, catalog, KDC, timeService, readOnly, goodTime, webService, since2012, since2012R2, later2003R2, flag, opcodeOf, exFlags, responseFlags, flagsOf, orNone, nameOfSite, nextTo, onlyIf, nextSite, replyFor, formOf, level2008, isAt, namesApplication}
-use Rattle.locator.specs.Find.{contextsSearched, contextByGuid, contextByDnsName, contextBySid, holdsSid, contextByNumber, defaultContext, siteByNumber, siteIfAny, siteOfSubnet, siteFor, clientSite, subnetFor}
+use Rattle.table_find.specs.Find.{contextsSearched, contextByGuid, contextByDnsName, contextBySid, holdsSid, contextByNumber, defaultContext, siteByNumber, siteIfAny, siteOfSubnet, siteFor, clientSite, subnetFor}
 use Rattle.locator.specs.Judge.{contextFor, contextUsed, orWhole, contextIn}
 use Rattle.octets.specs.Label.{labels}
 use Rattle.octets.specs.Lists.{any, first, holds, isSome}

@@ -9,7 +9,7 @@ use borrow.Author.Tests.{eqb-true, eqb-false, eq-eqb, ne-eqb, not-false}
 use lib.Dec.{eqb}
 use lib.ListN.{length, getD}
 use Rattle.octets.specs.Lists.{all, any, first, firstOr, apart, isSome}
-use Rattle.octets.specs.Lists.Properties.{first-any, first-holds, any-ext, any-or, any-never, any-false, all-true}
+use Rattle.octets.specs.Lists.Properties.{first-any, first-holds, any-ext, any-either, any-never, any-false, all-true}
 use Rattle.octets.specs.Text.{same, lower, sameFolded}
 use Rattle.octets.specs.Text.Properties.{folded-left, folded-sym}
 use Rattle.filter.specs.declared.Clause.{Clause}
@@ -273,7 +273,7 @@ module _ (s : List ℕ) where
   twice-one g f fs m q false i =
       let a : any (there (stored (g .request) m (Present (f .start) (f .len)))) fs ≡ (any (there (g .request)) fs || any (sameName f) fs) =
       any-ext (there (stored (g .request) m (Present (f .start) (f .len)))) (λ h. there (g .request) h || sameName f h) fs (λ h. stored-there (g .request) m (f .start) (f .len) f h q)
-      ∙ any-or (there (g .request)) (sameName f) fs in
+      ∙ sym (any-either (there (g .request)) (sameName f) fs) in
       ap (λ (x : Bool). g .twice || (x || twice s fs)) a ∙ ap (λ (x : Bool). g .twice || x) (or-assoc (any (there (g .request)) fs) (any (sameName f) fs) (twice s fs))
 
   pub all-twice : (g : Gathered) (fs : List Found) → strange s fs ≡ false → allAdded s g fs .twice ≡ (g .twice || (any (there (g .request)) fs || twice s fs))

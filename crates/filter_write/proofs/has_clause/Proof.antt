@@ -4,7 +4,7 @@ use Prim.Native.Nat.{_-_, _≤_}
 use native.Mathlib.Omega.{arith}
 use lib.ListN.{drop, getD}
 use Rattle.octets.specs.Lists.{any}
-use Rattle.octets.specs.Lists.Properties.{any-next, any-found, any-end}
+use Rattle.octets.specs.Lists.Properties.{any-holds, any-next, any-end}
 use Rattle.filter.specs.declared.Name.{Name}
 use Rattle.filter.specs.declared.Name.the-variants.{NtVer}
 use Rattle.filter.specs.Request.{names, clause, isPresent}
@@ -36,7 +36,7 @@ returns c =
     let l = c .before .before .before .before .before .loop in
     let e : isPresent (clause (p .request) (getD names (l .i) NtVer)) ≡ true =
     ap (λ (n : Name). isPresent (clause (p .request) n)) (sym (c .before .before .before .name-at .ensures)) ∙ ap isPresent (sym (c .before .before .clause .ensures)) ∙ sym (c .before .is-present .ensures) ∙ c .if1 .taken in
-    sym (any-found (λ name. isPresent (clause (p .request) name)) names (l .i) NtVer (c .before .before .before .before .loop-test .taken) e) ∙ l .inv .1
+    any-holds (λ name. isPresent (clause (p .request) name)) names (l .i) NtVer (c .before .before .before .before .loop-test .taken) e ∙ l .inv .1
 
 add-i : tie.Need-add-i Inv-loop μ-loop
 add-i c = omega arith
@@ -50,13 +50,13 @@ loop-again c =
     let l = c .before .before .before .before .before .loop in
     let e : isPresent (clause (p .request) (getD names (l .i) NtVer)) ≡ false =
     ap (λ (n : Name). isPresent (clause (p .request) n)) (sym (c .before .before .before .name-at .ensures)) ∙ ap isPresent (sym (c .before .before .clause .ensures)) ∙ sym (c .before .is-present .ensures) ∙ c .if1 .left in
-    (omega arith, sym (any-next (λ name. isPresent (clause (p .request) name)) names (l .i) NtVer (c .before .before .before .before .loop-test .taken) e) ∙ l .inv .1)
+    (omega arith, any-next (λ name. isPresent (clause (p .request) name)) names (l .i) NtVer (c .before .before .before .before .loop-test .taken) e ∙ l .inv .1)
 
 returns-2 : tie.Need-returns-2 Inv-loop μ-loop
 returns-2 c =
     let p = c .before .before .args in
     let l = c .before .loop in
-    sym (any-end (λ name. isPresent (clause (p .request) name)) names (l .i) (c .loop-test .left)) ∙ l .inv .1
+    any-end (λ name. isPresent (clause (p .request) name)) names (l .i) (c .loop-test .left) ∙ l .inv .1
 
 pub has-clause-spec : {M : Type 1} → statement M
 has-clause-spec =

@@ -1,8 +1,8 @@
 -- Laws of tests, stretches and pieces of a list.
-use mathlib.Core.Path.{_≡_, refl, sym, ap, _∙_, subst}
-use mathlib.Core.Bool.{Bool, true, false, _&&_, _||_, and-assoc, or-assoc, cond}
+use mathlib.Core.Path.{_≡_, refl, sym, ap, _∙_, subst, ap₂}
+use mathlib.Core.Bool.{Bool, true, false, _&&_, _||_, and-assoc, or-assoc, cond, not, and-false}
 use mathlib.Core.List.{List, [], _∷_, _++_, map, flatMap}
-use mathlib.Core.Option.{Option, none, some}
+use mathlib.Core.Option.{Option, none, some, Option·map}
 use Prim.Native.Nat.{ℕ, zero, suc, _+_, _-_, _*_, _≤_, _<_}
 use native.Mathlib.Nat.{mul-zero, mul-suc, sub-zero, zero-sub, suc-sub-suc, add-comm, not-suc-le-zero, le-of-suc-le-suc, suc-mul}
 use native.Mathlib.Omega.{arith}
@@ -313,17 +313,6 @@ module _ {A : Type 0} where
   any-never [] = refl
   any-never (x ∷ xs) = any-never xs
 
-  pub any-or : (p q : A → Bool) (xs : List A) → any (λ x. p x || q x) xs ≡ (any p xs || any q xs)
-  unfolding any
-  any-or p q [] = refl
-  any-or p q (x ∷ xs) = rw (any-or p q xs) (regroup (p x) (q x) (any p xs) (any q xs))
-    where
-      regroup : (a b c d : Bool) → (a || b || (c || d)) ≡ ((a || c) || (b || d))
-      regroup true b c d = refl
-      regroup false true true d = refl
-      regroup false true false d = refl
-      regroup false false c d = refl
-
   -- a test of each element, at one place
   pub any-false : (p : A → Bool) (xs : List A) (i : ℕ) (d : A) → i < length xs → any p xs ≡ false → p (getD xs i d) ≡ false
   unfolding any
@@ -353,16 +342,132 @@ module _ {A : Type 0} where
       there true q = q
       there false q = let z : _≡_ {A = ℕ} 0 1 = cc in absurd (omega arith)
 
-  -- a search for one element of which the test holds: what is left at i
-  module _ (p : A → Bool) (s : List A) (i : ℕ) where
-    pub any-found : (d : A) → i < length s → p (getD s i d) ≡ true → any p (drop i s) ≡ true
-    unfolding any
-    any-found d h e = rw (drop-cons s i d h, e)
+-- a search in a list made of another, and in what a test keeps of it
+module _ {A B : Type 0} (f : A → B) (p : B → Bool) where
+  pub first-map : (s : List A) → first p (map f s) ≡ Option·map f (first (λ x. p (f x)) s)
+  unfolding first
+  first-map [] = refl
+  first-map (x ∷ s) = go (p (f x)) (first-map s)
+    where
+      go : (b : Bool) → first p (map f s) ≡ Option·map f (first (λ y. p (f y)) s) → firstOr b (f x) (first p (map f s)) ≡ Option·map f (firstOr b x (first (λ y. p (f y)) s))
+      go true e = refl
+      go false e = e
 
-    pub any-next : (d : A) → i < length s → p (getD s i d) ≡ false → any p (drop i s) ≡ any p (drop (i + 1) s)
-    unfolding any
-    any-next d h e = rw (add-one, drop-cons s i d h, e)
+module _ {A : Type 0} (p q : A → Bool) where
+  pub first-keep : (s : List A) → first p (keep q s) ≡ first (λ x. q x && p x) s
+  unfolding first keep
+  first-keep [] = refl
+  first-keep (x ∷ s) = go (q x) (first-keep s)
+    where
+      go : (b : Bool) → first p (keep q s) ≡ first (λ y. q y && p y) s → first p (keepIf b x (keep q s)) ≡ firstOr (b && p x) x (first (λ y. q y && p y) s)
+      go true e = ap (firstOr (p x) x) e
+      go false e = e
 
-    pub any-end : length s ≤ i → any p (drop i s) ≡ false
+module _ {A : Type 0} where
+  -- pieces of a stretch that holds them all
+  pub pieces-take : (n w m : ℕ) (s : List A) → n * w ≤ m → pieces n w (take m s) ≡ pieces n w s
+  unfolding pieces
+  pieces-take zero w m s h = refl
+  pieces-take (suc n) w m s h =
+      let k : w + n * w ≤ m = omega (arith, suc-mul n w) in
+      ap₂ (λ (x : List A) (xs : List (List A)). x ∷ xs) (take-take w m s (omega arith)) (ap (pieces n w) (drop-take w m s) ∙ pieces-take n w (m - w) (drop w s) (omega arith))
+
+  -- one piece as long as the list
+  pub pieces-one : (w : ℕ) (s : List A) → length s ≤ w → pieces 1 w s ≡ s ∷ []
+  unfolding pieces
+  pieces-one w s h = ap (λ (x : List A). x ∷ []) (take-all w s h)
+
+  module _ (p : A → Bool) (s : List A) (i : ℕ) (d : A) (h : i < length s) where
+    any-step : any p (drop i s) ≡ (p (getD s i d) || any p (drop (i + 1) s))
     unfolding any
-    any-end h = rw (drop-of-length-le s h)
+    any-step = rw (add-one, drop-cons s i d)
+
+    -- what is left at i: the element there passes the test
+    pub any-holds : p (getD s i d) ≡ true → true ≡ any p (drop i s)
+    any-holds e = sym (any-step ∙ ap (λ b. b || any p (drop (i + 1) s)) e)
+
+    -- it fails, and what is left behind it decides
+    pub any-next : p (getD s i d) ≡ false → any p (drop (i + 1) s) ≡ any p (drop i s)
+    any-next e = sym (any-step ∙ ap (λ b. b || any p (drop (i + 1) s)) e)
+
+  pub any-end : (p : A → Bool) (s : List A) (i : ℕ) → length s ≤ i → false ≡ any p (drop i s)
+  unfolding any
+  any-end p s i h = rw (drop-of-length-le s)
+
+  module _ (alike : A → A → Bool) (s : List A) (i : ℕ) (d : A) (h : i < length s) where
+    apart-step : apart alike (drop i s) ≡ (not (any (alike (getD s i d)) (drop (i + 1) s)) && apart alike (drop (i + 1) s))
+    unfolding apart
+    apart-step = rw (add-one, drop-cons s i d)
+
+    -- what is left at i: one behind the element there is like it
+    pub apart-fails : any (alike (getD s i d)) (drop (i + 1) s) ≡ true → false ≡ apart alike (drop i s)
+    apart-fails e = sym (apart-step ∙ ap (λ b. not b && apart alike (drop (i + 1) s)) e)
+
+    -- none is, and what is left behind it decides
+    pub apart-next : any (alike (getD s i d)) (drop (i + 1) s) ≡ false → apart alike (drop (i + 1) s) ≡ apart alike (drop i s)
+    apart-next e = sym (apart-step ∙ ap (λ b. not b && apart alike (drop (i + 1) s)) e)
+
+  pub apart-end : (alike : A → A → Bool) (s : List A) (i : ℕ) → length s ≤ i → true ≡ apart alike (drop i s)
+  unfolding apart
+  apart-end alike s i h = rw (drop-of-length-le s)
+
+  -- two alike in what is left are two alike
+  pub apart-part : (alike : A → A → Bool) (s : List A) (i : ℕ) → false ≡ apart alike (drop i s) → false ≡ apart alike s
+  unfolding apart
+  apart-part alike s zero e = e
+  apart-part alike [] (suc i) e = e
+  apart-part alike (x ∷ s) (suc i) e = sym (ap (λ b. not (any (alike x) s) && b) (sym (apart-part alike s i e)) ∙ and-false (not (any (alike x) s)))
+
+  -- two tests of each element, or of some, are one
+  pub all-both : (p q : A → Bool) (s : List A) → (all p s && all q s) ≡ all (λ x. p x && q x) s
+  unfolding all
+  all-both p q [] = refl
+  all-both p q (x ∷ s) = swap (p x) (all p s) (q x) (all q s) ∙ ap (λ b. p x && q x && b) (all-both p q s)
+    where
+      swap : (a b c e : Bool) → ((a && b) && (c && e)) ≡ ((a && c) && (b && e))
+      swap true true c e = refl
+      swap true false true e = refl
+      swap true false false e = refl
+      swap false b c e = refl
+
+  pub any-either : (p q : A → Bool) (s : List A) → (any p s || any q s) ≡ any (λ x. p x || q x) s
+  unfolding any
+  any-either p q [] = refl
+  any-either p q (x ∷ s) = swap (p x) (any p s) (q x) (any q s) ∙ ap (λ b. p x || q x || b) (any-either p q s)
+    where
+      swap : (a b c e : Bool) → ((a || b) || (c || e)) ≡ ((a || c) || (b || e))
+      swap true b c e = refl
+      swap false true true e = refl
+      swap false true false e = refl
+      swap false false c e = refl
+
+  -- two ways of being alike are one
+  pub apart-either : (a b : A → A → Bool) (s : List A) → (apart a s && apart b s) ≡ apart (λ x y. a x y || b x y) s
+  unfolding apart
+  apart-either a b [] = refl
+  apart-either a b (x ∷ s) =
+      swap (any (a x) s) (apart a s) (any (b x) s) (apart b s)
+      ∙ ap₂ (λ t u. not t && u) (any-either (a x) (b x) s) (apart-either a b s)
+    where
+      swap : (t u v w : Bool) → ((not t && u) && (not v && w)) ≡ (not (t || v) && (u && w))
+      swap true u v w = refl
+      swap false true v w = refl
+      swap false false true w = refl
+      swap false false false w = refl
+
+-- tests of elements that are made from others
+module _ {A B : Type 0} (f : A → B) where
+  pub all-map : (p : B → Bool) (s : List A) → all p (map f s) ≡ all (λ x. p (f x)) s
+  unfolding all
+  all-map p [] = refl
+  all-map p (x ∷ s) = ap (λ b. p (f x) && b) (all-map p s)
+
+  pub any-map : (p : B → Bool) (s : List A) → any p (map f s) ≡ any (λ x. p (f x)) s
+  unfolding any
+  any-map p [] = refl
+  any-map p (x ∷ s) = ap (λ b. p (f x) || b) (any-map p s)
+
+  pub apart-map : (alike : B → B → Bool) (s : List A) → apart alike (map f s) ≡ apart (λ x y. alike (f x) (f y)) s
+  unfolding apart
+  apart-map alike [] = refl
+  apart-map alike (x ∷ s) = ap₂ (λ t u. not t && u) (any-map (alike (f x)) s) (apart-map alike s)

@@ -1,14 +1,15 @@
 -- Laws of numbers in octets.
-use mathlib.Core.Path.{_≡_, refl, sym, ap, _∙_}
+use mathlib.Core.Path.{_≡_, refl, sym, ap, ap₂, _∙_}
 use mathlib.Core.Bool.{Bool, true, false}
 use mathlib.Core.List.{List, [], _∷_, reverse-reverse}
 use Prim.Native.Nat.{ℕ, zero, suc, _+_, _-_, _*_, _/_, _%_, _^_, _≤_, _<_}
-use native.Mathlib.Nat.{zero-mul, mod-lt, div-eq-of-lt, div-lt-iff-lt-mul, pow-suc}
+use native.Mathlib.Nat.{zero-mul, mod-lt, div-eq-of-lt, div-lt-iff-lt-mul, pow-suc, add-zero}
 use native.Mathlib.Omega.{arith}
 use lib.Bits.{bitAnd, and-high}
 use lib.Dec.{eqb, ltb}
-use lib.ListN.{length, getD}
+use lib.ListN.{length, getD, take, drop}
 use lib.Pow.{pow-pos, split, shr-mod}
+use lib.Seq.{getD-drop}
 use borrow.Author.Tests.{eq-eqb, ne-eqb, ltb-true, ltb-false}
 use Rattle.octets.specs.Lists.{cut}
 use Rattle.octets.specs.Lists.Properties.{cut-cons}
@@ -79,3 +80,13 @@ little-back (suc w) n h =
 pub big-back : (w n : ℕ) → n < 256 ^ w → big (bigOctets w n) ≡ n
 unfolding big bigOctets
 big-back w n h = rw (reverse-reverse (littleOctets w n)) (little-back w n h)
+
+-- the same where octets are missing: those count as 0
+pub u16-anywhere : (s : List ℕ) (at : ℕ) → little (cut s at 2) ≡ getD s at 0 + 256 * getD s (at + 1) 0
+unfolding little
+u16-anywhere s at = two (drop at s) ∙ ap₂ (λ (x y : ℕ). x + 256 * y) (getD-drop at s 0 0 ∙ ap (λ (i : ℕ). getD s i 0) (add-zero at)) (getD-drop at s 1 0)
+  where
+    two : (l : List ℕ) → little (take 2 l) ≡ getD l 0 0 + 256 * getD l 1 0
+    two [] = refl
+    two (x ∷ []) = refl
+    two (x ∷ y ∷ l) = omega arith

@@ -1,12 +1,12 @@
--- What a table that passed holds: names that can be written, GUIDs of 16 octets, an address of four.
-use mathlib.Core.Path.{_≡_, refl, sym, _∙_, subst}
-use mathlib.Core.Bool.{Bool, true, false, cond, not, _&&_}
+-- Laws of judging an image: what a table that passed holds, and the answer by the first judgement that fails.
+use mathlib.Core.Path.{_≡_, refl, sym, _∙_, subst, ap}
+use mathlib.Core.Bool.{Bool, true, false, cond, not, _&&_, false≢true}
 use mathlib.Core.List.{List, [], _∷_, map, flatMap}
-use Prim.Native.Nat.{ℕ, zero, suc, _+_, _/_, _%_, _≤_}
+use Prim.Native.Nat.{ℕ, zero, suc, _+_, _/_, _%_, _≤_, _<_}
 use native.Mathlib.Omega.{arith}
 use lib.Dec.{eqb, leb, ltb}
 use lib.ListN.{length, getD}
-use borrow.Author.Tests.{eqb-true, eqb-false, not-true, not-false}
+use borrow.Author.Tests.{eqb-true, eqb-false, not-true, not-false, leb-true, le-leb, lt-leb}
 use Rattle.answers.specs.declared.Refusal.the-variants.{ImageLength, BlockCheck, BlockLayout, TableWhole}
 use Rattle.answers.specs.Try.{good}
 use Rattle.answers.specs.Try.Properties.{unless-good}
@@ -20,11 +20,12 @@ use Rattle.octets.specs.Number.{u16At, u32At}
 use Rattle.octets.specs.Utf16.Properties.{Spoken}
 use Rattle.table.specs.Check.{goodCheck}
 use Rattle.table.specs.Field.{zeros, textAt, textField}
-use Rattle.table.specs.Judgement.{goodLength, tableIn}
+use Rattle.table.specs.Judgement.{goodLength, tableIn, judgedAs}
 use Rattle.table.specs.Layout.{given, serverLayout, forestLayout, sidRoom, isEmpty, contextNetbios, contextLayout, recordLayout, siteLayout, bodyLayout, body, blockLayout, blockPlace, layoutsFrom}
 use Rattle.table.specs.Records.{Server, Context, Site, serverOf, contextOf, siteOf}
 use Rattle.table.specs.Table.{Table, blocksOf, bodies, recordsOf, tableOf}
 use Rattle.table.specs.Whole.{goodWhole}
+use Rattle.table.specs.declared.Judgement.the-variants.{Passed, Refused}
 
 pub record GoodServer (s : Server) : Type 0 where
   pub address : length (s .address) ≡ 4
@@ -250,3 +251,50 @@ judged-good image t e =
     let p = two-pieces (length image / 512) 512 image (omega arith) in
     subst GoodTable is
     (subst (λ (x : List (List ℕ)). Every (λ y. length y ≡ 512) x → layoutsFrom 0 x ≡ true → GoodTable (tableOf x)) (sym (p .3)) (table-good (p .0) (p .1) (p .2)) wide laid)
+
+both : (a b : Bool) → (a && b) ≡ true → (a ≡ true) × (b ≡ true)
+both true b e = (refl, e)
+both false b e = absurd (false≢true e)
+
+module _ (image : List ℕ) where
+  -- a length below, above, and between, where 512 must divide it
+  pub length-below : length image < 1024 → false ≡ goodLength image
+  unfolding goodLength
+  length-below h = rw (lt-leb 1024 (length image) h)
+
+  pub length-above : 1024 ≤ length image → 65536 < length image → false ≡ goodLength image
+  unfolding goodLength
+  length-above h k = rw (le-leb 1024 (length image) h, lt-leb (length image) 65536 k)
+
+  pub length-between : 1024 ≤ length image → length image ≤ 65536 → eqb (length image % 512) 0 ≡ goodLength image
+  unfolding goodLength
+  length-between h k = rw (le-leb 1024 (length image) h, le-leb (length image) 65536 k)
+
+  pub length-bounds : goodLength image ≡ true → (1024 ≤ length image) × (length image ≤ 65536)
+  unfolding goodLength
+  length-bounds e =
+      let ends = both (leb 1024 (length image)) (leb (length image) 65536) (both (leb 1024 (length image) && leb (length image) 65536) (eqb (length image % 512) 0) e .0) in
+      (leb-true 1024 (length image) (ends .0), leb-true (length image) 65536 (ends .1))
+
+  pub refused-length : goodLength image ≡ false → Refused ImageLength ≡ judgedAs (tableIn image)
+  unfolding tableIn
+  refused-length e = rw e
+
+  module _ (l : goodLength image ≡ true) where
+    pub refused-check : all goodCheck (blocksOf image) ≡ false → Refused BlockCheck ≡ judgedAs (tableIn image)
+    unfolding tableIn
+    refused-check e = rw (l, e)
+
+    module _ (c : all goodCheck (blocksOf image) ≡ true) where
+      pub refused-layout : layoutsFrom 0 (blocksOf image) ≡ false → Refused BlockLayout ≡ judgedAs (tableIn image)
+      unfolding tableIn
+      refused-layout e = rw (l, c, e)
+
+      module _ (y : layoutsFrom 0 (blocksOf image) ≡ true) where
+        pub refused-whole : goodWhole (tableOf (blocksOf image)) ≡ false → Refused TableWhole ≡ judgedAs (tableIn image)
+        unfolding tableIn
+        refused-whole e = rw (l, c, y, e)
+
+        pub passed : goodWhole (tableOf (blocksOf image)) ≡ true → Passed ≡ judgedAs (tableIn image)
+        unfolding tableIn
+        passed e = rw (l, c, y, e)

@@ -69,3 +69,11 @@ records-cons kind n w block blocks = go (eqb (getD block 0 0) kind)
     go : (b : Bool) → keep (λ r. not (allZero r)) (flatMap (pieces n w) (map body (keepIf b block (keep (λ c. eqb (getD c 0 0) kind) blocks)))) ≡ usedIf b n w block ++ keep (λ r. not (allZero r)) (flatMap (pieces n w) rest)
     go true = keep-append (λ r. not (allZero r)) (pieces n w (body block)) (flatMap (pieces n w) rest)
     go false = refl
+
+-- the body of the block at a place
+module _ (image : List ℕ) (i : ℕ) (h : i < length image / 512) where
+  pub body-there : body (blockAt image i) ≡ body (getD (blocksOf image) i [])
+  body-there = ap body (sym (block-there image i h))
+
+  pub body-length : length (body (blockAt image i)) ≡ 504
+  body-length = cut-length (blockAt image i) 4 504 (omega (arith, block-length image i h))

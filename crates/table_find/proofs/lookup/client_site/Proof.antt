@@ -1,0 +1,120 @@
+use Prim.Native.Nat.{ℕ, _+_, _≤_}
+use mathlib.Core.Option.{some, Option·map}
+use mathlib.Core.List.{List}
+use mathlib.Core.Path.{_≡_, sym, ap, subst, _∙_}
+use lib.ListN.{length}
+use Rattle.octets.specs.Lists.Properties.{cut-length}
+use Rattle.octets.specs.Lists.{first, cut}
+use Rattle.table.specs.Records.{siteOf}
+use Rattle.table.specs.Table.{blocksOf, tableOf}
+use Rattle.table.specs.declared.SiteNumber.{SiteNumber}
+use Rattle.table_find.specs.Key.{isSite}
+use Rattle.table_find.specs.Found.{LiesIn, siteAt}
+use Rattle.table_find.specs.Find.Properties.{site-search, no-site, lone-site, several-sites}
+use Rattle.table_find.specs.Find.{clientSite}
+use Rattle.table_find.specs.declared.search.SiteKey.the-variants.{Any, OtherThan}
+use borrow.Author.Needs.{needs}
+use Rattle.table_find.proofs.lookup.client_site.Statement.{statement}
+use Rattle.table_find.proofs.lookup.client_site.Tie as tie
+
+-- the first site, where it stands
+first-there : (c : tie.After-at)
+    → some (siteOf (cut (c .before .before .before .before .before .before .args .image .now) (c .at .given .0 .0) 72))
+    ≡ first (isSite Any) (tableOf (blocksOf (c .before .before .before .before .before .before .args .image .now)) .sites)
+first-there c =
+    ap (siteAt (c .before .before .before .before .before .before .args .image .now)) (sym (c .at .given .1))
+    ∙ ap (Option·map siteOf) (c .before .before .first-record .ensures .0)
+    ∙ site-search _ _ Any
+
+lies-there : (c : tie.After-at) → c .at .given .0 .0 + 72 ≤ length (c .before .before .before .before .before .before .args .image .now)
+lies-there c = subst (LiesIn (c .before .before .before .before .before .before .args .image .now) 72) (c .at .given .1) (c .before .before .first-record .ensures .1)
+
+-- the first site of another number
+another : (c : tie.After-first-record2)
+    → siteAt (c .before .before .before .before .before .before .before .before .before .before .before .args .image .now) (c .first-record2 .result)
+    ≡ first
+    (isSite (OtherThan (siteOf (cut (c .before .before .before .before .before .before .before .before .before .before .before .args .image .now) (c .before .before .before .before .before .at .given .0 .0) 72) .number)))
+    (tableOf (blocksOf (c .before .before .before .before .before .before .before .before .before .before .before .args .image .now)) .sites)
+another c =
+    let s = c .before .before .before .before .before .before .before .before .before .before .before .args .image .now in
+    let number = c .before .before .site-number .ensures ∙ ap (λ (r : List ℕ). siteOf r .number) (c .before .before .before .part .ensures) in
+    ap (Option·map siteOf) (c .first-record2 .ensures .0)
+    ∙ site-search _ _ (OtherThan (c .before .before .site-number .result))
+    ∙ ap (λ (n : SiteNumber). first (isSite (OtherThan n)) (tableOf (blocksOf s) .sites)) number
+
+slice-aggregate-first-record : tie.Need-slice-aggregate-first-record
+slice-aggregate-first-record c = search needs
+
+first-record-requires : tie.Need-first-record-requires
+first-record-requires c κs = search needs
+
+enum-known-at : tie.Need-enum-known-at
+enum-known-at c = search needs
+
+enum-told : tie.Need-enum-told
+enum-told c = search needs
+
+returns : tie.Need-returns
+unfolding clientSite
+returns c =
+    let a = c .before .before .before .before .before .before .args in
+    let t = tableOf (blocksOf (a .image .now)) in
+    let found = ap (siteAt (a .image .now)) (sym (c .enum-told .given .1)) ∙ ap (Option·map siteOf) (c .before .before .first-record .ensures .0) ∙ site-search _ _ Any in
+    (no-site t (a .client .now) (t .sites) found, tt)
+
+part-requires : tie.Need-part-requires
+part-requires c κs = search needs
+
+site-number-requires : tie.Need-site-number-requires
+site-number-requires c κs = ap length (c .part .ensures) ∙ cut-length _ _ 72 (lies-there (c .before .before))
+
+slice-aggregate-first-record-2 : tie.Need-slice-aggregate-first-record-2
+slice-aggregate-first-record-2 c = search needs
+
+first-record-requires-2 : tie.Need-first-record-requires-2
+first-record-requires-2 c κs = search needs
+
+enum-told-2 : tie.Need-enum-told-2
+enum-told-2 c = search needs
+
+site-by-subnet-requires : tie.Need-site-by-subnet-requires
+site-by-subnet-requires c κs = search needs
+
+enum-told-3 : tie.Need-enum-told-3
+enum-told-3 c = search needs
+
+returns-2 : tie.Need-returns-2
+unfolding clientSite
+returns-2 c =
+    let a = c .before .before .before .before .before .before .before .before .before .before .before .before .before .before .args in
+    let t = tableOf (blocksOf (a .image .now)) in
+    let other = ap (siteAt (a .image .now)) (sym (c .before .enum-told2 .given .1)) ∙ another (c .before .before .before) in
+    (c .site-by-subnet .ensures .0 ∙ several-sites t (a .client .now) (t .sites) _ _ (first-there (c .before .before .before .before .before .before .before .before)) other, c .site-by-subnet .ensures .1)
+
+returns-3 : tie.Need-returns-3
+unfolding clientSite
+returns-3 c =
+    let a = c .before .before .before .before .before .before .before .before .before .before .before .before .before .args in
+    let t = tableOf (blocksOf (a .image .now)) in
+    let p = c .before .before .before .before .before .before .before in
+    let none-other = ap (siteAt (a .image .now)) (sym (c .enum-told3 .given .1)) ∙ another (c .before .before) in
+    (lone-site t (a .client .now) (t .sites) _ (p .before .before .before .before .before .before .pre .1) (first-there p) none-other, lies-there p)
+
+pub client-site-spec : {M : Type 1} → statement M
+client-site-spec =
+    tie.close
+    (tie.spec
+    slice-aggregate-first-record
+    first-record-requires
+    enum-known-at
+    enum-told
+    returns
+    part-requires
+    site-number-requires
+    slice-aggregate-first-record-2
+    first-record-requires-2
+    enum-told-2
+    site-by-subnet-requires
+    enum-told-3
+    returns-2
+    returns-3)

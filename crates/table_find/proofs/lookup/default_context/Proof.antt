@@ -1,0 +1,32 @@
+use mathlib.Core.Path.{ap, _∙_}
+use Rattle.table.specs.Records.{Server}
+use Rattle.table.specs.Table.{blocksOf, tableOf}
+use Rattle.table_find.specs.Find.{contextByNumber, defaultContext}
+use borrow.Author.Needs.{needs}
+use Rattle.table_find.proofs.lookup.default_context.Statement.{statement}
+use Rattle.table_find.proofs.lookup.default_context.Tie as tie
+
+server-of-requires : tie.Need-server-of-requires
+server-of-requires c κs = search needs
+
+default-context-number-requires : tie.Need-default-context-number-requires
+default-context-number-requires c κs = search needs
+
+context-by-number-requires : tie.Need-context-by-number-requires
+context-by-number-requires c κs = search needs
+
+returns : tie.Need-returns
+unfolding defaultContext
+returns c =
+    let t = tableOf (blocksOf (c .before .before .before .before .args .image .now)) in
+    let number = c .before .default-context-number .ensures ∙ ap (λ (s : Server). s .defaultContext) (c .before .before .server-of .ensures .0) in
+    (c .context-by-number .ensures .0 ∙ ap (contextByNumber t) number, c .context-by-number .ensures .1)
+
+pub default-context-spec : {M : Type 1} → statement M
+default-context-spec =
+    tie.close
+    (tie.spec
+    server-of-requires
+    default-context-number-requires
+    context-by-number-requires
+    returns)

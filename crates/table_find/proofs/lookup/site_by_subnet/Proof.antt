@@ -1,0 +1,59 @@
+use Prim.Native.Nat.{ℕ}
+use mathlib.Core.List.{List}
+use mathlib.Core.Path.{sym, ap, subst, _∙_}
+use lib.ListN.{length}
+use Rattle.octets.specs.Lists.Properties.{cut-length}
+use Rattle.table.specs.Records.{subnetOf}
+use Rattle.table.specs.Table.{blocksOf, tableOf}
+use Rattle.table_find.specs.Found.{LiesIn, subnetAt}
+use Rattle.table_find.specs.Find.{siteIfAny, siteOfSubnet}
+use borrow.Author.Needs.{needs}
+use Rattle.table_find.proofs.lookup.site_by_subnet.Statement.{statement}
+use Rattle.table_find.proofs.lookup.site_by_subnet.Tie as tie
+
+subnet-for-requires : tie.Need-subnet-for-requires
+subnet-for-requires c κs = search needs
+
+enum-known-at : tie.Need-enum-known-at
+enum-known-at c = search needs
+
+part-requires : tie.Need-part-requires
+part-requires c κs = search needs
+
+subnet-site-requires : tie.Need-subnet-site-requires
+subnet-site-requires c κs =
+    let s = c .before .before .before .before .before .before .before .args .image .now in
+    ap length (c .part .ensures) ∙ cut-length s (c .before .before .at .given .0 .0) 12 (subst (LiesIn s 12) (c .before .before .at .given .1) (c .before .before .before .before .subnet-for .ensures .1))
+
+site-if-any-requires : tie.Need-site-if-any-requires
+site-if-any-requires c κs = search needs
+
+enum-told : tie.Need-enum-told
+enum-told c = search needs
+
+returns : tie.Need-returns
+returns c =
+    let s = c .before .before .before .before .before .before .before .before .before .args .image .now in
+    let t = tableOf (blocksOf s) in
+    let site = c .before .subnet-site .ensures ∙ ap (λ (r : List ℕ). subnetOf r .site) (c .before .before .part .ensures) in
+    let subnet = ap (subnetAt s) (sym (c .before .before .before .before .at .given .1)) ∙ c .before .before .before .before .before .before .subnet-for .ensures .0 in
+    (c .site-if-any .ensures .0 ∙ ap (siteIfAny t) site ∙ ap (siteOfSubnet t) subnet, c .site-if-any .ensures .1)
+
+returns-2 : tie.Need-returns-2
+returns-2 c =
+    let s = c .before .before .before .before .before .args .image .now in
+    let subnet = ap (subnetAt s) (sym (c .enum-told .given .1)) ∙ c .before .before .subnet-for .ensures .0 in
+    (ap (siteOfSubnet (tableOf (blocksOf s))) subnet, tt)
+
+pub site-by-subnet-spec : {M : Type 1} → statement M
+site-by-subnet-spec =
+    tie.close
+    (tie.spec
+    subnet-for-requires
+    enum-known-at
+    part-requires
+    subnet-site-requires
+    site-if-any-requires
+    enum-told
+    returns
+    returns-2)

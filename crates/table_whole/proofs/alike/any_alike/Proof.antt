@@ -1,0 +1,78 @@
+use lib.ListN.{getD}
+use Rattle.table_whole.specs.Alike.{alikeBy, likeAt}
+use Rattle.octets.specs.Lists.Properties.{any-holds, any-next, any-end}
+use Rattle.octets.specs.Lists.{any}
+use native.Mathlib.Omega.{arith}
+use lib.ListN.{length, drop}
+use mathlib.Core.Path.{_≡_, refl, sym, ap, _∙_}
+use Prim.Native.Nat.{_-_, _≤_}
+use borrow.Author.Needs.{needs}
+use Rattle.table_whole.proofs.alike.any_alike.Statement.{statement}
+use Rattle.table_whole.proofs.alike.any_alike.Tie as tie
+
+abbrev Inv-loop : tie.InvT-loop
+Inv-loop image piece places w likeness i₀ i = let t = likeAt likeness piece image w in (i ≤ length places) × (any t (drop i places) ≡ any t places)
+
+abbrev μ-loop : tie.MeasureT-loop
+μ-loop image piece places w likeness i₀ i = length places - i
+
+loop-holds : tie.Need-loop-holds Inv-loop μ-loop
+loop-holds c = (omega arith, refl)
+
+mul-part : tie.Need-mul-part Inv-loop μ-loop
+mul-part c = search needs
+
+shared-slice-read-part : tie.Need-shared-slice-read-part Inv-loop μ-loop
+shared-slice-read-part c = search needs
+
+part-requires : tie.Need-part-requires Inv-loop μ-loop
+part-requires c κs = search needs
+
+are-alike-requires : tie.Need-are-alike-requires Inv-loop μ-loop
+are-alike-requires c κs = search needs
+
+-- what was found of the record at i
+here : (c : tie.After-are-alike Inv-loop μ-loop)
+    → let a = c .before .before .before .before .before .before .before .before .args in likeAt (a .likeness) (a .piece .now) (a .image .now) (a .w) (getD (a .places .now) (c .before .before .before .before .loop .i) 0) ≡ c .are-alike .result
+here c = let a = c .before .before .before .before .before .before .before .before .args in sym (c .are-alike .ensures ∙ ap (alikeBy (a .likeness) (a .piece .now)) (c .before .part .ensures))
+
+returns : tie.Need-returns Inv-loop μ-loop
+returns c =
+    let a = c .before .before .before .before .before .before .before .before .before .args in
+    let l = c .before .before .before .before .before .loop in
+    any-holds (likeAt (a .likeness) (a .piece .now) (a .image .now) (a .w)) (a .places .now) (l .i) 0 (omega arith) (here (c .before) ∙ c .if1 .taken) ∙ l .inv .1
+
+add-i : tie.Need-add-i Inv-loop μ-loop
+add-i c = search needs
+
+loop-less : tie.Need-loop-less Inv-loop μ-loop
+loop-less c = search needs
+
+loop-again : tie.Need-loop-again Inv-loop μ-loop
+loop-again c =
+    let a = c .before .before .before .before .before .before .before .before .before .args in
+    let l = c .before .before .before .before .before .loop in
+    (omega arith, any-next (likeAt (a .likeness) (a .piece .now) (a .image .now) (a .w)) (a .places .now) (l .i) 0 (omega arith) (here (c .before) ∙ c .if1 .left) ∙ l .inv .1)
+
+returns-2 : tie.Need-returns-2 Inv-loop μ-loop
+returns-2 c =
+    let a = c .before .before .before .before .before .args in
+    let l = c .before .loop in
+    any-end (likeAt (a .likeness) (a .piece .now) (a .image .now) (a .w)) (a .places .now) (l .i) (omega arith) ∙ l .inv .1
+
+pub any-alike-spec : {M : Type 1} → statement M
+any-alike-spec =
+    tie.close
+    (tie.spec
+    Inv-loop
+    μ-loop
+    loop-holds
+    mul-part
+    shared-slice-read-part
+    part-requires
+    are-alike-requires
+    returns
+    add-i
+    loop-less
+    loop-again
+    returns-2)

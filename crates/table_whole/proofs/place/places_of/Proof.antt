@@ -1,0 +1,109 @@
+use Rattle.table_whole.specs.Place.Properties.{one-more}
+use Rattle.table_whole.specs.Place.Properties.{counted-end, step-in, step-over, room-left}
+use Rattle.table.specs.Table.Properties.{block-length}
+use Rattle.table.specs.Table.{blockAt}
+use borrow.Author.Tests.{eq-eqb, ne-eqb}
+use native.Mathlib.Nat.{mul-le-mul-left}
+use lib.ListN.{getD}
+use mathlib.Core.List.{append-nil}
+use borrow.Author.Needs.{needs}
+use Rattle.table_whole.specs.Place.Properties.{counted-end, room-left}
+use Rattle.table_whole.specs.Place.{recordsAt, countedOf}
+use Rattle.table.specs.Table.{blocksOf}
+use native.Mathlib.Omega.{arith}
+use lib.ListN.{length, take, drop}
+use mathlib.Core.List.{List, _++_}
+use mathlib.Core.Path.{_≡_, refl, sym, ap, _∙_}
+use Prim.Native.Nat.{ℕ, _-_, _*_, _≤_}
+use Rattle.table_whole.proofs.place.places_of.Statement.{statement}
+use Rattle.table_whole.proofs.place.places_of.Tie as tie
+
+abbrev Inv-loop : tie.InvT-loop
+Inv-loop image kind n w each out₀ blocks count₀ i₀ out count i =
+    (length out ≡ length out₀)
+    × (i ≤ blocks)
+    × (count ≤ n * i)
+    × (recordsAt image w (take count out) ++ countedOf each kind n w (drop i (blocksOf image)) ≡ countedOf each kind n w (blocksOf image))
+
+abbrev μ-loop : tie.MeasureT-loop
+μ-loop image kind n w each out₀ blocks count₀ i₀ out count i = blocks - i
+
+loop-holds : tie.Need-loop-holds Inv-loop μ-loop
+loop-holds c = (refl, omega arith, omega arith, refl)
+
+add-i : tie.Need-add-i Inv-loop μ-loop
+add-i c = search needs
+
+block-at-requires : tie.Need-block-at-requires Inv-loop μ-loop
+block-at-requires c κs = search needs
+
+kind-of-requires : tie.Need-kind-of-requires Inv-loop μ-loop
+kind-of-requires c κs =
+    let l = c .before .before .loop in
+    let image = c .before .before .before .before .before .args .image .now in
+    let e : length (c .block-at .result .now) ≡ 512 = ap length (c .block-at .ensures) ∙ block-length image (l .i) (omega arith) in
+    omega arith
+
+mul-add-places : tie.Need-mul-add-places Inv-loop μ-loop
+mul-add-places c = search needs
+
+add-add-places : tie.Need-add-add-places Inv-loop μ-loop
+add-add-places c = search needs
+
+add-places-requires : tie.Need-add-places-requires Inv-loop μ-loop
+add-places-requires c κs =
+    let l = c .before .before .before .before .before .loop in
+    let n = c .before .before .before .before .before .before .before .before .args .n in
+    (omega arith, omega arith, omega arith, omega (arith, room-left n (l .i) (omega arith), l .inv .0, l .inv .2))
+
+loop-less : tie.Need-loop-less Inv-loop μ-loop
+loop-less c = search needs
+
+loop-again : tie.Need-loop-again Inv-loop μ-loop
+loop-again c =
+    let a = c .before .before .before .before .before .before .before .before .before .before .before .args in
+    let l = c .before .before .before .before .before .before .before .before .loop in
+    let add = c .before .before .add-places in
+    let e = sym (c .before .before .before .before .before .kind-of .ensures ∙ ap (λ (b : List ℕ). getD b 0 0) (c .before .before .before .before .before .before .block-at .ensures)) ∙ c .before .before .before .before .if1 .taken in
+    (add .kept .1 .1 .1 .1 .1 .0 ∙ l .inv .0, omega arith, omega (arith, one-more (a .n) (l .i), add .ensures .1, l .inv .2), step-in (a .each) (a .kind) (a .n) (a .w) (a .image .now) (l .i) (omega arith) (take (l .count) (l .out)) _ (omega arith) (eq-eqb _ _ e) (add .ensures .0) ∙ l .inv .3)
+
+loop-less-2 : tie.Need-loop-less-2 Inv-loop μ-loop
+loop-less-2 c = search needs
+
+loop-again-2 : tie.Need-loop-again-2 Inv-loop μ-loop
+loop-again-2 c =
+    let a = c .before .before .before .before .before .before .before .args in
+    let l = c .before .before .before .before .loop in
+    let e : getD (blockAt (a .image .now) (l .i)) 0 0 ≡ a .kind → ⊥ = λ t. c .if1 .left (c .before .kind-of .ensures ∙ ap (λ (b : List ℕ). getD b 0 0) (c .before .before .block-at .ensures) ∙ t) in
+    (l .inv .0, omega arith, omega (arith, one-more (a .n) (l .i)), ap (λ (rs : List (List ℕ)). recordsAt (a .image .now) (a .w) (take (l .count) (l .out)) ++ rs) (step-over (a .each) (a .kind) (a .n) (a .w) (a .image .now) (l .i) (omega arith) (ne-eqb _ _ e)) ∙ l .inv .3)
+
+same-length : tie.Need-same-length Inv-loop μ-loop
+same-length c = search needs
+
+returns : tie.Need-returns Inv-loop μ-loop
+returns c =
+    let a = c .before .before .before .before .args in
+    let l = c .before .loop in
+    let done = counted-end (a .each) (a .kind) (a .n) (a .w) (a .image .now) (l .i) (omega arith) in
+    let most : l .i ≤ 128 = omega arith in
+    (sym (append-nil _) ∙ ap (λ (rs : List (List ℕ)). recordsAt (a .image .now) (a .w) (take (l .count) (l .out)) ++ rs) (sym done) ∙ l .inv .3, omega (arith, mul-le-mul-left (a .n) most))
+
+pub places-of-spec : {M : Type 1} → statement M
+places-of-spec =
+    tie.close
+    (tie.spec
+    Inv-loop
+    μ-loop
+    loop-holds
+    add-i
+    block-at-requires
+    kind-of-requires
+    mul-add-places
+    add-add-places
+    add-places-requires
+    loop-less
+    loop-again
+    loop-less-2
+    loop-again-2
+    same-length
+    returns)
