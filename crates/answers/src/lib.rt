@@ -1,6 +1,8 @@
 // The answers of document 01, "Answer numbers" and "Reading a reply": why a call refuses, and the three forms of a reply.
+ghost use mathlib.Core.Path.{_≡_};
+ghost use Rattle.answers.specs.Refusal.{number};
 
-// A refusal. Its number is `number` of specs/Refusal.antt.
+// A refusal.
 pub enum Refusal {
     ImageLength,
     BlockCheck,
@@ -26,6 +28,38 @@ pub enum Refusal {
     ReplyText,
     ReplyFixed,
     ReplyLeftOver,
+}
+
+// The number that document 01 gives a refusal.
+pub fn number_of(r: Refusal) -> u8
+    ensures { λ n. ⌜ n ≡ number r ⌝ }
+{
+    match r {
+        Refusal::ImageLength => 1,
+        Refusal::BlockCheck => 2,
+        Refusal::BlockLayout => 3,
+        Refusal::TableWhole => 4,
+        Refusal::FilterLength => 5,
+        Refusal::FilterShape => 6,
+        Refusal::ClauseName => 7,
+        Refusal::ClauseTwice => 8,
+        Refusal::ClauseValue => 9,
+        Refusal::NoVersion => 10,
+        Refusal::GuidLength => 11,
+        Refusal::GuidNotHeld => 12,
+        Refusal::DnsNameEmpty => 13,
+        Refusal::DnsNameNotHeld => 14,
+        Refusal::SidShape => 15,
+        Refusal::SidNotHeld => 16,
+        Refusal::SidOfAnother => 17,
+        Refusal::UserLabelEmpty => 18,
+        Refusal::NoRoom => 19,
+        Refusal::ReplyCut => 31,
+        Refusal::ReplyOpcode => 32,
+        Refusal::ReplyText => 33,
+        Refusal::ReplyFixed => 34,
+        Refusal::ReplyLeftOver => 35,
+    }
 }
 
 // The form of a reply.

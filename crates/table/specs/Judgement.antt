@@ -5,6 +5,7 @@ use Prim.Native.Nat.{ℕ, _%_}
 use lib.Dec.{eqb}
 use lib.ListN.{length}
 use Rattle.answers.specs.declared.Refusal.the-variants.{ImageLength, BlockCheck, BlockLayout, TableWhole}
+use Rattle.answers.specs.Refusal.{number}
 use Rattle.answers.specs.Try.{Try, refused, good, unless}
 use Rattle.octets.specs.Lists.{all}
 use Rattle.octets.specs.Text.{within}
@@ -33,3 +34,8 @@ tableIn image =
 abbrev pub judgedAs : Try Table → Judgement
 judgedAs (refused r) = Refused r
 judgedAs (good t) = Passed
+
+-- document 01's number of a judgement
+abbrev pub numberOf : Judgement → ℕ
+numberOf Passed = 0
+numberOf (Refused r) = number r

@@ -1,0 +1,159 @@
+// The answer to one request line.
+ghost use mathlib.Core.Path.{_≡_};
+ghost use Rattle.table.specs.Judgement.{numberOf};
+use crate::parse::decode;
+use crate::parse::is_octets;
+use crate::parse::space_count;
+use crate::parse::word;
+use crate::say::say;
+use crate::say::say_hex;
+use crate::say::say_number;
+use crate::say::say_unknown;
+use crate::write::answer_write;
+use answers::number_of;
+use filter::Clause;
+use filter::Request;
+use filter::Taken;
+use octets::part::part;
+use octets::text::same_octets;
+use table::Judgement;
+
+// The longest line that is read, without its LF.
+const LONGEST: usize = 140100;
+
+fn answer_check(text: &[u8]) {
+    if text.len() != 1016 {
+        say_unknown();
+        return;
+    }
+    let mut block = [0u8; 508];
+    decode(text, &mut block);
+    let check = table::check::check_of(&block);
+    say(b"check ");
+    say_number(check.a as u64);
+    say(b" ");
+    say_number(check.b as u64);
+    say(b"\n");
+}
+
+fn judgement_number(judgement: Judgement) -> u8
+    ensures { λ r. ⌜ r ≡ numberOf judgement ⌝ }
+{
+    match judgement {
+        Judgement::Passed => 0,
+        Judgement::Refused(r) => number_of(r),
+    }
+}
+
+fn answer_table(text: &[u8], space: &mut [u8]) {
+    let n = decode(text, space);
+    let judgement = table_whole::judge::judge(part(space, 0, n));
+    say(b"table ");
+    say_number(judgement_number(judgement) as u64);
+    say(b"\n");
+}
+
+fn say_clause(filter: &[u8], clause: Clause) {
+    match clause {
+        Clause::Absent => say(b" ."),
+        Clause::Present { start, len } => {
+            say(b" =");
+            say_hex(part(filter, start, len));
+        }
+    }
+}
+
+fn say_request(filter: &[u8], r: Request) {
+    let dns_domain = r.dns_domain;
+    say_clause(filter, dns_domain);
+    let host = r.host;
+    say_clause(filter, host);
+    let dns_host_name = r.dns_host_name;
+    say_clause(filter, dns_host_name);
+    let user = r.user;
+    say_clause(filter, user);
+    let aac = r.aac;
+    say_clause(filter, aac);
+    let domain_sid = r.domain_sid;
+    say_clause(filter, domain_sid);
+    let domain_guid = r.domain_guid;
+    say_clause(filter, domain_guid);
+    let nt_ver = r.nt_ver;
+    say_clause(filter, nt_ver);
+}
+
+fn say_taken(filter: &[u8], taken: Taken) {
+    match taken {
+        Taken::Refused(r) => {
+            say(b"filter ");
+            say_number(number_of(r) as u64);
+            say(b" . . . . . . . .\n");
+        }
+        Taken::Request(r) => {
+            say(b"filter 0");
+            say_request(filter, r);
+            say(b"\n");
+        }
+    }
+}
+
+fn answer_filter(text: &[u8], space: &mut [u8]) {
+    let n = decode(text, space);
+    let filter = part(space, 0, n);
+    say_taken(filter, filter::take_apart(filter));
+}
+
+// A line of two words: its kind, and octets.
+fn answer_octets(kind: &[u8], text: &[u8], space: &mut [u8]) {
+    if !is_octets(text) {
+        say_unknown();
+        return;
+    }
+    if same_octets(kind, b"check") {
+        answer_check(text);
+        return;
+    }
+    if same_octets(kind, b"table") {
+        answer_table(text, space);
+        return;
+    }
+    if same_octets(kind, b"filter") {
+        answer_filter(text, space);
+        return;
+    }
+    say_unknown();
+}
+
+// A line of ten words.
+fn answer_clauses(kind: &[u8], line: &[u8], space: &mut [u8]) {
+    if same_octets(kind, b"write") {
+        answer_write(line, space);
+        return;
+    }
+    say_unknown();
+}
+
+// Answers a line, which comes without its LF. An empty line and one that begins with # have no answer.
+pub fn answer_line(line: &[u8], space: &mut [u8]) {
+    if line.len() == 0 {
+        return;
+    }
+    if LONGEST < line.len() {
+        say_unknown();
+        return;
+    }
+    if line[0] == b'#' {
+        return;
+    }
+    let kind = word(line, 0);
+    let spaces = space_count(line);
+    if spaces == 1 {
+        answer_octets(kind, word(line, 1), space);
+        return;
+    }
+    if spaces == 9 {
+        answer_clauses(kind, line, space);
+        return;
+    }
+    say_unknown();
+}

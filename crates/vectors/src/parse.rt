@@ -1,0 +1,184 @@
+// Words and octets of a request line.
+ghost use mathlib.Core.Path.{_≡_};
+ghost use Prim.Native.Nat.{_≤_, _<_};
+ghost use lib.ListN.{length};
+ghost use Rattle.vectors.specs.Bounds.{Small};
+
+// The value of a lowercase hex digit.
+pub enum Digit {
+    Bad,
+    Value(u8),
+}
+
+pub fn hex_value(x: u8) -> Digit
+    ensures { λ r. ⌜ Small r ⌝ }
+{
+    if 48 <= x {
+        if x <= 57 {
+            return Digit::Value(x - 48);
+        }
+    }
+    if 97 <= x {
+        if x <= 102 {
+            return Digit::Value(x - 87);
+        }
+    }
+    Digit::Bad
+}
+
+fn is_digit(x: u8) -> bool {
+    match hex_value(x) {
+        Digit::Bad => false,
+        Digit::Value(_) => true,
+    }
+}
+
+fn all_digits(text: &[u8]) -> bool {
+    let mut i = 0;
+    while i < text.len() {
+        if !is_digit(text[i]) {
+            return false;
+        }
+        i += 1;
+    }
+    true
+}
+
+// Whether a word stands for octets: `-` for none, else two digits for each.
+pub fn is_octets(text: &[u8]) -> bool {
+    if text.len() == 1 {
+        return text[0] == b'-';
+    }
+    if text.len() == 0 {
+        return false;
+    }
+    if text.len() % 2 != 0 {
+        return false;
+    }
+    all_digits(text)
+}
+
+fn value(x: u8) -> u8
+    ensures { λ r. ⌜ r < 16 ⌝ }
+{
+    match hex_value(x) {
+        Digit::Bad => 0,
+        Digit::Value(v) => v,
+    }
+}
+
+// The octets that a word stands for, at the front of out: how many, no more than fit.
+pub fn decode(text: &[u8], out: &mut [u8]) -> usize
+    ensures { λ r. ⌜ r ≤ length (now (out .exit)) ⌝ }
+{
+    let mut i = 0;
+    while i < out.len() {
+        if text.len() / 2 <= i {
+            return i;
+        }
+        out[i] = value(text[2 * i]) * 16 + value(text[2 * i + 1]);
+        i += 1;
+    }
+    i
+}
+
+// Where the word that starts at from ends: at a space, or at the end of the line.
+pub fn word_end(line: &[u8], from: usize) -> usize
+    requires { ⌜ from ≤ length (now line) ⌝ }
+    ensures { λ r. ⌜ (from ≤ r) × (r ≤ length (now (line .entry))) ⌝ }
+{
+    let mut i = from;
+    while i < line.len() {
+        if line[i] == b' ' {
+            return i;
+        }
+        i += 1;
+    }
+    i
+}
+
+fn spaces_in(x: u8) -> usize
+    ensures { λ r. ⌜ r ≤ 1 ⌝ }
+{
+    if x == b' ' { 1 } else { 0 }
+}
+
+// How many spaces part a line's words.
+pub fn space_count(line: &[u8]) -> usize {
+    let mut n = 0;
+    let mut i = 0;
+    while i < line.len() {
+        n += spaces_in(line[i]);
+        i += 1;
+    }
+    n
+}
+
+// Where the word of a number starts, from 0; behind its last word a line has nothing but its end.
+pub fn word_start(line: &[u8], number: usize) -> usize
+    ensures { λ r. ⌜ r ≤ length (now (line .entry)) ⌝ }
+{
+    let mut start = 0;
+    let mut i = 0;
+    while i < number {
+        let end = word_end(line, start);
+        if end == line.len() {
+            return end;
+        }
+        start = end + 1;
+        i += 1;
+    }
+    start
+}
+
+pub fn word(line: &[u8], number: usize) -> &[u8] {
+    let start = word_start(line, number);
+    let end = word_end(line, start);
+    &line[start..end]
+}
+
+// A decimal number.
+pub enum Decimal {
+    Bad,
+    Value(u64),
+}
+
+pub fn decimal_of(text: &[u8]) -> Decimal {
+    if text.len() == 0 {
+        return Decimal::Bad;
+    }
+    if 10 < text.len() {
+        return Decimal::Bad;
+    }
+    let mut n: u64 = 0;
+    let mut i = 0;
+    while i < text.len() {
+        let x = text[i];
+        if x < b'0' {
+            return Decimal::Bad;
+        }
+        if b'9' < x {
+            return Decimal::Bad;
+        }
+        n = n * 10 + (x - b'0') as u64;
+        i += 1;
+    }
+    Decimal::Value(n)
+}
+
+// Whether a word stands for a clause: `.` for an absent one, else `=` and two digits for each octet.
+pub fn is_clause(text: &[u8]) -> bool {
+    if text.len() == 0 {
+        return false;
+    }
+    if text[0] == b'.' {
+        return text.len() == 1;
+    }
+    if text[0] != b'=' {
+        return false;
+    }
+    if text.len() % 2 == 0 {
+        return false;
+    }
+    all_digits(&text[1..])
+}
