@@ -9,9 +9,9 @@ pub data Try (A : Type 0) : Type 0 where
 
 module _ {A : Type 0} where
   -- refused for this reason where the test holds, else as what follows says
-  abbrev pub unless : Bool → Refusal → Try A → Try A
-  unless true r rest = refused r
-  unless false r rest = rest
+  abbrev pub refusedIf : Bool → Refusal → Try A → Try A
+  refusedIf true r rest = refused r
+  refusedIf false r rest = rest
 
   infixl 1 _>>=_
   -- what follows, where nothing was refused so far; a `do` block is made of it

@@ -6,7 +6,7 @@ use mathlib.Core.Option.{Option, none, some}
 use Prim.Native.Nat.{ℕ}
 use lib.Dec.{eqb}
 use Rattle.answers.specs.declared.Refusal.the-variants.{ClauseName, ClauseTwice}
-use Rattle.answers.specs.Try.{Try, good, unless}
+use Rattle.answers.specs.Try.{Try, good, refusedIf}
 use Rattle.octets.specs.Lists.{first}
 use Rattle.octets.specs.Text.{sameFolded}
 use Rattle.filter.specs.declared.Clause.{Clause}
@@ -76,4 +76,4 @@ nothing = record { request = requestBy (λ name. Absent); strange = false; twice
 
 -- the answer that they make
 abbrev pub answerOf : Gathered → Try Request
-answerOf g = unless (g .strange) ClauseName (unless (g .twice) ClauseTwice (good (g .request)))
+answerOf g = refusedIf (g .strange) ClauseName (refusedIf (g .twice) ClauseTwice (good (g .request)))

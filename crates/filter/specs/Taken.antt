@@ -6,7 +6,8 @@ use Prim.Native.Nat.{ℕ}
 use lib.Dec.{ltb}
 use lib.ListN.{length}
 use Rattle.answers.specs.declared.Refusal.the-variants.{FilterLength, FilterShape, ClauseName, ClauseTwice}
-use Rattle.answers.specs.Try.{Try, refused, good, unless}
+use Rattle.answers.specs.Refusal.{number}
+use Rattle.answers.specs.Try.{Try, refused, good, refusedIf}
 use Rattle.octets.specs.Lists.{any, first, apart, cut}
 use Rattle.octets.specs.Text.{sameFolded}
 use Rattle.filter.specs.declared.Clause.{Clause}
@@ -45,12 +46,17 @@ requestOf s fs = requestBy (λ name. asClause (first (isNamed s name) fs))
 
 abbrev pub judged : List ℕ → Option (List Found) → Try Request
 judged s none = refused FilterShape
-judged s (some fs) = unless (strange s fs) ClauseName (unless (twice s fs) ClauseTwice (good (requestOf s fs)))
+judged s (some fs) = refusedIf (strange s fs) ClauseName (refusedIf (twice s fs) ClauseTwice (good (requestOf s fs)))
 
 unfoldable pub requestIn : List ℕ → Try Request
-requestIn s = unless (ltb 2048 (length s)) FilterLength (judged s (clausesOf s))
+requestIn s = refusedIf (ltb 2048 (length s)) FilterLength (judged s (clausesOf s))
 
 -- the answer of taking a filter apart, as the enum that the call returns
 abbrev pub takenAs : Try Request → Taken
 takenAs (refused r) = taken.Refused r
 takenAs (good q) = taken.Request q
+
+-- document 01's number of it
+abbrev pub numberOf : Taken → ℕ
+numberOf (taken.Request q) = 0
+numberOf (taken.Refused r) = number r

@@ -6,7 +6,7 @@ use Prim.Native.Nat.{ℕ}
 use lib.Dec.{eqb, leb}
 use lib.ListN.{length}
 use Rattle.answers.specs.declared.Refusal.the-variants.{ClauseValue, NoVersion}
-use Rattle.answers.specs.Try.{Try, refused, good, unless}
+use Rattle.answers.specs.Try.{Try, refused, good, refusedIf}
 use Rattle.octets.specs.Lists.{holds}
 use Rattle.octets.specs.NameRule.{without}
 use Rattle.octets.specs.Number.{little}
@@ -64,7 +64,7 @@ withVersion s r none = refused NoVersion
 withVersion s r (some v) = good (pingOf s r v)
 
 unfoldable pub pingIn : List ℕ → Request → Try Ping
-pingIn s r = unless (wrongValue s r) ClauseValue (withVersion s r (versionAsked s r))
+pingIn s r = refusedIf (wrongValue s r) ClauseValue (withVersion s r (versionAsked s r))
 
 -- the answer of judging a request's values, as the enum that the call returns
 abbrev pub judgedAs : Try Ping → Judged

@@ -7,7 +7,8 @@ use Prim.Native.Nat.{ℕ}
 use lib.Dec.{ltb}
 use lib.ListN.{length}
 use Rattle.answers.specs.declared.Refusal.the-variants.{FilterShape, FilterLength, NoRoom}
-use Rattle.answers.specs.Try.{Try, refused, good, unless}
+use Rattle.answers.specs.Refusal.{number}
+use Rattle.answers.specs.Try.{Try, refused, good, refusedIf}
 use Rattle.octets.specs.Lists.{any}
 use Rattle.octets.specs.Number.{bigOctets}
 use Rattle.filter.specs.declared.Name.{Name}
@@ -35,9 +36,9 @@ filterOctets source r = element 0xA0 (flatMap (λ name. equalityFor name (octets
 unfoldable pub filterFor : List ℕ → Request → ℕ → Try (List ℕ)
 filterFor source r room =
     let octets = filterOctets source r in
-    unless (not (any (λ name. isPresent (clause r name)) names)) FilterShape
-    (unless (ltb 2048 (length octets)) FilterLength
-    (unless (ltb room (length octets)) NoRoom (good octets)))
+    refusedIf (not (any (λ name. isPresent (clause r name)) names)) FilterShape
+    (refusedIf (ltb 2048 (length octets)) FilterLength
+    (refusedIf (ltb room (length octets)) NoRoom (good octets)))
 
 -- the answer of the writer, as the enum that the call returns
 abbrev pub writtenAs : Try (List ℕ) → Written
@@ -48,3 +49,12 @@ writtenAs (good octets) = written.Length (length octets)
 abbrev pub writtenOctets : Try (List ℕ) → List ℕ
 writtenOctets (refused r) = []
 writtenOctets (good octets) = octets
+
+-- document 01's number of it, and the length, 0 with a refusal
+abbrev pub numberOf : Written → ℕ
+numberOf (written.Length n) = 0
+numberOf (written.Refused r) = number r
+
+abbrev pub lengthOf : Written → ℕ
+lengthOf (written.Length n) = n
+lengthOf (written.Refused r) = 0

@@ -1,6 +1,7 @@
 -- Document 01, "Answer numbers": the answer to a ping, as one function of table image, client address, filter and room.
 use mathlib.Core.Bool.{Bool, true, false, not, _&&_, _||_}
 use mathlib.Core.List.{List, []}
+use mathlib.Core.Option.{Option, none, some}
 use Prim.Native.Nat.{ℕ}
 use lib.Dec.{eqb, ltb}
 use lib.ListN.{length}
@@ -8,7 +9,7 @@ use Rattle.answers.specs.declared.Form.{Form}
 use Rattle.answers.specs.declared.Form.the-variants.{Nt40, Response, Ex}
 use Rattle.answers.specs.declared.Refusal.the-variants.{UserLabelEmpty, NoRoom}
 use Rattle.answers.specs.Refusal.{number}
-use Rattle.answers.specs.Try.{Try, refused, good, unless, _>>=_}
+use Rattle.answers.specs.Try.{Try, refused, good, refusedIf, _>>=_}
 use Rattle.filter.specs.Taken.{requestIn}
 use Rattle.filter.specs.Value.{Ping, pingIn}
 use Rattle.octets.specs.Label.{labels}
@@ -42,8 +43,8 @@ unfoldable pub replyTo : Table → List ℕ → Ping → ℕ → Context → Try
 replyTo t client p room c =
     let form = formOf (t .server) (p .version) in
     let octets = octetsIn form (replyFor t client p c form) in
-    unless (wrongUser form p) UserLabelEmpty
-    (unless (ltb room (length octets)) NoRoom (good (record { context = c .number; form = form; octets = octets })))
+    refusedIf (wrongUser form p) UserLabelEmpty
+    (refusedIf (ltb room (length octets)) NoRoom (good (record { context = c .number; form = form; octets = octets })))
 
 -- the numbers are judged in their order, each over the whole table or filter
 unfoldable pub answerTo : List ℕ → List ℕ → List ℕ → ℕ → Try Outcome
@@ -64,7 +65,7 @@ abbrev pub octetsWritten : Try Outcome → List ℕ
 octetsWritten (refused r) = []
 octetsWritten (good a) = a .octets
 
--- document 01's values of an answer: its number, and the length and the context, both 0 with a refusal
+-- document 01's values of an answer: its number; with a refusal length 0, context 0 and no form
 abbrev pub numberOf : Answer → ℕ
 numberOf (answer.Answered length context form) = 0
 numberOf (answer.Refused r) = number r
@@ -76,3 +77,7 @@ lengthOf (answer.Refused r) = 0
 abbrev pub contextOf : Answer → ℕ
 contextOf (answer.Answered length context form) = context .0
 contextOf (answer.Refused r) = 0
+
+abbrev pub formIn : Answer → Option Form
+formIn (answer.Answered length context form) = some form
+formIn (answer.Refused r) = none

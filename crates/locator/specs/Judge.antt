@@ -6,7 +6,7 @@ use Prim.Native.Nat.{ℕ}
 use lib.Dec.{eqb}
 use lib.ListN.{length}
 use Rattle.answers.specs.declared.Refusal.the-variants.{GuidLength, GuidNotHeld, DnsNameEmpty, DnsNameNotHeld, SidShape, SidNotHeld, SidOfAnother, TableWhole}
-use Rattle.answers.specs.Try.{Try, refused, good, unless, _>>=_}
+use Rattle.answers.specs.Try.{Try, refused, good, refusedIf, _>>=_}
 use Rattle.filter.specs.Value.{Ping}
 use Rattle.octets.specs.Lists.{isSome, holds}
 use Rattle.octets.specs.Sid.{isSid}
@@ -34,11 +34,11 @@ contextIn t p =
     let guid = p .domainGuid in
     let dns = p .dnsDomain in
     let sid = p .domainSid in
-    unless (holds (λ g. not (eqb (length g) 16)) guid) GuidLength
-    (unless (holds (λ g. not (isSome (contextByGuid t g))) guid) GuidNotHeld
-    (unless (holds (λ n. eqb (length n) 0) dns) DnsNameEmpty
-    (unless (holds (λ n. not (isSome (contextByDnsName t n))) dns) DnsNameNotHeld
+    refusedIf (holds (λ g. not (eqb (length g) 16)) guid) GuidLength
+    (refusedIf (holds (λ g. not (isSome (contextByGuid t g))) guid) GuidNotHeld
+    (refusedIf (holds (λ n. eqb (length n) 0) dns) DnsNameEmpty
+    (refusedIf (holds (λ n. not (isSome (contextByDnsName t n))) dns) DnsNameNotHeld
     (orWhole (contextUsed t p) >>= λ c.
-    unless (holds (λ s. not (isSid s)) sid) SidShape
-    (unless (holds (λ s. not (isSome (contextBySid t s))) sid) SidNotHeld
-    (unless (holds (λ s. not (holdsSid s c)) sid) SidOfAnother (good c)))))))
+    refusedIf (holds (λ s. not (isSid s)) sid) SidShape
+    (refusedIf (holds (λ s. not (isSome (contextBySid t s))) sid) SidNotHeld
+    (refusedIf (holds (λ s. not (holdsSid s c)) sid) SidOfAnother (good c)))))))

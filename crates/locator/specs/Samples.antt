@@ -38,8 +38,6 @@ use Rattle.table.specs.Layout.{serverLayout, forestLayout, contextLayout, accou
 use Rattle.table.specs.Records.{serverOf, contextOf, accountOf, siteOf, subnetOf}
 use Rattle.table.specs.Table.{blocksOf, bodies, recordsOf, tableOf}
 use Rattle.table.specs.Whole.{sameAccountName, contextsApart, accountsApart, sitesApart, hasContext, hasSite, refersRightly, goodWhole}
-use Rattle.locator.specs.declared.Answer.{Answer}
-use Rattle.locator.specs.declared.Answer.the-variants as answer
 use Rattle.locator.specs.Answer.{answerTo, answerAs, octetsWritten, numberOf, lengthOf, wrongUser, replyTo}
 use Rattle.locator.specs.Answer as answers
 use Rattle.locator.specs.Choose.{isKnown, userUnknown, formOf, isHeldBack, opcodeOf, namesApplication, exFlags, responseFlags, nextSite, replyFor}
@@ -131,14 +129,14 @@ pings : ℕ → List ℕ → ℕ → Try answers.Outcome
 pings roles f room = answerTo (image roles) client f room
 
 -- what an answer is judged by: its number, length and context, the form (0 none, 1 NT40, 2 RESPONSE, 3 EX), and the opcode, 0 where there is none
-abbrev formMark : Answer → ℕ
-formMark (answer.Answered length context Nt40) = 1
-formMark (answer.Answered length context Response) = 2
-formMark (answer.Answered length context Ex) = 3
-formMark (answer.Refused r) = 0
+abbrev formMark : Option Form → ℕ
+formMark none = 0
+formMark (some Nt40) = 1
+formMark (some Response) = 2
+formMark (some Ex) = 3
 
 summary : Try answers.Outcome → List ℕ
-summary o = let a = answerAs o in numberOf a ∷ lengthOf a ∷ answers.contextOf a ∷ formMark a ∷ little (take 2 (octetsWritten o)) ∷ []
+summary o = let a = answerAs o in numberOf a ∷ lengthOf a ∷ answers.contextOf a ∷ formMark (answers.formIn a) ∷ little (take 2 (octetsWritten o)) ∷ []
 
 refusal : ℕ → List ℕ
 refusal n = n ∷ 0 ∷ 0 ∷ 0 ∷ 0 ∷ []

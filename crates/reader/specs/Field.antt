@@ -5,7 +5,7 @@ use Prim.Native.Nat.{ℕ, _+_}
 use lib.Dec.{ltb}
 use lib.ListN.{length}
 use Rattle.answers.specs.declared.Refusal.the-variants.{ReplyCut, ReplyFixed}
-use Rattle.answers.specs.Try.{Try, refused, good, unless, _>>=_}
+use Rattle.answers.specs.Try.{Try, refused, good, refusedIf, _>>=_}
 use Rattle.octets.specs.Lists.{cut}
 use Rattle.octets.specs.Text.{same}
 pub mod Properties
@@ -16,10 +16,10 @@ pub record Read (A : Type 0) : Type 0 where
 
 -- n octets from `at`; 31 if they are not all there
 unfoldable pub octetsAt : List ℕ → ℕ → ℕ → Try (Read (List ℕ))
-octetsAt s at n = unless (ltb (length s) (at + n)) ReplyCut (good (record { value = cut s at n; next = at + n }))
+octetsAt s at n = refusedIf (ltb (length s) (at + n)) ReplyCut (good (record { value = cut s at n; next = at + n }))
 
 -- a fixed field: 31 if it is not all there, 34 if it is another
 unfoldable pub fixedAt : List ℕ → ℕ → List ℕ → Try (Read (List ℕ))
 fixedAt s at octets = do
   f ← octetsAt s at (length octets)
-  unless (not (same (f .value) octets)) ReplyFixed (good f)
+  refusedIf (not (same (f .value) octets)) ReplyFixed (good f)

@@ -6,7 +6,7 @@ use lib.Dec.{eqb, leb, ltb}
 use lib.ListN.{length}
 use Rattle.answers.specs.declared.Refusal.{Refusal}
 use Rattle.answers.specs.declared.Refusal.the-variants.{ReplyCut, ReplyText}
-use Rattle.answers.specs.Try.{Try, refused, good, unless}
+use Rattle.answers.specs.Try.{Try, refused, good, refusedIf}
 use Rattle.names.specs.Walk.{Look, end, label, pointer, missing, reserved, lookAt, Name, steps}
 use Rattle.octets.specs.Lists.{cut}
 use Rattle.reader.specs.Field.{Read}
@@ -39,11 +39,11 @@ nameFrom (suc k) s run at spent pointers =
     onLook pointers (lookAt s at)
     (good (record { value = record { labels = []; pointers = pointers }; next = at + 1 }))
     (λ n.
-    unless (ltb 255 (spent + 1 + n + 1)) ReplyText
-    (unless (ltb (length s) (at + 1 + n)) (cutAfter pointers)
+    refusedIf (ltb 255 (spent + 1 + n + 1)) ReplyText
+    (refusedIf (ltb (length s) (at + 1 + n)) (cutAfter pointers)
     (withLabel (cut s (at + 1) n) (nameFrom k s run (at + 1 + n) (spent + 1 + n) pointers))))
     (λ t.
-    unless (not (ltb t run) || eqb pointers 16) ReplyText (endingAt (at + 2) (nameFrom k s t t spent (pointers + 1))))
+    refusedIf (not (ltb t run) || eqb pointers 16) ReplyText (endingAt (at + 2) (nameFrom k s t t spent (pointers + 1))))
 
 unfoldable pub nameAt : List ℕ → ℕ → Try (Read Name)
 nameAt s at = nameFrom (steps s) s at at 0 0

@@ -8,7 +8,7 @@ use lib.ListN.{length, replicate}
 use Rattle.answers.specs.declared.Form.{Form}
 use Rattle.answers.specs.declared.Form.the-variants.{Nt40, Response, Ex}
 use Rattle.answers.specs.declared.Refusal.the-variants.{ReplyOpcode, ReplyFixed, ReplyLeftOver}
-use Rattle.answers.specs.Try.{Try, refused, good, unless, _>>=_}
+use Rattle.answers.specs.Try.{Try, refused, good, refusedIf, _>>=_}
 use Rattle.names.specs.Walk.{Name}
 use Rattle.octets.specs.Label.{joined}
 use Rattle.octets.specs.Number.{little, littleOctets, u32At, has}
@@ -59,7 +59,7 @@ pub data Fields : Type 0 where
 unfoldable pub opcodeIn : ℕ → ℕ → List ℕ → Try (Read ℕ)
 opcodeIn low high s = do
   f ← octetsAt s 0 2
-  let n = little (f .value) in unless (not (within low high n)) ReplyOpcode (good (record { value = n; next = f .next }))
+  let n = little (f .value) in refusedIf (not (within low high n)) ReplyOpcode (good (record { value = n; next = f .next }))
 
 unfoldable pub numberAt : List ℕ → ℕ → Try (Read ℕ)
 numberAt s at = do
@@ -86,7 +86,7 @@ unfoldable pub tokensAt : List ℕ → ℕ → Fields → Try Fields
 tokensAt s at fields = do
   f ← constantAt 2 0xFFFF s at
   g ← constantAt 2 0xFFFF s (f .next)
-  unless (not (eqb (g .next) (length s))) ReplyLeftOver (good fields)
+  refusedIf (not (eqb (g .next) (length s))) ReplyLeftOver (good fields)
 
 -- the opcode and the three texts of the older forms
 pub record Opening : Type 0 where
@@ -150,7 +150,7 @@ lastAt false v s at = do
 lastAt true v s at = do
   n ← nameAt s at
   e ← constantAt 4 0x15 s (n .next)
-  unless (not (has v 0x10)) ReplyFixed (good (record { value = record { nextSite = some (named (n .value)); version = 0x15 }; next = e .next }))
+  refusedIf (not (has v 0x10)) ReplyFixed (good (record { value = record { nextSite = some (named (n .value)); version = 0x15 }; next = e .next }))
 
 unfoldable pub readEx : ℕ → List ℕ → Try Fields
 readEx v s = do

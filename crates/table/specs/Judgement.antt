@@ -6,7 +6,7 @@ use lib.Dec.{eqb}
 use lib.ListN.{length}
 use Rattle.answers.specs.declared.Refusal.the-variants.{ImageLength, BlockCheck, BlockLayout, TableWhole}
 use Rattle.answers.specs.Refusal.{number}
-use Rattle.answers.specs.Try.{Try, refused, good, unless}
+use Rattle.answers.specs.Try.{Try, refused, good, refusedIf}
 use Rattle.octets.specs.Lists.{all}
 use Rattle.octets.specs.Text.{within}
 use Rattle.table.specs.declared.Judgement.{Judgement}
@@ -25,10 +25,10 @@ goodLength image = within 1024 65536 (length image) && eqb (length image % 512) 
 unfoldable pub tableIn : List ℕ → Try Table
 tableIn image =
     let blocks = blocksOf image in
-    unless (not (goodLength image)) ImageLength
-    (unless (not (all goodCheck blocks)) BlockCheck
-    (unless (not (layoutsFrom 0 blocks)) BlockLayout
-    (unless (not (goodWhole (tableOf blocks))) TableWhole (good (tableOf blocks)))))
+    refusedIf (not (goodLength image)) ImageLength
+    (refusedIf (not (all goodCheck blocks)) BlockCheck
+    (refusedIf (not (layoutsFrom 0 blocks)) BlockLayout
+    (refusedIf (not (goodWhole (tableOf blocks))) TableWhole (good (tableOf blocks)))))
 
 -- the answer of judging an image, as the enum that the call returns
 abbrev pub judgedAs : Try Table → Judgement

@@ -4,16 +4,16 @@ use mathlib.Core.Bool.{Bool, true, false}
 use Prim.Native.Nat.{ℕ}
 use native.Mathlib.Omega.{arith}
 use Rattle.answers.specs.declared.Refusal.{Refusal}
-use Rattle.answers.specs.Try.{Try, refused, good, unless, _>>=_}
+use Rattle.answers.specs.Try.{Try, refused, good, refusedIf, _>>=_}
 
 module _ {A : Type 0} where
   pub refused-not-good : (r : Refusal) (a : A) → refused r ≡ good a → ⊥
   refused-not-good r a e = let z : _≡_ {A = ℕ} 0 1 = cc in omega arith
 
   -- not refused: the test failed, and what followed was good
-  pub unless-good : (b : Bool) (r : Refusal) (rest : Try A) (a : A) → unless b r rest ≡ good a → (b ≡ false) × (rest ≡ good a)
-  unless-good true r rest a e = absurd (refused-not-good r a e)
-  unless-good false r rest a e = (refl, e)
+  pub refusedIf-good : (b : Bool) (r : Refusal) (rest : Try A) (a : A) → refusedIf b r rest ≡ good a → (b ≡ false) × (rest ≡ good a)
+  refusedIf-good true r rest a e = absurd (refused-not-good r a e)
+  refusedIf-good false r rest a e = (refl, e)
 
 -- what came before was good, and then what followed
 pub good-then : {A B : Type 0} (t : Try A) (f : A → Try B) (b : B) → (t >>= f) ≡ good b → (a : A) × (t ≡ good a) × (f a ≡ good b)

@@ -12,7 +12,7 @@ use Rattle.answers.specs.declared.Form.{Form}
 use Rattle.answers.specs.declared.Form.the-variants.{Nt40, Response, Ex}
 use Rattle.answers.specs.declared.Refusal.the-variants.{ClauseValue, GuidLength, GuidNotHeld, DnsNameEmpty, DnsNameNotHeld, SidShape, SidNotHeld, SidOfAnother, UserLabelEmpty, NoRoom, TableWhole, NoVersion}
 use Rattle.answers.specs.Try.{good}
-use Rattle.answers.specs.Try.Properties.{unless-good, good-then, refused-not-good}
+use Rattle.answers.specs.Try.Properties.{refusedIf-good, good-then, refused-not-good}
 use Rattle.filter.specs.declared.Request.{Request}
 use Rattle.filter.specs.Request.{octetsOf}
 use Rattle.filter.specs.Taken.{requestIn}
@@ -71,14 +71,14 @@ context-good t p c g e =
     let guid : Option (List ℕ) = p .domainGuid in
     let dns : Option (List ℕ) = p .dnsDomain in
     let sid : Option (List ℕ) = p .domainSid in
-    let e1 = unless-good (holds (λ x. not (eqb (length x) 16)) guid) GuidLength _ c e in
-    let e2 = unless-good (holds (λ x. not (isSome (contextByGuid t x))) guid) GuidNotHeld _ c (e1 .1) in
-    let e3 = unless-good (holds (λ n. eqb (length n) 0) dns) DnsNameEmpty _ c (e2 .1) in
-    let e4 = unless-good (holds (λ n. not (isSome (contextByDnsName t n))) dns) DnsNameNotHeld _ c (e3 .1) in
+    let e1 = refusedIf-good (holds (λ x. not (eqb (length x) 16)) guid) GuidLength _ c e in
+    let e2 = refusedIf-good (holds (λ x. not (isSome (contextByGuid t x))) guid) GuidNotHeld _ c (e1 .1) in
+    let e3 = refusedIf-good (holds (λ n. eqb (length n) 0) dns) DnsNameEmpty _ c (e2 .1) in
+    let e4 = refusedIf-good (holds (λ n. not (isSome (contextByDnsName t n))) dns) DnsNameNotHeld _ c (e3 .1) in
     let d = good-then (orWhole (contextUsed t p)) _ c (e4 .1) in
-    let f1 = unless-good (holds (λ s. not (isSid s)) sid) SidShape _ c (d .2) in
-    let f2 = unless-good (holds (λ s. not (isSome (contextBySid t s))) sid) SidNotHeld _ c (f1 .1) in
-    let f3 = unless-good (holds (λ s. not (holdsSid s (d .0))) sid) SidOfAnother _ c (f2 .1) in
+    let f1 = refusedIf-good (holds (λ s. not (isSid s)) sid) SidShape _ c (d .2) in
+    let f2 = refusedIf-good (holds (λ s. not (isSome (contextBySid t s))) sid) SidNotHeld _ c (f1 .1) in
+    let f3 = refusedIf-good (holds (λ s. not (holdsSid s (d .0))) sid) SidOfAnother _ c (f2 .1) in
     let q : good (d .0) ≡ good c = f3 .1 in
     subst GoodContext (good-same (d .0) c q) (context-found t p (d .0) g (whole-good (contextUsed t p) (d .0) (d .1)))
   where
@@ -97,7 +97,7 @@ unfolding pingIn wrongValue
 user-good filter r p e =
     let asked : Option (List ℕ) = octetsOf filter (r .«user») in
     let v : Bool = holds (λ x. not (isNumber x)) (octetsOf filter (r .«nt_ver»)) || holds (λ x. not (isNumber x)) (octetsOf filter (r .«aac»)) in
-    let a = unless-good (wrongValue filter r) ClauseValue (withVersion filter r (versionAsked filter r)) p e in
+    let a = refusedIf-good (wrongValue filter r) ClauseValue (withVersion filter r (versionAsked filter r)) p e in
     let u : holds (λ x. not (isUser x)) asked ≡ false = neither-right v (holds (λ x. not (isUser x)) asked) (a .0) in
     subst UserGood (same-user (versionAsked filter r) (a .1)) (go asked u)
   where
@@ -291,8 +291,8 @@ replied t client p room c a e =
     let form : Form = formOf (t .server) (p .version) in
     let octets : List ℕ = octetsIn form (replyFor t client p c form) in
     let whole : Outcome = record { context = c .number; form = form; octets = octets } in
-    let b = unless-good (wrongUser form p) UserLabelEmpty _ a e in
-    let d = unless-good (ltb room (length octets)) NoRoom _ a (b .1) in
+    let b = refusedIf-good (wrongUser form p) UserLabelEmpty _ a e in
+    let d = refusedIf-good (ltb room (length octets)) NoRoom _ a (b .1) in
     let q : good whole ≡ good a = d .1 in
     subst (Replied t client p c) (same whole a q) (record { octets = refl; user = b .0 })
   where

@@ -9,7 +9,7 @@ use borrow.Author.Tests.{le-ltb, ltb-false, eq-eqb}
 use lib.Dec.{eqb, ltb}
 use lib.ListN.{length, take, length-append}
 use Rattle.answers.specs.declared.Refusal.the-variants.{FilterShape, FilterLength, NoRoom}
-use Rattle.answers.specs.Try.{Try, refused, good, unless}
+use Rattle.answers.specs.Try.{Try, refused, good, refusedIf}
 use Rattle.octets.specs.Buffer.{over}
 use Rattle.octets.specs.Buffer.Properties.{over-front}
 use Rattle.octets.specs.Lists.{any, first, apart, cut}
@@ -102,7 +102,7 @@ module _ (source : List ℕ) (r : Request) where
         ∙ octets-back s value name (again .tells) apart-names (names-any (λ n. eqb (place n) (place name)) name (eq-eqb (place name) (place name) refl))
 
 -- an answer that refuses nothing: a clause is present, and the octets are those written, 2,048 at most
-answered : (a b c : Bool) (o octets : List ℕ) → unless (not a) FilterShape (unless b FilterLength (unless c NoRoom (good o))) ≡ good octets → (a ≡ true) × (b ≡ false) × (o ≡ octets)
+answered : (a b c : Bool) (o octets : List ℕ) → refusedIf (not a) FilterShape (refusedIf b FilterLength (refusedIf c NoRoom (good o))) ≡ good octets → (a ≡ true) × (b ≡ false) × (o ≡ octets)
 answered false b c o octets e = let z : _≡_ {A = ℕ} 0 1 = cc in absurd (omega arith)
 answered true true c o octets e = let z : _≡_ {A = ℕ} 0 1 = cc in absurd (omega arith)
 answered true false true o octets e = let z : _≡_ {A = ℕ} 0 1 = cc in absurd (omega arith)

@@ -10,8 +10,8 @@ use lib.Dec.{eqb, ltb}
 use lib.ListN.{length}
 use borrow.Author.Tests.{lt-ltb, le-ltb, ne-eqb, ltb-true, ltb-false, not-false}
 use Rattle.answers.specs.declared.Refusal.the-variants.{ReplyText}
-use Rattle.answers.specs.Try.{Try, refused, good, unless}
-use Rattle.answers.specs.Try.Properties.{refused-not-good, unless-good}
+use Rattle.answers.specs.Try.{Try, refused, good, refusedIf}
+use Rattle.answers.specs.Try.Properties.{refused-not-good, refusedIf-good}
 use Rattle.names.specs.Walk as walk
 use Rattle.names.specs.Walk.{Look, end, label, pointer, missing, reserved, lookAt, Name, steps}
 use Rattle.names.specs.Walk.Properties.{Walks, ends, reads, points, walk-inside, walk-finds, bound, bound-read, bound-jump, bound-steps}
@@ -96,20 +96,20 @@ agrees (suc k) s run at spent pointers f e = go (lookAt s at) refl e (λ r a u p
     go : (v : Look) → lookAt s at ≡ v
         → onLook pointers v (good (record { value = record { labels = []; pointers = pointers }; next = at + 1 }))
         (λ n.
-        unless (ltb 255 (spent + 1 + n + 1)) ReplyText
-        (unless (ltb (length s) (at + 1 + n)) (cutAfter pointers) (withLabel (cut s (at + 1) n) (nameFrom k s run (at + 1 + n) (spent + 1 + n) pointers))))
-        (λ t. unless (not (ltb t run) || eqb pointers 16) ReplyText (endingAt (at + 2) (nameFrom k s t t spent (pointers + 1))))
+        refusedIf (ltb 255 (spent + 1 + n + 1)) ReplyText
+        (refusedIf (ltb (length s) (at + 1 + n)) (cutAfter pointers) (withLabel (cut s (at + 1) n) (nameFrom k s run (at + 1 + n) (spent + 1 + n) pointers))))
+        (λ t. refusedIf (not (ltb t run) || eqb pointers 16) ReplyText (endingAt (at + 2) (nameFrom k s t t spent (pointers + 1))))
         ≡ good f
         → Deeper → Found s run at pointers f
     go end v q d =
         let z : record { value = record { labels = []; pointers = pointers }; next = at + 1 } ≡ f = cc in
         subst (Found s run at pointers) z (0, sym (add-zero pointers), ends v)
     go (label n) v q d =
-        let a = unless-good (ltb 255 (spent + 1 + n + 1)) ReplyText _ f q in
-        let b = unless-good (ltb (length s) (at + 1 + n)) (cutAfter pointers) _ f (a .1) in
+        let a = refusedIf-good (ltb 255 (spent + 1 + n + 1)) ReplyText _ f q in
+        let b = refusedIf-good (ltb (length s) (at + 1 + n)) (cutAfter pointers) _ f (a .1) in
         after-label n v (ltb-false (length s) (at + 1 + n) (b .0)) (nameFrom k s run (at + 1 + n) (spent + 1 + n) pointers) (b .1) (λ g r. d run (at + 1 + n) (spent + 1 + n) pointers g r)
     go (pointer t) v q d =
-        let a = unless-good (not (ltb t run) || eqb pointers 16) ReplyText _ f q in
+        let a = refusedIf-good (not (ltb t run) || eqb pointers 16) ReplyText _ f q in
         let h : t < run = ltb-true t run (not-false (ltb t run) (neither-left (not (ltb t run)) (eqb pointers 16) (a .0))) in
         after-pointer t v h (nameFrom k s t t spent (pointers + 1)) (a .1) (λ g r. d t t spent (pointers + 1) g r)
     go missing v q d = absurd (refused-not-good (cutAfter pointers) f q)

@@ -9,7 +9,7 @@ use lib.ListN.{length, getD}
 use borrow.Author.Tests.{eqb-true, eqb-false, not-true, not-false, leb-true, le-leb, lt-leb}
 use Rattle.answers.specs.declared.Refusal.the-variants.{ImageLength, BlockCheck, BlockLayout, TableWhole}
 use Rattle.answers.specs.Try.{good}
-use Rattle.answers.specs.Try.Properties.{unless-good}
+use Rattle.answers.specs.Try.Properties.{refusedIf-good}
 use Rattle.octets.specs.Lists.{all, cut, keep, pieces}
 use Rattle.octets.specs.Lists.Properties.{Every, every-all, every-map, every-flat, every-keep, both-left, both-right, other-right, cut-length, pieces-wide}
 use Rattle.octets.specs.NameRule.{isDnsName, isNetbiosName, isSiteName}
@@ -238,10 +238,10 @@ pub judged-good : (image : List ℕ) (t : Table) → tableIn image ≡ good t �
 unfolding tableIn goodLength blocksOf
 judged-good image t e =
     let blocks : List (List ℕ) = blocksOf image in
-    let a = unless-good (not (goodLength image)) ImageLength _ t e in
-    let b = unless-good (not (all goodCheck blocks)) BlockCheck _ t (a .1) in
-    let c = unless-good (not (layoutsFrom 0 blocks)) BlockLayout _ t (b .1) in
-    let d = unless-good (not (goodWhole (tableOf blocks))) TableWhole _ t (c .1) in
+    let a = refusedIf-good (not (goodLength image)) ImageLength _ t e in
+    let b = refusedIf-good (not (all goodCheck blocks)) BlockCheck _ t (a .1) in
+    let c = refusedIf-good (not (layoutsFrom 0 blocks)) BlockLayout _ t (b .1) in
+    let d = refusedIf-good (not (goodWhole (tableOf blocks))) TableWhole _ t (c .1) in
     let q : good (tableOf blocks) ≡ good t = d .1 in
     let is : tableOf blocks ≡ t = cc in
     let long : goodLength image ≡ true = not-false (goodLength image) (a .0) in
