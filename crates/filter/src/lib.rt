@@ -6,9 +6,10 @@ use octets::text;
 use octets::utf8;
 ghost use mathlib.Core.Path.{_≡_};
 ghost use mathlib.Core.Bool.{not};
-ghost use Prim.Native.Nat.{_+_, _≤_};
+ghost use Prim.Native.Nat.{_+_, _≤_, _<_};
 ghost use lib.ListN.{length};
-ghost use Rattle.octets.specs.Lists.{holds};
+ghost use Rattle.octets.specs.Lists.{cut, holds};
+ghost use Rattle.octets.specs.Number.{big};
 ghost use Rattle.filter.specs.Request.{clause, isPresent, octetsOf};
 ghost use Rattle.filter.specs.Value.{isNumber, isUser, pingIn, judgedAs};
 ghost use Rattle.filter.specs.Shape.{elementAt, equality, andOf, clausesOf};
@@ -132,7 +133,16 @@ pub enum Gathering {
     Good(Gathered),
 }
 
-// The length of the element at `at`: one octet below 80h, or 81h and one, or 82h and two, the first of them most significant.
+// The two octets of a longer length, the first of them most significant.
+fn two_octets(s: &[u8], at: usize) -> usize
+    requires { ⌜ at + 2 ≤ length (now s) ⌝ }
+    ensures { λ r. ⌜ r ≡ big (cut (now (s .entry)) at 2) ⌝ }
+    ensures { λ r. ⌜ r < 65536 ⌝ }
+{
+    number::big_u16_at(s, at) as usize
+}
+
+// The length of the element at `at`: one octet below 80h, or 81h and one, or 82h and two.
 fn length_at(s: &[u8], at: usize, end: usize) -> Size
     requires { ⌜ (at + 2 ≤ end) × (end ≤ length (now s)) ⌝ }
     ensures { λ r. ⌜ r ≡ sizeAt (now (s .entry)) at end ⌝ }
@@ -162,7 +172,7 @@ fn length_at(s: &[u8], at: usize, end: usize) -> Size
     }
     Size::Of {
         start: at + 4,
-        len: number::big_u16_at(s, at + 2) as usize,
+        len: two_octets(s, at + 2),
     }
 }
 

@@ -17,6 +17,12 @@ ghost use Rattle.filter.specs.Request.{names, spelling, clause, isPresent, octe
 ghost use Rattle.filter.specs.Write.{lengthOctets, element, equalityFor, filterOctets, filterFor, writtenAs, writtenOctets};
 ghost use Rattle.filter_write.specs.Size.{headSize, elementSize, contents};
 
+// Lengths below this take one octet.
+const LENGTH_OF_ONE: usize = 0x80;
+
+// Those from there to below this take 81h and one octet, and longer ones 82h and two.
+const LENGTH_OF_TWO: usize = 0x100;
+
 // The clause names by their place in document 01's order.
 fn name_at(i: usize) -> Name
     requires { ⌜ i < 8 ⌝ }
@@ -56,10 +62,10 @@ fn head_size(n: usize) -> usize
     ensures { λ r. ⌜ r ≡ headSize n ⌝ }
     ensures { λ r. ⌜ r ≤ 4 ⌝ }
 {
-    if n < 0x80 {
+    if n < LENGTH_OF_ONE {
         return 2;
     }
-    if n < 0x100 {
+    if n < LENGTH_OF_TWO {
         return 3;
     }
     4
@@ -144,11 +150,11 @@ fn put_head(out: &mut [u8], tag: u8, n: usize) -> usize
     ensures { λ _. ⌜ now (out .exit) ≡ over (tag ∷ lengthOctets n) (now (out .entry)) ⌝ }
 {
     out[0] = tag;
-    if n < 0x80 {
+    if n < LENGTH_OF_ONE {
         out[1] = n as u8;
         return 2;
     }
-    if n < 0x100 {
+    if n < LENGTH_OF_TWO {
         out[1] = 0x81;
         out[2] = n as u8;
         return 3;

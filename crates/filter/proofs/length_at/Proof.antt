@@ -73,21 +73,18 @@ returns-5 c =
 add-t5 : tie.Need-add-t5
 add-t5 c = search needs
 
-add-big-u16-at : tie.Need-add-big-u16-at
-add-big-u16-at c = search needs
+add-two-octets : tie.Need-add-two-octets
+add-two-octets c = search needs
 
-big-u16-at-requires : tie.Need-big-u16-at-requires
-big-u16-at-requires c κs = search needs
-
-cast-t19 : tie.Need-cast-t19
-cast-t19 c = search needs
+two-octets-requires : tie.Need-two-octets-requires
+two-octets-requires c κs = search needs
 
 returns-6 : tie.Need-returns-6
 returns-6 c =
     let p = c .before .before .before .before .before .before .before .args in
-    let v = value-at (p .s .now) (p .at) (p .end) 1 ∙ sym (c .big-u16-at .ensures) in (
-      sym (size-of (p .s .now) (p .at) (p .end) 2 (p .at + 4) (c .big-u16-at .result) (width-two (c .before .before .if4 .left)) (omega arith) v (omega arith)),
-      (omega arith, omega arith, omega (arith, c .big-u16-at .ok)),
+    let v = value-at (p .s .now) (p .at) (p .end) 1 ∙ sym (c .two-octets .ensures .0) in (
+      sym (size-of (p .s .now) (p .at) (p .end) 2 (p .at + 4) (c .two-octets .result) (width-two (c .before .before .if4 .left)) (omega arith) v (omega arith)),
+      (omega arith, omega arith, c .two-octets .ensures .1),
     )
 
 pub length-at-spec : {M : Type 1} → statement M
@@ -110,7 +107,6 @@ length-at-spec =
     sub-if5
     returns-5
     add-t5
-    add-big-u16-at
-    big-u16-at-requires
-    cast-t19
+    add-two-octets
+    two-octets-requires
     returns-6)

@@ -9,7 +9,7 @@ use borrow.Author.Tests.{eqb-true, eqb-false, eq-eqb, ne-eqb, not-false}
 use lib.Dec.{eqb}
 use lib.ListN.{length, getD}
 use Rattle.octets.specs.Lists.{all, any, first, firstOr, apart, isSome}
-use Rattle.octets.specs.Lists.Properties.{first-any, first-holds, any-ext, any-either, any-never, any-false, all-true}
+use Rattle.octets.specs.Lists.Properties.{first-any, first-holds, any-ext, any-either, any-never, any-false, all-true, neither-left, neither-right}
 use Rattle.octets.specs.Text.{same, lower, sameFolded}
 use Rattle.octets.specs.Text.Properties.{folded-left, folded-sym}
 use Rattle.filter.specs.declared.Clause.{Clause}
@@ -40,15 +40,7 @@ unfolding allAdded
 added-append s g [] ys = refl
 added-append s g (x ∷ xs) ys = added-append s (added s g x) xs ys
 
-pub or-left : (a b : Bool) → (a || b) ≡ false → a ≡ false
-or-left true b e = e
-or-left false b e = refl
-
-pub or-right : (a b : Bool) → (a || b) ≡ false → b ≡ false
-or-right true b e = let z : _≡_ {A = ℕ} 0 1 = cc in absurd (omega arith)
-or-right false b e = e
-
-pub eqb-sym : (a b : ℕ) → eqb a b ≡ eqb b a
+eqb-sym : (a b : ℕ) → eqb a b ≡ eqb b a
 eqb-sym a b = by (eqb a b) refl
   where
     by : (t : Bool) → eqb a b ≡ t → eqb a b ≡ eqb b a
@@ -279,10 +271,10 @@ module _ (s : List ℕ) where
   pub all-twice : (g : Gathered) (fs : List Found) → strange s fs ≡ false → allAdded s g fs .twice ≡ (g .twice || (any (there (g .request)) fs || twice s fs))
   unfolding allAdded added strange twice any apart
   all-twice g [] e = sym (or-false (g .twice))
-  all-twice g (f ∷ fs) e = by (nameIn (nameOf s f)) refl (all-twice (added s g f) fs (or-right (unknown s f) (strange s fs) e))
+  all-twice g (f ∷ fs) e = by (nameIn (nameOf s f)) refl (all-twice (added s g f) fs (neither-right (unknown s f) (strange s fs) e))
     where
       known : isSome (nameIn (nameOf s f)) ≡ true
-      known = not-false (isSome (nameIn (nameOf s f))) (sym (unknown-named s f) ∙ or-left (unknown s f) (strange s fs) e)
+      known = not-false (isSome (nameIn (nameOf s f))) (sym (unknown-named s f) ∙ neither-left (unknown s f) (strange s fs) e)
 
       by : (o : Option Name) → nameIn (nameOf s f) ≡ o
           → allAdded s (added s g f) fs .twice ≡ (added s g f .twice || (any (there (added s g f .request)) fs || twice s fs))

@@ -39,8 +39,8 @@ same-length c = search needs
 returns : tie.Need-returns
 returns c =
     let p = c .before .args in
-    let h = head-two (p .n) (c .if1 .taken) in
-    (sym h, two (p .out .now) (p .tag) (p .n) (omega arith) ∙ ap (λ (l : List ℕ). over (p .tag ∷ l) (p .out .now)) (sym (octets-one (p .n) (c .if1 .taken))))
+    let h = head-two (p .n) (omega arith) in
+    (sym h, two (p .out .now) (p .tag) (p .n) (omega arith) ∙ ap (λ (l : List ℕ). over (p .tag ∷ l) (p .out .now)) (sym (octets-one (p .n) (omega arith))))
 
 slice-write-out-3 : tie.Need-slice-write-out-3
 slice-write-out-3 c = simp length-set (omega (arith, head-bounds (c .before .before .args .n)))
@@ -50,7 +50,7 @@ cast-out-2 c = search needs
 
 slice-write-out-4 : tie.Need-slice-write-out-4
 slice-write-out-4 c =
-    let h = head-three (c .before .before .args .n) (c .before .if1 .left) (c .if2 .taken) in
+    let h = head-three (c .before .before .args .n) (omega arith) (omega arith) in
     simp length-set (omega arith)
 
 same-length-2 : tie.Need-same-length-2
@@ -59,8 +59,8 @@ same-length-2 c = search needs
 returns-2 : tie.Need-returns-2
 returns-2 c =
     let p = c .before .before .args in
-    let h = head-three (p .n) (c .before .if1 .left) (c .if2 .taken) in
-    (sym h, three (p .out .now) (p .tag) 0x81 (p .n) (omega arith) ∙ ap (λ (l : List ℕ). over (p .tag ∷ l) (p .out .now)) (sym (octets-two (p .n) (c .before .if1 .left) (c .if2 .taken))))
+    let h = head-three (p .n) (omega arith) (omega arith) in
+    (sym h, three (p .out .now) (p .tag) 0x81 (p .n) (omega arith) ∙ ap (λ (l : List ℕ). over (p .tag ∷ l) (p .out .now)) (sym (octets-two (p .n) (omega arith) (omega arith))))
 
 slice-write-out-5 : tie.Need-slice-write-out-5
 slice-write-out-5 c = simp length-set (omega (arith, head-bounds (c .before .before .args .n)))
@@ -70,7 +70,7 @@ cast-out-3 c = search needs
 
 slice-write-out-6 : tie.Need-slice-write-out-6
 slice-write-out-6 c =
-    let h = head-four (c .before .before .args .n) (c .if2 .left) in
+    let h = head-four (c .before .before .args .n) (omega arith) in
     simp length-set (omega arith)
 
 cast-out-4 : tie.Need-cast-out-4
@@ -78,7 +78,7 @@ cast-out-4 c = search needs
 
 slice-write-out-7 : tie.Need-slice-write-out-7
 slice-write-out-7 c =
-    let h = head-four (c .before .before .args .n) (c .if2 .left) in
+    let h = head-four (c .before .before .args .n) (omega arith) in
     simp length-set (omega arith)
 
 same-length-3 : tie.Need-same-length-3
@@ -87,12 +87,12 @@ same-length-3 c = search needs
 returns-3 : tie.Need-returns-3
 returns-3 c =
     let p = c .before .before .args in
-    let h = head-four (p .n) (c .if2 .left) in
+    let h = head-four (p .n) (omega arith) in
     let m : p .n / 256 ≡ p .n / 256 % 256 = omega arith in (
       sym h,
       four (p .out .now) (p .tag) 0x82 (p .n / 256) (p .n % 256) (omega arith)
           ∙ ap (λ (x : ℕ). over (p .tag ∷ 0x82 ∷ x ∷ (p .n % 256) ∷ []) (p .out .now)) m
-          ∙ ap (λ (l : List ℕ). over (p .tag ∷ l) (p .out .now)) (sym (octets-three (p .n) (c .if2 .left))),
+          ∙ ap (λ (l : List ℕ). over (p .tag ∷ l) (p .out .now)) (sym (octets-three (p .n) (omega arith))),
     )
 
 pub put-head-spec : {M : Type 1} → statement M

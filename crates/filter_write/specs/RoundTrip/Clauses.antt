@@ -11,27 +11,19 @@ use borrow.Author.Tests.{eq-eqb, ne-eqb, not-true}
 use lib.Dec.{eqb}
 use lib.ListN.{length, drop, length-append}
 use Rattle.octets.specs.Lists.{any, first, firstOr, apart, isSome, cut}
-use Rattle.octets.specs.Lists.Properties.{first-any, any-ext}
+use Rattle.octets.specs.Lists.Properties.{first-any, any-ext, both-left, both-right, neither-left, neither-right}
 use Rattle.octets.specs.Text.{sameFolded}
 use Rattle.octets.specs.Text.Properties.{folded-sym}
 use Rattle.filter.specs.declared.Found.{Found}
 use Rattle.filter.specs.declared.Name.{Name}
 use Rattle.filter.specs.Gather.{place}
-use Rattle.filter.specs.Gather.Properties.{or-left, or-right, place-eq, spelled, names-any}
+use Rattle.filter.specs.Gather.Properties.{place-eq, spelled, names-any}
 use Rattle.filter.specs.Request.{names, spelling, octetsOf}
 use Rattle.filter.specs.Shape.{one, siblings, andOf}
 use Rattle.filter.specs.Taken.{nameOf, isNamed, strange, twice, asClause}
 use Rattle.filter.specs.Write.{equalityFor}
 use Rattle.filter_write.specs.Size.Properties.{equality-length, head-bounds}
 use Rattle.filter_write.specs.RoundTrip.Elements.{Again, equality-back, behind}
-
-and-left : (a b : Bool) → (a && b) ≡ true → a ≡ true
-and-left true b e = refl
-and-left false b e = e
-
-and-right : (a b : Bool) → (a && b) ≡ true → b ≡ true
-and-right true b e = e
-and-right false b e = let z : _≡_ {A = ℕ} 0 1 = cc in absurd (omega arith)
 
 module _ (s : List ℕ) (value : Name → Option (List ℕ)) where
   abbrev pub written : List Name → List ℕ
@@ -153,10 +145,10 @@ module _ (s : List ℕ) (value : Name → Option (List ℕ)) where
   absent : (m : Name) {ns : List Name} {fs : List Found} → Tells ns fs → among m ns ≡ false → first (isNamed s m) fs ≡ none
   unfolding first any
   absent m nothing e = refl
-  absent m (skips {n = n} {ns = ns} q t) e = absent m t (or-right (eqb (place n) (place m)) (among m ns) e)
+  absent m (skips {n = n} {ns = ns} q t) e = absent m t (neither-right (eqb (place n) (place m)) (among m ns) e)
   absent m (finds {n = n} {ns = ns} f v q p c t) e =
-      let h : isNamed s m f ≡ false = same-name m n f p ∙ or-left (eqb (place n) (place m)) (among m ns) e in
-      rw h (absent m t (or-right (eqb (place n) (place m)) (among m ns) e))
+      let h : isNamed s m f ≡ false = same-name m n f p ∙ neither-left (eqb (place n) (place m)) (among m ns) e in
+      rw h (absent m t (neither-right (eqb (place n) (place m)) (among m ns) e))
 
   -- each name's octets, where no name stands twice
   abbrev pub distinct : List Name → Bool
@@ -164,10 +156,10 @@ module _ (s : List ℕ) (value : Name → Option (List ℕ)) where
 
   module _ (n : Name) (ns : List Name) (a : (not (among n ns) && distinct ns) ≡ true) where
     not-again : among n ns ≡ false
-    not-again = not-true (among n ns) (and-left (not (among n ns)) (distinct ns) a)
+    not-again = not-true (among n ns) (both-left (not (among n ns)) (distinct ns) a)
 
     rest-distinct : distinct ns ≡ true
-    rest-distinct = and-right (not (among n ns)) (distinct ns) a
+    rest-distinct = both-right (not (among n ns)) (distinct ns) a
 
   pub octets-back : (m : Name) {ns : List Name} {fs : List Found} → Tells ns fs → distinct ns ≡ true → among m ns ≡ true → octetsOf s (asClause (first (isNamed s m) fs)) ≡ value m
   unfolding first any apart
