@@ -15,10 +15,10 @@ use crate::block::kind_of;
 use crate::field::Rule;
 use crate::field::is_zero_room;
 use crate::field::text_field;
+use crate::record::sid_in;
 use octets::name_rule::is_sid;
 use octets::number::u16_at;
 use octets::number::u32_at;
-use octets::number::wide;
 use octets::part::part;
 use octets::text::all_zero;
 
@@ -51,7 +51,7 @@ fn sid_room(b: &[u8], has_sid: bool) -> bool
     if !has_sid {
         return is_zero_room(b, 20, 88);
     }
-    let sid = part(b, 20, 8 + 4 * (wide(b[21]) as usize));
+    let sid = sid_in(b);
     is_sid(sid) & is_zero_room(b, 20 + sid.len(), 88)
 }
 

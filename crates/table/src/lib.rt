@@ -6,6 +6,7 @@ pub mod block;
 pub mod check;
 pub mod field;
 pub mod layout;
+pub mod record;
 
 // Naming-context numbers, site numbers and block places are three countings, and none is used for another.
 pub struct ContextNumber(pub u16);

@@ -5,12 +5,12 @@ ghost use lib.ListN.{length};
 ghost use Rattle.table.specs.Records.{accountOf, sameContext};
 ghost use Rattle.table.specs.Whole.{sameAccountName};
 ghost use Rattle.table_find.specs.LogOn.{mayLogOn};
-use crate::text::text_at;
 use octets::number::has_bits;
 use octets::number::u16_at;
 use octets::number::u32_at;
 use octets::text::same_folded;
 use table::ContextNumber;
+use table::record::text_in;
 
 pub fn account_context(octets: &[u8]) -> ContextNumber
     requires { ⌜ length (now octets) ≡ 84 ⌝ }
@@ -30,7 +30,7 @@ pub fn account_name(octets: &[u8]) -> &[u8]
     requires { ⌜ length (now octets) ≡ 84 ⌝ }
     ensures { λ r. ⌜ now r ≡ accountOf (now (octets .entry)) .name ⌝ }
 {
-    text_at(octets, 8)
+    text_in(octets, 8)
 }
 
 // Whether it is the account of a name in a context.

@@ -1,15 +1,15 @@
 // A naming context by its body's octets.
 ghost use mathlib.Core.Path.{_≡_};
 ghost use lib.ListN.{length};
-ghost use Rattle.table.specs.Records.{contextOf, sidAt, sameContext};
+ghost use Rattle.table.specs.Records.{contextOf, sameContext};
 ghost use Rattle.table_find.specs.Find.{isNamedBy, holdsSid};
-use crate::text::text_at;
 use octets::number::u16_at;
-use octets::number::wide;
 use octets::part::part;
 use octets::text::same_folded;
 use octets::text::same_octets;
 use table::ContextNumber;
+use table::record::sid_in;
+use table::record::text_in;
 
 pub fn context_number(body: &[u8]) -> ContextNumber
     requires { ⌜ length (now body) ≡ 504 ⌝ }
@@ -35,22 +35,14 @@ pub fn context_netbios(body: &[u8]) -> &[u8]
     requires { ⌜ length (now body) ≡ 504 ⌝ }
     ensures { λ r. ⌜ now r ≡ contextOf (now (body .entry)) .netbios ⌝ }
 {
-    text_at(body, 88)
+    text_in(body, 88)
 }
 
 pub fn context_dns_name(body: &[u8]) -> &[u8]
     requires { ⌜ length (now body) ≡ 504 ⌝ }
     ensures { λ r. ⌜ now r ≡ contextOf (now (body .entry)) .dns ⌝ }
 {
-    text_at(body, 104)
-}
-
-// The octets in a SID's room, as many as their own count says.
-fn sid_octets(body: &[u8]) -> &[u8]
-    requires { ⌜ length (now body) ≡ 504 ⌝ }
-    ensures { λ r. ⌜ now r ≡ sidAt (now (body .entry)) ⌝ }
-{
-    part(body, 20, 8 + 4 * (wide(body[21]) as usize))
+    text_in(body, 104)
 }
 
 // Whether the context has this SID; one without SID has none.
@@ -61,7 +53,7 @@ pub fn holds_sid(body: &[u8], sid: &[u8]) -> bool
     if body[3] != 1 {
         return false;
     }
-    same_octets(sid_octets(body), sid)
+    same_octets(sid_in(body), sid)
 }
 
 // Whether a DnsDomain value names the context.

@@ -6,4 +6,3 @@ pub mod search;
 pub mod server;
 pub mod site;
 pub mod subnet;
-pub mod text;

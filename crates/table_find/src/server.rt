@@ -4,7 +4,6 @@ ghost use Prim.Native.Nat.{_≤_};
 ghost use lib.ListN.{length};
 ghost use Rattle.table.specs.Records.{serverOf};
 ghost use Rattle.table.specs.Table.{blocksOf, tableOf};
-use crate::text::text_at;
 use octets::number::u16_at;
 use octets::number::u32_at;
 use octets::part::part;
@@ -12,6 +11,7 @@ use table::ContextNumber;
 use table::SiteNumber;
 use table::block::block_at;
 use table::block::body_of;
+use table::record::text_in;
 
 // The server block's body.
 pub fn server_of(image: &[u8]) -> &[u8]
@@ -26,7 +26,7 @@ pub fn forest_of(image: &[u8]) -> &[u8]
     requires { ⌜ 1024 ≤ length (now image) ⌝ }
     ensures { λ r. ⌜ now r ≡ tableOf (blocksOf (now (image .entry))) .forest ⌝ }
 {
-    text_at(body_of(block_at(image, 1)), 0)
+    text_in(body_of(block_at(image, 1)), 0)
 }
 
 pub fn roles(server: &[u8]) -> u32
@@ -67,12 +67,12 @@ pub fn server_netbios(server: &[u8]) -> &[u8]
     requires { ⌜ length (now server) ≡ 504 ⌝ }
     ensures { λ r. ⌜ now r ≡ serverOf (now (server .entry)) .netbios ⌝ }
 {
-    text_at(server, 16)
+    text_in(server, 16)
 }
 
 pub fn host_name(server: &[u8]) -> &[u8]
     requires { ⌜ length (now server) ≡ 504 ⌝ }
     ensures { λ r. ⌜ now r ≡ serverOf (now (server .entry)) .host ⌝ }
 {
-    text_at(server, 32)
+    text_in(server, 32)
 }

@@ -5,9 +5,9 @@ ghost use lib.ListN.{length};
 ghost use Rattle.octets.specs.Number.{u16At};
 ghost use Rattle.table.specs.Records.{siteOf, siteOrNone, sameSite};
 ghost use Rattle.table_find.specs.Reference.{referred};
-use crate::text::text_at;
 use octets::number::u16_at;
 use table::SiteNumber;
+use table::record::text_in;
 
 // A site that is referred to, or none.
 pub enum SiteReference {
@@ -38,7 +38,7 @@ pub fn site_name(octets: &[u8]) -> &[u8]
     requires { ⌜ length (now octets) ≡ 72 ⌝ }
     ensures { λ r. ⌜ now r ≡ siteOf (now (octets .entry)) .name ⌝ }
 {
-    text_at(octets, 2)
+    text_in(octets, 2)
 }
 
 // The next closest site.

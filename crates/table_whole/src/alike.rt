@@ -2,27 +2,21 @@
 ghost use mathlib.Core.Path.{_≡_};
 ghost use mathlib.Core.Bool.{Bool};
 ghost use Rattle.octets.specs.Lists.{any, apart};
-ghost use Rattle.table.specs.Records.{contextOf, accountOf, sidAt};
+ghost use Rattle.table.specs.Records.{contextOf, accountOf};
 ghost use Rattle.table.specs.Whole.{sameSid};
 ghost use Rattle.table_whole.specs.Alike.{contextsAlike, accountsAlike, alikeBy, likeAt, alikeAt};
-use crate::field::number_in;
-use crate::field::octet_in;
-use crate::field::text_in;
-use octets::number::wide;
 use octets::part::part;
 use octets::text::alike;
 use octets::text::same_octets;
+use table::record::number_in;
+use table::record::octet_in;
+use table::record::sid_in;
+use table::record::text_in;
 
 // Which records are compared.
 pub enum Likeness {
     Contexts,
     Accounts,
-}
-
-fn sid_in(b: &[u8]) -> &[u8]
-    ensures { λ r. ⌜ now r ≡ sidAt (now (b .entry)) ⌝ }
-{
-    part(b, 20, 8 + 4 * (wide(octet_in(b, 21)) as usize))
 }
 
 // A context without SID has the SID of no other.

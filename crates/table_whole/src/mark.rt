@@ -6,10 +6,10 @@ ghost use Prim.Native.Nat.{_≤_};
 ghost use lib.ListN.{length, getD};
 ghost use Rattle.octets.specs.Lists.{apart};
 ghost use Rattle.table_whole.specs.Mark.{sameNumber, Marked};
-use crate::field::number_in;
 use octets::part::part;
 use table::ContextNumber;
 use table::SiteNumber;
+use table::record::number_in;
 
 // Marks the number that each record starts with, from the last record on: a number is held against those behind it.
 pub fn mark_numbers(image: &[u8], places: &[usize], w: usize, marks: &mut [bool]) -> bool

@@ -4,12 +4,12 @@ ghost use mathlib.Core.Bool.{Bool};
 ghost use lib.ListN.{length};
 ghost use Rattle.octets.specs.Lists.{all};
 ghost use Rattle.table_whole.specs.Refer.{markedOrNone, nextMarked, refersBy, refersAt};
-use crate::field::number_in;
 use crate::mark::has_context;
 use crate::mark::has_site;
 use octets::part::part;
 use table::ContextNumber;
 use table::SiteNumber;
+use table::record::number_in;
 
 // Which number of a record refers, and to what.
 pub enum Reference {

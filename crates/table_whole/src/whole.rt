@@ -8,7 +8,6 @@ ghost use Rattle.table_whole.specs.Place.{recordsAt};
 ghost use Rattle.table_whole.specs.Half.{ContextMarks, SiteMarks, serverNumber, goodAccounts, goodContexts, goodSubnets, goodSites, contextHalf, siteHalf};
 use crate::alike::Likeness;
 use crate::alike::all_apart;
-use crate::field::number_in;
 use crate::mark::has_context;
 use crate::mark::has_site;
 use crate::mark::mark_numbers;
@@ -19,6 +18,7 @@ use table::ContextNumber;
 use table::SiteNumber;
 use table::block::block_at;
 use table::block::body_of;
+use table::record::number_in;
 
 // A number of the server's block.
 fn server_number(image: &[u8], at: usize) -> u16

@@ -16,8 +16,8 @@ returns : tie.Need-returns
 unfolding holdsSid contextOf
 returns c = rw (ne-eqb _ _ (c .if1 .taken))
 
-sid-octets-requires : tie.Need-sid-octets-requires
-sid-octets-requires c κs = search needs
+sid-in-requires : tie.Need-sid-in-requires
+sid-in-requires c κs = search needs
 
 same-octets-requires : tie.Need-same-octets-requires
 same-octets-requires c κs = search needs
@@ -26,9 +26,9 @@ returns-2 : tie.Need-returns-2
 unfolding holdsSid contextOf
 returns-2 c =
     let a = c .before .before .before .before .before .before .args in
-    rw (eq-eqb _ _ (c .before .before .if1 .left)) (c .same-octets .ensures ∙ ap (λ (s : List ℕ). same s (a .sid .now)) (c .before .sid-octets .ensures))
+    rw (eq-eqb _ _ (c .before .before .if1 .left)) (c .same-octets .ensures ∙ ap (λ (s : List ℕ). same s (a .sid .now)) (c .before .sid-in .ensures))
 
 pub holds-sid-spec : {M : Type 1} → statement M
 holds-sid-spec =
     tie.close
-    (tie.spec shared-slice-read-if1 returns sid-octets-requires same-octets-requires returns-2)
+    (tie.spec shared-slice-read-if1 returns sid-in-requires same-octets-requires returns-2)

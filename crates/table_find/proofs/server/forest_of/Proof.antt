@@ -17,8 +17,8 @@ block-at-requires c κs = search needs
 body-of-requires : tie.Need-body-of-requires
 body-of-requires c κs = search needs
 
-text-at-requires : tie.Need-text-at-requires
-text-at-requires c κs =
+text-in-requires : tie.Need-text-in-requires
+text-in-requires c κs =
     let s = c .before .before .before .args .image .now in
     let h : 1 < length s / 512 = omega arith in
     omega (arith, ap length (c .body-of .ensures ∙ ap body (c .before .block-at .ensures)) ∙ body-length s 1 h)
@@ -28,7 +28,7 @@ unfolding tableOf
 returns c =
     let s = c .before .before .before .before .args .image .now in
     let h : 1 < length s / 512 = omega arith in
-    c .text-at .ensures ∙ ap (λ (b : List ℕ). textAt b 0) (c .before .body-of .ensures ∙ ap body (c .before .before .block-at .ensures) ∙ body-there s 1 h)
+    c .text-in .ensures ∙ ap (λ (b : List ℕ). textAt b 0) (c .before .body-of .ensures ∙ ap body (c .before .before .block-at .ensures) ∙ body-there s 1 h)
 
 pub forest-of-spec : {M : Type 1} → statement M
-forest-of-spec = tie.close (tie.spec block-at-requires body-of-requires text-at-requires returns)
+forest-of-spec = tie.close (tie.spec block-at-requires body-of-requires text-in-requires returns)

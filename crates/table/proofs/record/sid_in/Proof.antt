@@ -3,8 +3,8 @@ use lib.Seq.{getD-drop}
 use Prim.Native.Nat.{ℕ, _+_, _*_}
 use mathlib.Core.Path.{sym, ap, _∙_}
 use borrow.Author.Needs.{needs}
-use Rattle.table_whole.proofs.alike.sid_in.Statement.{statement}
-use Rattle.table_whole.proofs.alike.sid_in.Tie as tie
+use Rattle.table.proofs.record.sid_in.Statement.{statement}
+use Rattle.table.proofs.record.sid_in.Tie as tie
 
 octet-in-requires : tie.Need-octet-in-requires
 octet-in-requires c κs = search needs

@@ -2,8 +2,8 @@ use Rattle.octets.specs.Lists.{cut}
 use Prim.Native.Nat.{ℕ, _+_}
 use mathlib.Core.Path.{ap, _∙_}
 use borrow.Author.Needs.{needs}
-use Rattle.table_whole.proofs.field.text_in.Statement.{statement}
-use Rattle.table_whole.proofs.field.text_in.Tie as tie
+use Rattle.table.proofs.record.text_in.Statement.{statement}
+use Rattle.table.proofs.record.text_in.Tie as tie
 
 add-part : tie.Need-add-part
 add-part c = search needs

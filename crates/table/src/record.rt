@@ -3,7 +3,8 @@ ghost use mathlib.Core.Path.{_≡_};
 ghost use Prim.Native.Nat.{_≤_};
 ghost use lib.ListN.{getD};
 ghost use Rattle.octets.specs.Number.{u16At};
 ghost use Rattle.table.specs.Field.{textAt};
+ghost use Rattle.table.specs.Records.{sidAt};
 use octets::number::wide;
 use octets::part::part;
 
@@ -29,4 +30,11 @@ pub fn text_in(s: &[u8], at: usize) -> &[u8]
     ensures { λ r. ⌜ now r ≡ textAt (now (s .entry)) at ⌝ }
 {
     part(s, at + 1, wide(octet_in(s, at)) as usize)
+}
+
+// The octets in a SID's room, as many as their own count says.
+pub fn sid_in(b: &[u8]) -> &[u8]
+    ensures { λ r. ⌜ now r ≡ sidAt (now (b .entry)) ⌝ }
+{
+    part(b, 20, 8 + 4 * (wide(octet_in(b, 21)) as usize))
 }

@@ -1,8 +1,8 @@
 use lib.ListN.{List·getD-eq-default}
 use mathlib.Core.Path.{sym}
 use borrow.Author.Needs.{needs}
-use Rattle.table_whole.proofs.field.octet_in.Statement.{statement}
-use Rattle.table_whole.proofs.field.octet_in.Tie as tie
+use Rattle.table.proofs.record.octet_in.Statement.{statement}
+use Rattle.table.proofs.record.octet_in.Tie as tie
 
 returns : tie.Need-returns
 returns c = sym (List·getD-eq-default (c .before .args .s .now) 0 (c .if1 .taken))

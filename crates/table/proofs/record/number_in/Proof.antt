@@ -1,8 +1,8 @@
 use Rattle.octets.specs.Number.Properties.{u16-anywhere}
 use native.Mathlib.Omega.{arith}
 use borrow.Author.Needs.{needs}
-use Rattle.table_whole.proofs.field.number_in.Statement.{statement}
-use Rattle.table_whole.proofs.field.number_in.Tie as tie
+use Rattle.table.proofs.record.number_in.Statement.{statement}
+use Rattle.table.proofs.record.number_in.Tie as tie
 
 octet-in-requires : tie.Need-octet-in-requires
 octet-in-requires c κs = search needs
