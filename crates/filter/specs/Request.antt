@@ -1,4 +1,4 @@
--- The eight clause names, and a request's clause for each.
+-- Document 01, "The filter": the eight clause names, and a request's clause for each.
 use mathlib.Core.Bool.{Bool, true, false}
 use mathlib.Core.List.{List, [], _∷_}
 use mathlib.Core.Option.{Option, none, some}

@@ -6,6 +6,7 @@ use Prim.Native.Nat.{ℕ}
 use lib.Dec.{eqb, leb}
 use lib.ListN.{length}
 use Rattle.answers.specs.declared.Refusal.the-variants.{ClauseValue, NoVersion}
+use Rattle.answers.specs.Refusal.{number}
 use Rattle.answers.specs.Try.{Try, refused, good, refusedIf}
 use Rattle.octets.specs.Lists.{holds}
 use Rattle.octets.specs.NameRule.{without}
@@ -29,6 +30,7 @@ pub record Ping : Type 0 where
 abbrev pub isNumber : List ℕ → Bool
 isNumber s = eqb (length s) 4
 
+-- a User value: up to 63 octets of UTF-8, none zero
 abbrev pub isUser : List ℕ → Bool
 isUser s = leb (length s) 63 && isUtf8 s && without 0 s
 
@@ -70,3 +72,8 @@ pingIn s r = refusedIf (wrongValue s r) ClauseValue (withVersion s r (versionAsk
 abbrev pub judgedAs : Try Ping → Judged
 judgedAs (refused r) = judged.Refused r
 judgedAs (good p) = judged.Version (p .version)
+
+-- document 01's number of it
+abbrev pub numberOf : Judged → ℕ
+numberOf (judged.Version v) = 0
+numberOf (judged.Refused r) = number r

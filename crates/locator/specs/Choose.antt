@@ -78,11 +78,12 @@ isKnown t c aac name = holds (mayLogOn aac) (accountByName t (c .number) name)
 unfoldable pub userUnknown : Table → Context → Ping → Bool
 userUnknown t c p = holds (λ name. not (isKnown t c (aacOf (p .aac)) name)) (p .user)
 
+-- the reply's form; v is the version asked, 01000000h its bit that keeps NT4 forms away
 unfoldable pub formOf : Server → ℕ → Form
 formOf s v =
     cond (has (s .roles) nt4Wanted && not (has v 0x01000000)) Nt40 (cond (has v 0x4 || has v 0x8) Ex (cond (has v 0x2) Response Nt40))
 
--- document 01's t is 1
+-- document 01's t is 1; the version bits ask for a PDC (10000000h) and as the local machine (40000000h)
 unfoldable pub isHeldBack : Server → ℕ → Bool
 isHeldBack s v =
     has (s .state) paused && (not (has v 0x10000000) || not (has (s .roles) PDC))
@@ -111,6 +112,7 @@ abbrev pub flag : Bool → ℕ → ℕ
 flag true n = n
 flag false n = 0
 
+-- document 01's EX flags, in its order
 unfoldable pub exFlags : Table → Ping → Option Site → ℕ
 exFlags t p site =
     let role = has (t .server .roles) in
@@ -130,6 +132,7 @@ exFlags t p site =
     + flag (role since2012) 0x4000
     + flag (role since2012R2) 0x8000
 
+-- RESPONSE flags: PDC, and DS always
 unfoldable pub responseFlags : Server → ℕ
 responseFlags s = flag (has (s .roles) PDC) 0x1 + 0x10
 
@@ -156,6 +159,7 @@ abbrev pub onlyIf : Bool → Option (List ℕ) → Option (List ℕ)
 onlyIf true x = x
 onlyIf false x = none
 
+-- name 8: the next closest site, where it is asked for and the level is there
 unfoldable pub nextSite : Table → ℕ → Option Site → Option (List ℕ)
 nextSite t v site = onlyIf (has v 0x10 && has (t .server .roles) level2008) (nameOfSite (nextTo t site))
 

@@ -1,4 +1,4 @@
--- Labels: the parts of a text between dots.
+-- Document 01, "Reading a reply": a name's labels are its parts between dots.
 use mathlib.Core.Bool.{Bool, true, false}
 use mathlib.Core.List.{List, [], _∷_, _++_}
 use Prim.Native.Nat.{ℕ}

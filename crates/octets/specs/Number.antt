@@ -1,4 +1,4 @@
--- Numbers in octets, at any width. Document 01 writes them little-endian in tables and replies, big-endian in filter lengths and pointers.
+-- Numbers in octets, at any width: document 01, "The table image" and "Reply octets" little-endian, "The filter" big-endian, as pointers are.
 use mathlib.Core.Bool.{Bool, not}
 use mathlib.Core.List.{List, [], _∷_, reverse}
 use Prim.Native.Nat.{ℕ, zero, suc, _+_, _*_, _/_, _%_}

@@ -1,4 +1,4 @@
--- Texts: the same octets, and the same with ASCII case ignored.
+-- Document 01, "The filter" and "The table image": texts are the same, or the same with ASCII case ignored.
 use mathlib.Core.Bool.{Bool, true, false, cond, _&&_}
 use mathlib.Core.List.{List, [], _∷_, map}
 use Prim.Native.Nat.{ℕ, _+_}

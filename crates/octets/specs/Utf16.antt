@@ -1,4 +1,4 @@
--- UTF-16LE: the octets of code points, and of a UTF-8 text.
+-- Document 01, "Reply octets": texts as UTF-16LE, the octets of code points and of a UTF-8 text.
 use mathlib.Core.Bool.{Bool, cond}
 use mathlib.Core.List.{List, [], _∷_, _++_}
 use mathlib.Core.Option.{Option, none, some}

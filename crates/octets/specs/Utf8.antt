@@ -1,4 +1,4 @@
--- UTF-8 by RFC 3629, section 4: a text's code points, read octet by octet.
+-- Document 01, "The table image": UTF-8 by RFC 3629, section 4; a text's code points, read octet by octet.
 use mathlib.Core.Bool.{Bool, cond}
 use mathlib.Core.List.{List, [], _∷_}
 use mathlib.Core.Option.{Option, none, some}

@@ -1,4 +1,4 @@
--- Fields of a received reply: what was read, and where the next field starts. A field counts whole at its first octet.
+-- Document 01, "Reading a reply": fields of a received reply, what was read, and where the next field starts. A field counts whole at its first octet.
 use mathlib.Core.Bool.{Bool, not}
 use mathlib.Core.List.{List, [], _∷_}
 use Prim.Native.Nat.{ℕ, _+_}

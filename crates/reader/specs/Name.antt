@@ -1,4 +1,4 @@
--- A name of a received reply: the walk's rules, with a limit of 255 octets written out and of 16 pointers.
+-- Document 01, "Reading a reply": a name of a received reply, the walk's rules, with a limit of 255 octets written out and of 16 pointers.
 use mathlib.Core.Bool.{Bool, cond, not, _||_}
 use mathlib.Core.List.{List, [], _∷_}
 use Prim.Native.Nat.{ℕ, zero, suc, _+_}

@@ -1,4 +1,4 @@
--- A UTF-16 text of a received reply: two-octet units up to a zero unit, 33 at a lone surrogate.
+-- Document 01, "Reading a reply": a UTF-16 text of a received reply, two-octet units up to a zero unit, 33 at a lone surrogate.
 use mathlib.Core.Bool.{Bool, true, false, cond}
 use mathlib.Core.List.{List}
 use Prim.Native.Nat.{ℕ, zero, suc, _+_, _-_}
@@ -11,6 +11,7 @@ use Rattle.octets.specs.Utf16.{isHigh, isLow}
 use Rattle.reader.specs.Field.{Read, octetsAt}
 pub mod Properties
 
+-- a stretch of the reply: where it starts, and how many octets it has
 pub record Stretch : Type 0 where
   pub start : ℕ
   pub len : ℕ

@@ -10,7 +10,7 @@ use Rattle.names.specs.Name.{Writing, nameAt, namesAt}
 use Rattle.octets.specs.Number.{littleOctets}
 use Rattle.octets.specs.Utf16.{utf16}
 
--- what a reply says; a text that is absent has no octets, and the address and the next closest site are there only where the form has them
+-- what a reply says, in any form; a text that is absent has no octets. The EX form alone writes the address and the next closest site
 pub record Reply : Type 0 where
   pub opcode : ℕ
   pub flags : ℕ

@@ -1,4 +1,4 @@
--- Addresses and prefixes: an address as the number that prefixes are taken of.
+-- Document 01, "The table image" and "Choosing the answer": addresses, the client's too, as the numbers that prefixes are taken of.
 use mathlib.Core.Bool.{Bool}
 use mathlib.Core.List.{List}
 use Prim.Native.Nat.{ℕ, _-_, _/_, _%_, _^_}

@@ -16,7 +16,7 @@ unfoldable pub grown : Check → List ℕ → Check
 grown c [] = c
 grown c (x ∷ xs) = grown (grow c x) xs
 
--- the check of a block's first 508 octets: a starts at 1, b at 0
+-- the check of octets: a starts at 1, b at 0
 unfoldable pub checkOf : List ℕ → Check
 checkOf octets = grown (record { a = 1; b = 0 }) octets
 

@@ -1,4 +1,4 @@
--- Fields of a body or a record: a text behind its length octet, and room that must be zero.
+-- Document 01, "The table image": fields of a body or a record, a text behind its length octet, and room that must be zero.
 use mathlib.Core.Bool.{Bool, _&&_}
 use mathlib.Core.List.{List}
 use Prim.Native.Nat.{ℕ, _+_, _-_}

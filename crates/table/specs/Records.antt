@@ -21,7 +21,7 @@ pub record Server : Type 0 where
   pub netbios : List ℕ
   pub host : List ℕ
 
--- a naming context
+-- a naming context; an application context is one that has no SID
 pub record Context : Type 0 where
   pub number : ContextNumber
   pub application : Bool
@@ -30,6 +30,7 @@ pub record Context : Type 0 where
   pub netbios : List ℕ
   pub dns : List ℕ
 
+-- an account; control is its bits, coded as MS-SAMR 2.2.1.12
 pub record Account : Type 0 where
   pub context : ContextNumber
   pub control : ℕ

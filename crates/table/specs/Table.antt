@@ -1,4 +1,4 @@
--- The table that an image holds: its server, forest, contexts, accounts, sites and subnets, in table order.
+-- Document 01, "The table image": the table that an image holds, its server, forest, contexts, accounts, sites and subnets, in table order.
 use mathlib.Core.Bool.{Bool, not}
 use mathlib.Core.List.{List, [], _∷_, map, flatMap}
 use Prim.Native.Nat.{ℕ, _*_, _/_}

@@ -12,6 +12,10 @@ use Rattle.table.specs.declared.SiteNumber.{SiteNumber}
 use Rattle.table.specs.Records.{Context, Account, Site, Subnet, sameContext, sameSite}
 use Rattle.table.specs.Table.{Table}
 
+-- the same DNS name: ASCII case ignored
+abbrev pub sameDnsName : List ℕ → List ℕ → Bool
+sameDnsName = sameFolded
+
 -- the same account name: ASCII case ignored
 unfoldable pub sameAccountName : List ℕ → List ℕ → Bool
 sameAccountName = sameFolded
@@ -22,13 +26,15 @@ sameSid none t = false
 sameSid (some s) none = false
 sameSid (some s) (some t) = same s t
 
+-- context numbers, GUIDs, SIDs and DNS names are unique
 unfoldable pub contextsApart : List Context → Bool
 contextsApart cs =
     apart (λ c d. sameContext (c .number) (d .number)) cs
     && apart (λ c d. same (c .guid) (d .guid)) cs
     && apart (λ c d. sameSid (c .sid) (d .sid)) cs
-    && apart (λ c d. sameFolded (c .dns) (d .dns)) cs
+    && apart (λ c d. sameDnsName (c .dns) (d .dns)) cs
 
+-- account names are unique within their context
 unfoldable pub accountsApart : List Account → Bool
 accountsApart = apart (λ a b. sameContext (a .context) (b .context) && sameAccountName (a .name) (b .name))
 

@@ -4,13 +4,13 @@ use mathlib.Core.List.{List, [], _∷_}
 use mathlib.Core.Option.{Option, none, some}
 use Prim.Native.Nat.{ℕ}
 use Rattle.octets.specs.Lists.{first, holds}
-use Rattle.octets.specs.Text.{same, sameFolded}
+use Rattle.octets.specs.Text.{same}
 use Rattle.table.specs.declared.ContextNumber.{ContextNumber}
 use Rattle.table.specs.declared.SiteNumber.{SiteNumber}
 use Rattle.table.specs.Address.{sharePrefix}
 use Rattle.table.specs.Records.{Context, Account, Site, Subnet, sameContext, sameSite}
 use Rattle.table.specs.Table.{Table}
-use Rattle.table.specs.Whole.{sameAccountName}
+use Rattle.table.specs.Whole.{sameDnsName, sameAccountName}
 pub mod Properties
 
 -- the contexts that a ping's clauses are held against
@@ -20,9 +20,9 @@ contextsSearched t = t .contexts
 unfoldable pub contextByGuid : Table → List ℕ → Option Context
 contextByGuid t guid = first (λ c. same (c .guid) guid) (contextsSearched t)
 
--- a DnsDomain value names a context: ASCII case ignored
+-- a DnsDomain value names a context
 unfoldable pub isNamedBy : List ℕ → Context → Bool
-isNamedBy asked c = sameFolded (c .dns) asked
+isNamedBy asked c = sameDnsName (c .dns) asked
 
 unfoldable pub contextByDnsName : Table → List ℕ → Option Context
 contextByDnsName t asked = first (isNamedBy asked) (contextsSearched t)

@@ -3,15 +3,15 @@ use mathlib.Core.Bool.{Bool, _&&_, _||_}
 use mathlib.Core.List.{List}
 use Prim.Native.Nat.{ℕ}
 use Rattle.octets.specs.Lists.{cut}
-use Rattle.octets.specs.Text.{same, sameFolded}
+use Rattle.octets.specs.Text.{same}
 use Rattle.table.specs.Records.{Context, Account, sameContext, contextOf, accountOf}
-use Rattle.table.specs.Whole.{sameSid, sameAccountName}
+use Rattle.table.specs.Whole.{sameSid, sameAccountName, sameDnsName}
 use Rattle.table_whole.specs.declared.alike.Likeness.{Likeness}
 use Rattle.table_whole.specs.declared.alike.Likeness.the-variants.{Contexts, Accounts}
 pub mod Properties
 
 abbrev pub contextsAlike : Context → Context → Bool
-contextsAlike c d = same (c .guid) (d .guid) || sameSid (c .sid) (d .sid) || sameFolded (c .dns) (d .dns)
+contextsAlike c d = same (c .guid) (d .guid) || sameSid (c .sid) (d .sid) || sameDnsName (c .dns) (d .dns)
 
 abbrev pub accountsAlike : Account → Account → Bool
 accountsAlike a b = sameContext (a .context) (b .context) && sameAccountName (a .name) (b .name)

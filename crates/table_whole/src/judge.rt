@@ -24,7 +24,7 @@ fn has_good_length(image: &[u8]) -> bool
     image.len() % 512 == 0
 }
 
-// What is judged of every block before anything else is.
+// What is judged of every block: first the checks of all, then the layouts of all.
 pub enum BlockRule {
     Checks,
     Layouts,

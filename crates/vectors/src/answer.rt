@@ -1,5 +1,6 @@
 // The answer to one request line.
 ghost use mathlib.Core.Path.{_≡_};
+ghost use Rattle.filter.specs.Taken.{numberOf as takenNumber};
 ghost use Rattle.table.specs.Judgement.{numberOf};
 use crate::parse::decode;
 use crate::parse::is_octets;
@@ -82,25 +83,31 @@ fn say_request(filter: &[u8], r: Request) {
     say_clause(filter, nt_ver);
 }
 
-fn say_taken(filter: &[u8], taken: Taken) {
+fn taken_number(taken: Taken) -> u8
+    ensures { λ r. ⌜ r ≡ takenNumber taken ⌝ }
+{
     match taken {
-        Taken::Refused(r) => {
-            say(b"filter ");
-            say_number(number_of(r) as u64);
-            say(b" . . . . . . . .\n");
-        }
-        Taken::Request(r) => {
-            say(b"filter 0");
-            say_request(filter, r);
-            say(b"\n");
-        }
+        Taken::Request(_) => 0,
+        Taken::Refused(r) => number_of(r),
+    }
+}
+
+// The clauses of a refused filter are all absent.
+fn say_clauses(filter: &[u8], taken: Taken) {
+    match taken {
+        Taken::Request(r) => say_request(filter, r),
+        Taken::Refused(_) => say(b" . . . . . . . ."),
     }
 }
 
 fn answer_filter(text: &[u8], space: &mut [u8]) {
     let n = decode(text, space);
     let filter = part(space, 0, n);
-    say_taken(filter, filter::take_apart(filter));
+    let taken = filter::take_apart(filter);
+    say(b"filter ");
+    say_number(taken_number(taken) as u64);
+    say_clauses(filter, taken);
+    say(b"\n");
 }
 
 // A line of two words: its kind, and octets.

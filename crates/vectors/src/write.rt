@@ -1,5 +1,6 @@
 // `write` lines: a filter is written from eight clauses.
 ghost use mathlib.Core.Path.{_≡_};
+ghost use Rattle.filter.specs.Write.{numberOf, lengthOf};
 ghost use lib.ListN.{length};
 use crate::parse::Decimal;
 use crate::parse::decimal_of;
@@ -79,24 +80,31 @@ fn request_of(line: &[u8]) -> Request {
     }
 }
 
-fn say_written(written: Written) {
+fn written_number(written: Written) -> u8
+    ensures { λ r. ⌜ r ≡ numberOf written ⌝ }
+{
     match written {
-        Written::Refused(r) => {
-            say_number(number_of(r) as u64);
-            say(b" 0 ");
-        }
-        Written::Length(n) => {
-            say(b"0 ");
-            say_number(n as u64);
-            say(b" ");
-        }
+        Written::Length(_) => 0,
+        Written::Refused(r) => number_of(r),
+    }
+}
+
+fn written_length(written: Written) -> usize
+    ensures { λ r. ⌜ r ≡ lengthOf written ⌝ }
+{
+    match written {
+        Written::Length(n) => n,
+        Written::Refused(_) => 0,
     }
 }
 
 fn write_into(line: &[u8], source: &[u8], out: &mut [u8]) {
     let written = filter_write::write_filter(source, request_of(line), out);
     say(b"write ");
-    say_written(written);
+    say_number(written_number(written) as u64);
+    say(b" ");
+    say_number(written_length(written) as u64);
+    say(b" ");
     say_octets(out);
     say(b"\n");
 }

@@ -43,9 +43,6 @@ module _ {A : Type 0} where
   pub cut-length : (s : List A) (at n : ℕ) → at + n ≤ length s → length (cut s at n) ≡ n
   cut-length s at n h = simp (length-take, length-drop) (omega arith)
 
-  pub getD-cut : (s : List A) (at n i : ℕ) (d : A) → i < n → getD (cut s at n) i d ≡ getD s (at + i) d
-  getD-cut s at n i d h = rw (getD-take, getD-drop)
-
   -- a stretch of a stretch
   pub cut-cut : (s : List A) (at n from m : ℕ) → from + m ≤ n → cut (cut s at n) from m ≡ cut s (at + from) m
   cut-cut s at n from m h =

@@ -1,18 +1,17 @@
 -- Laws of an image's blocks: by their places, and what each adds to the table's lists.
-use mathlib.Core.Path.{_≡_, refl, sym, ap, _∙_}
-use mathlib.Core.Bool.{Bool, true, false, not}
-use mathlib.Core.List.{List, [], _∷_, _++_, map, flatMap}
-use Prim.Native.Nat.{ℕ, zero, suc, _+_, _*_, _/_, _≤_, _<_}
+use mathlib.Core.Path.{_≡_, refl, sym, ap}
+use mathlib.Core.Bool.{Bool, true, false}
+use mathlib.Core.List.{List, [], _∷_, _++_, map}
+use Prim.Native.Nat.{ℕ, _+_, _*_, _/_, _≤_, _<_}
 use native.Mathlib.Numerals.{add-one}
 use native.Mathlib.Omega.{arith}
 use lib.Dec.{eqb}
 use lib.ListN.{length, getD, drop, drop-of-length-le}
 use lib.Seq.{drop-cons}
-use Rattle.octets.specs.Lists.{keep, keepIf, pieces}
-use Rattle.octets.specs.Lists.Properties.{length-pieces, getD-pieces, keep-append, cut-length}
-use Rattle.octets.specs.Text.{allZero}
+use Rattle.octets.specs.Lists.{keep, keepIf}
+use Rattle.octets.specs.Lists.Properties.{length-pieces, getD-pieces, cut-length}
 use Rattle.table.specs.Layout.{body}
-use Rattle.table.specs.Table.{blockAt, blocksOf, bodies, recordsOf}
+use Rattle.table.specs.Table.{blockAt, blocksOf, bodies}
 
 pub length-blocks : (image : List ℕ) → length (blocksOf image) ≡ length image / 512
 unfolding blocksOf
@@ -48,26 +47,6 @@ bodies-cons kind block blocks = go (eqb (getD block 0 0) kind)
   where
     go : (b : Bool) → map body (keepIf b block (keep (λ c. eqb (getD c 0 0) kind) blocks)) ≡ bodyIf b block ++ map body (keep (λ c. eqb (getD c 0 0) kind) blocks)
     go true = refl
-    go false = refl
-
--- the used records of a body
-abbrev pub used : ℕ → ℕ → List ℕ → List (List ℕ)
-used n w b = keep (λ r. not (allZero r)) (pieces n w b)
-
-abbrev pub usedIf : Bool → ℕ → ℕ → List ℕ → List (List ℕ)
-usedIf true n w block = used n w (body block)
-usedIf false n w block = []
-
-pub records-cons : (kind n w : ℕ) (block : List ℕ) (blocks : List (List ℕ))
-    → recordsOf kind n w (block ∷ blocks) ≡ usedIf (eqb (getD block 0 0) kind) n w block ++ recordsOf kind n w blocks
-unfolding recordsOf flatMap bodies keep
-records-cons kind n w block blocks = go (eqb (getD block 0 0) kind)
-  where
-    rest : List (List ℕ)
-    rest = map body (keep (λ c. eqb (getD c 0 0) kind) blocks)
-
-    go : (b : Bool) → keep (λ r. not (allZero r)) (flatMap (pieces n w) (map body (keepIf b block (keep (λ c. eqb (getD c 0 0) kind) blocks)))) ≡ usedIf b n w block ++ keep (λ r. not (allZero r)) (flatMap (pieces n w) rest)
-    go true = keep-append (λ r. not (allZero r)) (pieces n w (body block)) (flatMap (pieces n w) rest)
     go false = refl
 
 -- the body of the block at a place
