@@ -1,13 +1,12 @@
 -- Document 01, "Choosing the answer": the user, the form, the opcode and the flags, and the reply they make.
 use mathlib.Core.Bool.{Bool, true, false, cond, not, _&&_, _||_}
-use mathlib.Core.List.{List, [], _∷_}
+use mathlib.Core.List.{List, []}
 use mathlib.Core.Option.{Option, none, some}
 use Prim.Native.Nat.{ℕ, _+_}
-use lib.Dec.{eqb}
 use Rattle.answers.specs.declared.Form.{Form}
 use Rattle.answers.specs.declared.Form.the-variants.{Nt40, Response, Ex}
 use Rattle.filter.specs.Value.{Ping}
-use Rattle.octets.specs.Lists.{holds, isSome}
+use Rattle.octets.specs.Lists.{holds}
 use Rattle.octets.specs.Number.{has, little}
 use Rattle.reply.specs.Reply.{Reply}
 use Rattle.table.specs.declared.SiteNumber.{SiteNumber}

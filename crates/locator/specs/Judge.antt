@@ -1,5 +1,5 @@
 -- Document 01, "Answer numbers" 11 to 17 and "Choosing the answer": the context used.
-use mathlib.Core.Bool.{Bool, not}
+use mathlib.Core.Bool.{not}
 use mathlib.Core.List.{List}
 use mathlib.Core.Option.{Option, none, some}
 use Prim.Native.Nat.{ℕ}

@@ -1,7 +1,6 @@
 -- Document 01, "Sample answers": P1 to P12 as one table, of which one statement is proved by computation.
 use mathlib.Core.Path.{_≡_, refl}
-use mathlib.Core.Bool.{Bool, true, false, cond, not}
-use mathlib.Core.List.{List, [], _∷_, _++_, map, flatMap, reverse}
+use mathlib.Core.List.{List, [], _∷_, _++_, map, flatMap}
 use mathlib.Core.Option.{Option, none, some}
 use Prim.Native.Nat.{ℕ, _+_}
 use lib.ListN.{length, take, replicate}
@@ -27,9 +26,9 @@ use Rattle.octets.specs.Utf16.{pointOctets, pointsOctets, utf16}
 use Rattle.octets.specs.Utf8.{lead, follow, pointsFrom, isUtf8}
 use Rattle.reader.specs.Field.{octetsAt, fixedAt}
 use Rattle.reader.specs.Name as reading
-use Rattle.reader.specs.Reader.{Fields, nt40, response, ex, Named, opcodeIn, numberAt, tokensAt, addressAt, hasNextSite, lastAt, readEx, readIn}
+use Rattle.reader.specs.Reader.{Fields, nt40, response, ex, opcodeIn, numberAt, tokensAt, addressAt, hasNextSite, lastAt, readEx, readIn}
 use Rattle.reader.specs.Reader as reader
-use Rattle.reply.specs.Reply.{text16, ending, opening, nt40Octets, responseHead, responseOctets, exHead, exOctets}
+use Rattle.reply.specs.Reply.{u16, u32, text16, ending, opening, nt40Octets, responseHead, responseOctets, exHead, exOctets}
 use Rattle.table.specs.Address.{addressNumber, isPrefixOnly, sharePrefix}
 use Rattle.table.specs.Check.{grown, checkOf, goodCheck}
 use Rattle.table.specs.Field.{zeros, textField}
@@ -46,12 +45,6 @@ use Rattle.table_find.specs.LogOn.{mayLogOn}
 use Rattle.locator.specs.Judge.{contextUsed, contextIn}
 
 -- the base table
-
-abbrev u16 : ℕ → List ℕ
-u16 = littleOctets 2
-
-abbrev u32 : ℕ → List ℕ
-u32 = littleOctets 4
 
 -- octets with zeros behind them, n in all
 abbrev padded : ℕ → List ℕ → List ℕ

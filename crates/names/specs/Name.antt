@@ -1,5 +1,4 @@
 -- Document 01, "Reply octets": names written one after the other, compressed by RFC 1035 section 4.1.4.
-use mathlib.Core.Bool.{Bool, true, false}
 use mathlib.Core.List.{List, [], _∷_, _++_}
 use mathlib.Core.Option.{Option, none, some}
 use Prim.Native.Nat.{ℕ, _+_}

@@ -1,6 +1,6 @@
 -- Document 01, "The table image": the table that an image holds, its server, forest, contexts, accounts, sites and subnets, in table order.
-use mathlib.Core.Bool.{Bool, not}
-use mathlib.Core.List.{List, [], _∷_, map, flatMap}
+use mathlib.Core.Bool.{not}
+use mathlib.Core.List.{List, [], map, flatMap}
 use Prim.Native.Nat.{ℕ, _*_, _/_}
 use lib.Dec.{eqb}
 use lib.ListN.{length, getD}

@@ -9,7 +9,7 @@ use Rattle.octets.specs.Lists.{all, any, apart, holds}
 use Rattle.octets.specs.Text.{same, sameFolded, within}
 use Rattle.table.specs.declared.ContextNumber.{ContextNumber}
 use Rattle.table.specs.declared.SiteNumber.{SiteNumber}
-use Rattle.table.specs.Records.{Context, Account, Site, Subnet, sameContext, sameSite}
+use Rattle.table.specs.Records.{Context, Account, Site, sameContext, sameSite}
 use Rattle.table.specs.Table.{Table}
 
 -- the same DNS name: ASCII case ignored

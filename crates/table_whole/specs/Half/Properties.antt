@@ -1,9 +1,9 @@
 -- Laws of the two halves: from what is found at places and among marks to what is said of the table.
 use mathlib.Core.Path.{_≡_, refl, sym, ap, ap₂, _∙_, fun-ext}
-use mathlib.Core.Bool.{Bool, true, false, cond, not, _&&_, _||_, and-true, and-false, and-assoc, and-comm}
-use mathlib.Core.List.{List, [], _∷_, map}
-use mathlib.Core.Option.{Option, none, some}
-use Prim.Native.Nat.{ℕ, _+_, _/_, _≤_, _<_}
+use mathlib.Core.Bool.{Bool, true, false, cond, not, _&&_, _||_, and-true, and-false, and-comm}
+use mathlib.Core.List.{List, map}
+use mathlib.Core.Option.{none, some}
+use Prim.Native.Nat.{ℕ, _/_, _≤_, _<_}
 use native.Mathlib.Omega.{arith}
 use lib.Dec.{eqb, leb}
 use lib.ListN.{length, getD, length-map}
@@ -12,8 +12,6 @@ use Rattle.octets.specs.Lists.{all, any, apart, cut, holds}
 use Rattle.octets.specs.Lists.Properties.{all-map, any-map, apart-map, all-both, apart-either}
 use Rattle.octets.specs.Number.{u16At}
 use Rattle.octets.specs.Text.{same, sameFolded, within}
-use Rattle.table.specs.declared.ContextNumber.{ContextNumber}
-use Rattle.table.specs.declared.SiteNumber.{SiteNumber}
 use Rattle.table.specs.Layout.{body}
 use Rattle.table.specs.Records.{contextOf, accountOf, siteOf, subnetOf, serverOf, contextNumber, siteNumber, siteOrNone, sameContext, sameSite}
 use Rattle.table.specs.Table.{Table, blockAt, blocksOf, bodies, recordsOf, tableOf}
