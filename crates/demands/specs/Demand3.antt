@@ -15,7 +15,6 @@ use Rattle.octets.specs.Label as label
 use Rattle.reader.specs.Reader.{Named, Fields, nt40, response, ex, readIn}
 use Rattle.reply.specs.Reply.{Reply, responseHead, responseNames, exHead, exNames, addressIf}
 use Rattle.demands.specs.Made.{Made, said}
-pub mod Properties
 
 -- what stands before the first name of a form
 abbrev pub headOf : Form → Reply → List ℕ

@@ -7,7 +7,6 @@ use Rattle.answers.specs.declared.Form.{Form}
 use Rattle.answers.specs.declared.Form.the-variants.{Nt40, Response, Ex}
 use Rattle.answers.specs.Try.{good}
 use Rattle.locator.specs.Answer.{Outcome, answerTo}
-pub mod Properties
 
 abbrev pub longest : Form → ℕ
 longest Nt40 = 202

@@ -13,7 +13,6 @@ use Rattle.reply.specs.Reply.{Reply}
 use Rattle.table.specs.Judgement.{tableIn}
 use Rattle.table.specs.Records.{Context}
 use Rattle.table.specs.Table.{Table}
-pub mod Properties
 
 -- the table of the image, the request and the ping of the filter, and the context used, each judged good
 pub record Made (image client filter : List ℕ) (room : ℕ) (a : Outcome) : Type 0 where

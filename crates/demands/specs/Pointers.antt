@@ -16,7 +16,6 @@ use Rattle.octets.specs.Text.{same}
 use Rattle.reply.specs.Reply.{Reply}
 use Rattle.demands.specs.Demand3.{headOf, namesOf}
 use Rattle.demands.specs.Made.{Made, said}
-pub mod Properties
 
 -- the tails that the first k names of a form leave
 abbrev pub tailsBefore : Form → Reply → ℕ → List Tail

@@ -7,7 +7,6 @@ use Rattle.answers.specs.Try.{good}
 use Rattle.names.specs.Walk.{Name, walk}
 use Rattle.reader.specs.Field.{Read}
 use Rattle.reader.specs.Name.{nameAt}
-pub mod Properties
 
 abbrev pub ReaderWalks : Type 0
 ReaderWalks = (s : List ℕ) (at : ℕ) (f : Read Name) → nameAt s at ≡ good f → walk s at ≡ some (f .value)

@@ -16,7 +16,6 @@ use Rattle.reader.specs.Reader.{Named, Nt40Fields, ResponseFields, ExFields, nt
 use Rattle.reader.specs.Text.{Stretch}
 use Rattle.reply.specs.Reply.{Reply, responseNames, exNames}
 use Rattle.demands.specs.Made.{Made, said}
-pub mod Properties
 
 -- the octets of a stretch
 abbrev pub stretchOf : List ℕ → Stretch → List ℕ

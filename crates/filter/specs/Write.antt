@@ -1,5 +1,4 @@
 -- Document 01, "The filter": the writer, with 6, 5 and 19.
-pub mod Properties
 use mathlib.Core.Bool.{cond, not}
 use mathlib.Core.List.{List, [], _∷_, _++_, flatMap}
 use mathlib.Core.Option.{Option, none, some}

@@ -14,9 +14,9 @@ ghost use Rattle.filter.specs.Request.{clause, isPresent, octetsOf};
 ghost use Rattle.filter.specs.Value.{isNumber, isUser, pingIn, judgedAs};
 ghost use Rattle.filter.specs.Shape.{elementAt, equality, andOf, clausesOf};
 ghost use Rattle.filter.specs.Taken.{requestIn, takenAs};
-ghost use Rattle.filter.specs.Step.{sizeAt, SizeWithin, taggedAs, TaggedWithin, equalityAs, stepAt, StepWithin, Inside, FilterInside};
-ghost use Rattle.filter.specs.Step.{clausesIn};
-ghost use Rattle.filter.specs.Gather.{namedAs, nameIn, stored, added, nothing, gatheredFrom};
+ghost use Rattle.filter.specs.Internal.Step.{sizeAt, SizeWithin, taggedAs, TaggedWithin, equalityAs, stepAt, StepWithin, Inside, FilterInside};
+ghost use Rattle.filter.specs.Internal.Step.{clausesIn};
+ghost use Rattle.filter.specs.Internal.Gather.{namedAs, nameIn, stored, added, nothing, gatheredFrom};
 
 // A clause is absent, or present with its stretch of octets; present and empty is present.
 pub enum Clause {

@@ -1,7 +1,4 @@
 -- Document 01, "The filter": "Taking apart what it wrote gives the same clauses." The statements; RoundTrip/Properties.antt has the proofs.
-pub mod Elements
-pub mod Clauses
-pub mod Properties
 use mathlib.Core.Path.{_≡_}
 use mathlib.Core.List.{List}
 use Prim.Native.Nat.{ℕ}

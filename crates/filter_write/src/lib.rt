@@ -15,7 +15,7 @@ ghost use Rattle.octets.specs.Lists.{any};
 ghost use Rattle.filter.specs.declared.Name.the-variants.{NtVer};
 ghost use Rattle.filter.specs.Request.{names, spelling, clause, isPresent, octetsOf};
 ghost use Rattle.filter.specs.Write.{lengthOctets, element, equalityFor, filterOctets, filterFor, writtenAs, writtenOctets};
-ghost use Rattle.filter_write.specs.Size.{headSize, elementSize, contents};
+ghost use Rattle.filter_write.specs.Internal.Size.{headSize, elementSize, contents};
 
 // Lengths below this take one octet.
 const LENGTH_OF_ONE: usize = 0x80;

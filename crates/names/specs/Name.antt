@@ -7,7 +7,6 @@ use Rattle.octets.specs.Label.{labels, joined}
 use Rattle.octets.specs.Lists.{first}
 use Rattle.octets.specs.Number.{bigOctets}
 use Rattle.octets.specs.Text.{same}
-pub mod Properties
 
 -- document 01's "name tail starting at a literally written label": the label's offset in the reply, and the octets from there to the end of the name
 pub record Tail : Type 0 where

@@ -7,7 +7,6 @@ use lib.Dec.{eqb, leb, ltb}
 use lib.ListN.{length, getD}
 use Rattle.octets.specs.Lists.{cut}
 use Rattle.octets.specs.Number.{big}
-pub mod Properties
 
 -- what stands at an offset, by the top two bits of its octet: a label's octets may still be missing
 pub data Look : Type 0 where

@@ -3,7 +3,6 @@ use mathlib.Core.Bool.{Bool, true, false}
 use mathlib.Core.List.{List, [], _∷_, _++_}
 use Prim.Native.Nat.{ℕ}
 use lib.Dec.{eqb}
-pub mod Properties
 
 abbrev pub toFirst : ℕ → List (List ℕ) → List (List ℕ)
 toFirst x [] = (x ∷ []) ∷ []

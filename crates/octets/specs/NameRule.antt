@@ -8,7 +8,6 @@ use Rattle.octets.specs.Label.{parts}
 use Rattle.octets.specs.Lists.{all}
 use Rattle.octets.specs.Text.{within, isPrintable}
 use Rattle.octets.specs.Utf8.{isUtf8}
-pub mod Properties
 
 abbrev pub sized : ℕ → ℕ → List ℕ → Bool
 sized low high s = within low high (length s)

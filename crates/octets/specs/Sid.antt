@@ -4,7 +4,6 @@ use mathlib.Core.List.{List}
 use Prim.Native.Nat.{ℕ, _+_, _*_}
 use lib.Dec.{eqb, leb}
 use lib.ListN.{length, getD}
-pub mod Properties
 
 -- the length that a SID's own count gives it
 abbrev pub sidLength : List ℕ → ℕ

@@ -4,7 +4,6 @@ use mathlib.Core.List.{List, [], _∷_, map}
 use Prim.Native.Nat.{ℕ, _+_}
 use lib.Dec.{eqb, leb}
 use Rattle.octets.specs.Lists.{all}
-pub mod Properties
 
 unfoldable pub same : List ℕ → List ℕ → Bool
 same [] [] = true

@@ -7,7 +7,6 @@ use lib.Dec.{ltb}
 use Rattle.octets.specs.Number.{littleOctets}
 use Rattle.octets.specs.Text.{within}
 use Rattle.octets.specs.Utf8.{points}
-pub mod Properties
 
 abbrev pub isHigh : ℕ → Bool
 isHigh = within 0xD800 0xDBFF

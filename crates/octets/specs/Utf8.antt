@@ -6,7 +6,6 @@ use Prim.Native.Nat.{ℕ, zero, suc, _+_, _*_, _%_}
 use lib.Dec.{eqb, ltb}
 use Rattle.octets.specs.Lists.{isSome}
 use Rattle.octets.specs.Text.{within}
-pub mod Properties
 
 -- within a character: octets still to come, the range of the next one, and the code point's bits so far
 pub record Inside : Type 0 where

@@ -4,7 +4,7 @@ ghost use Prim.Native.Nat.{_≤_};
 ghost use lib.ListN.{length};
 ghost use Rattle.octets.specs.Lists.{all};
 ghost use Rattle.octets.specs.Label.{parts};
-ghost use Rattle.octets.specs.LabelStep.{labelStep, InLabel};
+ghost use Rattle.octets.specs.Internal.LabelStep.{labelStep, InLabel};
 ghost use Rattle.octets.specs.NameRule.{sized, isDnsName, isPlainName, isNetbiosName, isSiteName, isAccountName};
 ghost use Rattle.octets.specs.Sid.{isSid};
 use crate::number::wide;

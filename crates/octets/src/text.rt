@@ -4,7 +4,7 @@ ghost use mathlib.Core.Bool.{Bool};
 ghost use mathlib.Core.List.{map};
 ghost use Prim.Native.Nat.{_+_, _≤_, _<_};
 ghost use lib.ListN.{length};
-ghost use Rattle.octets.specs.Class.{isOf};
+ghost use Rattle.octets.specs.Internal.Class.{isOf};
 ghost use Rattle.octets.specs.Lists.{all};
 ghost use Rattle.octets.specs.NameRule.{printable, without, isDnsName, isNetbiosName, isSiteName, isAccountName};
 ghost use Rattle.octets.specs.Text.{same, lower, sameFolded, allZero, foldIf};

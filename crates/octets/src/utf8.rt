@@ -3,7 +3,7 @@ ghost use mathlib.Core.Path.{_≡_};
 ghost use mathlib.Core.Bool.{Bool};
 ghost use Prim.Native.Nat.{_≤_, _<_};
 ghost use Rattle.octets.specs.Utf8.{lead, follow, step, isUtf8};
-ghost use Rattle.octets.specs.Utf8Step.{stepAs, Sound, InBounds, inside, limit, behind, stateIn, SoundState, SoundNext};
+ghost use Rattle.octets.specs.Internal.Utf8Step.{stepAs, Sound, InBounds, inside, limit, behind, stateIn, SoundState, SoundNext};
 
 // Within a character: octets still to come, the range of the next one, and the code point's bits so far.
 pub struct Inside {

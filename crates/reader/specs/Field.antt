@@ -8,7 +8,6 @@ use Rattle.answers.specs.declared.Refusal.the-variants.{ReplyCut, ReplyFixed}
 use Rattle.answers.specs.Try.{Try, refused, good, refusedIf, _>>=_}
 use Rattle.octets.specs.Lists.{cut}
 use Rattle.octets.specs.Text.{same}
-pub mod Properties
 
 pub record Read (A : Type 0) : Type 0 where
   pub value : A

@@ -10,7 +10,6 @@ use Rattle.answers.specs.Try.{Try, refused, good, refusedIf}
 use Rattle.names.specs.Walk.{Look, end, label, pointer, missing, reserved, lookAt, Name, steps}
 use Rattle.octets.specs.Lists.{cut}
 use Rattle.reader.specs.Field.{Read}
-pub mod Properties
 
 -- octets missing are 31, but after a pointer was followed every fault is 33
 abbrev pub cutAfter : ℕ → Refusal

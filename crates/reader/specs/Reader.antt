@@ -16,7 +16,6 @@ use Rattle.octets.specs.Text.{within}
 use Rattle.reader.specs.Field.{Read, octetsAt, fixedAt}
 use Rattle.reader.specs.Name.{nameAt}
 use Rattle.reader.specs.Text.{Stretch, textAt}
-pub mod Properties
 
 -- a name as it is given back: its labels joined by dots, with its pointer count
 pub record Named : Type 0 where

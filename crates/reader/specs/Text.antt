@@ -9,7 +9,6 @@ use Rattle.answers.specs.Try.{Try, refused, good, _>>=_}
 use Rattle.octets.specs.Number.{little}
 use Rattle.octets.specs.Utf16.{isHigh, isLow}
 use Rattle.reader.specs.Field.{Read, octetsAt}
-pub mod Properties
 
 -- a stretch of the reply: where it starts, and how many octets it has
 pub record Stretch : Type 0 where

@@ -4,7 +4,6 @@ use mathlib.Core.List.{List}
 use Prim.Native.Nat.{ℕ, _-_, _/_, _%_, _^_}
 use lib.Dec.{eqb}
 use Rattle.octets.specs.Number.{big}
-pub mod Properties
 
 -- four octets in dotted order
 unfoldable pub addressNumber : List ℕ → ℕ

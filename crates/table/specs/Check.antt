@@ -6,7 +6,6 @@ use lib.Dec.{eqb}
 use lib.ListN.{take}
 use Rattle.octets.specs.Number.{u16At}
 use Rattle.table.specs.declared.check.Check.{Check}
-pub mod Properties
 
 -- a grows by an octet, then b by a, both modulo 65,536
 abbrev pub grow : Check → ℕ → Check

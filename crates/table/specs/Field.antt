@@ -6,7 +6,6 @@ use lib.Dec.{leb}
 use lib.ListN.{getD}
 use Rattle.octets.specs.Lists.{cut}
 use Rattle.octets.specs.Text.{allZero}
-pub mod Properties
 
 -- the octets from `at` up to `end` are zero
 unfoldable pub zeros : List ℕ → ℕ → ℕ → Bool

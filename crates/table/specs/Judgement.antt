@@ -15,7 +15,6 @@ use Rattle.table.specs.Check.{goodCheck}
 use Rattle.table.specs.Layout.{layoutsFrom}
 use Rattle.table.specs.Table.{Table, blocksOf, tableOf}
 use Rattle.table.specs.Whole.{goodWhole}
-pub mod Properties
 
 -- a multiple of 512 from 1,024 to 65,536
 unfoldable pub goodLength : List ℕ → Bool

@@ -13,7 +13,6 @@ use Rattle.table.specs.declared.BlockPlace.{BlockPlace}
 use Rattle.table.specs.Address.{isPrefixOnly}
 use Rattle.table.specs.Field.{zeros, textField}
 use Rattle.table.specs.Records.{sidAt}
-pub mod Properties
 
 -- a number that must be there is not 0
 abbrev pub given : ℕ → Bool

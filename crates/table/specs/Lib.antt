@@ -3,8 +3,7 @@ pub mod Address
 pub mod Field
 pub mod Records
 pub mod Layout
-pub mod Rule
-pub mod RecordKind
 pub mod Table
 pub mod Whole
 pub mod Judgement
+pub mod Internal

@@ -9,7 +9,6 @@ use Rattle.octets.specs.Text.{allZero}
 use Rattle.table.specs.Field.{textAt}
 use Rattle.table.specs.Layout.{body}
 use Rattle.table.specs.Records.{Server, Context, Account, Site, Subnet, serverOf, contextOf, accountOf, siteOf, subnetOf}
-pub mod Properties
 
 pub record Table : Type 0 where
   pub server : Server

@@ -3,7 +3,7 @@ ghost use mathlib.Core.Path.{_≡_};
 ghost use Prim.Native.Nat.{_≤_, _<_};
 ghost use lib.ListN.{length};
 ghost use Rattle.table.specs.Field.{zeros, textField};
-ghost use Rattle.table.specs.Rule.{ruleOf};
+ghost use Rattle.table.specs.Internal.Rule.{ruleOf};
 use octets::name_rule::is_account_name;
 use octets::name_rule::is_dns_name;
 use octets::name_rule::is_netbios_name;

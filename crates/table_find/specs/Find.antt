@@ -11,7 +11,6 @@ use Rattle.table.specs.Address.{sharePrefix}
 use Rattle.table.specs.Records.{Context, Account, Site, Subnet, sameContext, sameSite}
 use Rattle.table.specs.Table.{Table}
 use Rattle.table.specs.Whole.{sameDnsName, sameAccountName}
-pub mod Properties
 
 -- the contexts that a ping's clauses are held against
 unfoldable pub contextsSearched : Table → List Context

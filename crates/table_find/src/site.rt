@@ -4,7 +4,7 @@ ghost use Prim.Native.Nat.{_+_, _≤_};
 ghost use lib.ListN.{length};
 ghost use Rattle.octets.specs.Number.{u16At};
 ghost use Rattle.table.specs.Records.{siteOf, siteOrNone, sameSite};
-ghost use Rattle.table_find.specs.Reference.{referred};
+ghost use Rattle.table_find.specs.Internal.Reference.{referred};
 use octets::number::u16_at;
 use table::SiteNumber;
 use table::record::text_in;

@@ -4,7 +4,7 @@ ghost use mathlib.Core.Bool.{Bool};
 ghost use Rattle.octets.specs.Lists.{any, apart};
 ghost use Rattle.table.specs.Records.{contextOf, accountOf};
 ghost use Rattle.table.specs.Whole.{sameSid};
-ghost use Rattle.table_whole.specs.Alike.{contextsAlike, accountsAlike, alikeBy, likeAt, alikeAt};
+ghost use Rattle.table_whole.specs.Internal.Alike.{contextsAlike, accountsAlike, alikeBy, likeAt, alikeAt};
 use octets::part::part;
 use octets::text::alike;
 use octets::text::same_octets;

@@ -4,7 +4,7 @@ ghost use Prim.Native.Nat.{_≤_};
 ghost use lib.ListN.{length};
 ghost use Rattle.table.specs.Judgement.{goodLength, tableIn, judgedAs};
 ghost use Rattle.table.specs.Table.{blocksOf};
-ghost use Rattle.table_whole.specs.BlockRule.{blocksPass};
+ghost use Rattle.table_whole.specs.Internal.BlockRule.{blocksPass};
 use crate::whole::good_whole;
 use answers::Refusal;
 use table::Judgement;

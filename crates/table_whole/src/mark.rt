@@ -5,7 +5,7 @@ ghost use mathlib.Core.List.{[]};
 ghost use Prim.Native.Nat.{_≤_};
 ghost use lib.ListN.{length, getD};
 ghost use Rattle.octets.specs.Lists.{apart};
-ghost use Rattle.table_whole.specs.Mark.{sameNumber, Marked};
+ghost use Rattle.table_whole.specs.Internal.Mark.{sameNumber, Marked};
 use octets::part::part;
 use table::ContextNumber;
 use table::SiteNumber;

@@ -4,7 +4,7 @@ ghost use mathlib.Core.List.{_++_};
 ghost use Prim.Native.Nat.{_+_, _*_, _≤_};
 ghost use lib.ListN.{length, take};
 ghost use Rattle.table.specs.Table.{blocksOf};
-ghost use Rattle.table_whole.specs.Place.{countsAs, placesFrom, recordsAt, countedOf};
+ghost use Rattle.table_whole.specs.Internal.Place.{countsAs, placesFrom, recordsAt, countedOf};
 use octets::part::part;
 use octets::text::all_zero;
 use table::block::block_at;

@@ -3,7 +3,7 @@ ghost use mathlib.Core.Path.{_≡_};
 ghost use mathlib.Core.Bool.{Bool};
 ghost use lib.ListN.{length};
 ghost use Rattle.octets.specs.Lists.{all};
-ghost use Rattle.table_whole.specs.Refer.{markedOrNone, nextMarked, refersBy, refersAt};
+ghost use Rattle.table_whole.specs.Internal.Refer.{markedOrNone, nextMarked, refersBy, refersAt};
 use crate::mark::has_context;
 use crate::mark::has_site;
 use octets::part::part;

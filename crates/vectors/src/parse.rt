@@ -2,7 +2,7 @@
 ghost use mathlib.Core.Path.{_≡_};
 ghost use Prim.Native.Nat.{_≤_, _<_};
 ghost use lib.ListN.{length};
-ghost use Rattle.vectors.specs.Bounds.{Small};
+ghost use Rattle.vectors.specs.Internal.Bounds.{Small};
 
 // The value of a lowercase hex digit.
 pub enum Digit {

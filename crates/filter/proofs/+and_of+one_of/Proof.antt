@@ -7,8 +7,8 @@ use borrow.Fn.PlainCycle.{Measures, is, falls, and}
 use lib.ListN.{length}
 use Rattle.filter.specs.Shape.{siblings, andOf}
 use Rattle.filter.specs.declared.Gathering.the-variants.{Good}
-use Rattle.filter.specs.Gather.{gatheredFrom, allAdded}
-use Rattle.filter.specs.Step.Properties.{and-step, turn-wrong, turn-bad, turn-last, turn-next, filter-within}
+use Rattle.filter.specs.Internal.Gather.{gatheredFrom, allAdded}
+use Rattle.filter.proofs.Laws.Step.{and-step, turn-wrong, turn-bad, turn-last, turn-next, filter-within}
 use Rattle.filter.proofs.and_of.Reads as and-of
 use Rattle.filter.proofs.and_of.Kinds as and-of-kinds
 use Rattle.filter.proofs.+and_of+one_of.Lts-and_of as and-of-lts

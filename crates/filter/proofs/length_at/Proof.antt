@@ -4,8 +4,8 @@ use native.Mathlib.Omega.{arith}
 use borrow.Author.Tests.{lt-ltb}
 use borrow.Author.Needs.{needs}
 use lib.ListN.{getD}
-use Rattle.octets.specs.Number.Properties.{big-one}
-use Rattle.filter.specs.Step.Properties.{width-one, width-two, width-none, size-of, size-cut, size-none, value-at}
+use Rattle.octets.proofs.Laws.Number.{big-one}
+use Rattle.filter.proofs.Laws.Step.{width-one, width-two, width-none, size-of, size-cut, size-none, value-at}
 use Rattle.filter.proofs.length_at.Statement.{statement}
 use Rattle.filter.proofs.length_at.Tie as tie
 

@@ -4,8 +4,8 @@ use borrow.Author.Needs.{needs}
 use lib.ListN.{length}
 use Rattle.filter.specs.Shape.{clausesOf}
 use Rattle.filter.specs.Taken.{requestIn}
-use Rattle.filter.specs.Gather.{answerOf}
-use Rattle.filter.specs.Gather.Properties.{gathered-none, gathered-some}
+use Rattle.filter.specs.Internal.Gather.{answerOf}
+use Rattle.filter.proofs.Laws.Gather.{gathered-none, gathered-some}
 use Rattle.filter.proofs.take_apart.Statement.{statement}
 use Rattle.filter.proofs.take_apart.Tie as tie
 

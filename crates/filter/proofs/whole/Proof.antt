@@ -1,7 +1,7 @@
 use mathlib.Core.Path.{sym, ap, _∙_}
 use borrow.Author.Needs.{needs}
-use Rattle.filter.specs.Gather.{gatheredFrom, nothing}
-use Rattle.filter.specs.Step.Properties.{whole-wrong, whole-short, whole-filled}
+use Rattle.filter.specs.Internal.Gather.{gatheredFrom, nothing}
+use Rattle.filter.proofs.Laws.Step.{whole-wrong, whole-short, whole-filled}
 use Rattle.filter.proofs.whole.Statement.{statement}
 use Rattle.filter.proofs.whole.Tie as tie
 

@@ -7,8 +7,8 @@ use Rattle.filter.specs.declared.Clause.{Clause}
 use Rattle.filter.specs.declared.Name.the-variants.{NtVer}
 use Rattle.filter.specs.Request.{names, clause, octetsOf}
 use Rattle.filter.specs.Write.{equalityFor}
-use Rattle.filter_write.specs.Size.{contents}
-use Rattle.filter_write.specs.Size.Properties.{contents-size-next, contents-end}
+use Rattle.filter_write.specs.Internal.Size.{contents}
+use Rattle.filter_write.proofs.Laws.Size.{contents-size-next, contents-end}
 use Rattle.filter_write.proofs.contents_size.Statement.{statement}
 use Rattle.filter_write.proofs.contents_size.Tie as tie
 

@@ -6,8 +6,8 @@ use lib.ListN.{length}
 use Rattle.filter.specs.declared.Clause.{Clause}
 use Rattle.filter.specs.Request.{octetsOf, spelling}
 use Rattle.filter.specs.Write.{equalityFor}
-use Rattle.filter_write.specs.Size.{elementSize}
-use Rattle.filter_write.specs.Size.Properties.{equality-length}
+use Rattle.filter_write.specs.Internal.Size.{elementSize}
+use Rattle.filter_write.proofs.Laws.Size.{equality-length}
 use Rattle.filter_write.proofs.equality_size.Statement.{statement}
 use Rattle.filter_write.proofs.equality_size.Tie as tie
 

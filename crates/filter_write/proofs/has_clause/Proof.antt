@@ -4,7 +4,7 @@ use Prim.Native.Nat.{_-_, _≤_}
 use native.Mathlib.Omega.{arith}
 use lib.ListN.{drop, getD}
 use Rattle.octets.specs.Lists.{any}
-use Rattle.octets.specs.Lists.Properties.{any-holds, any-next, any-end}
+use Rattle.octets.proofs.Laws.Lists.{any-holds, any-next, any-end}
 use Rattle.filter.specs.declared.Name.{Name}
 use Rattle.filter.specs.declared.Name.the-variants.{NtVer}
 use Rattle.filter.specs.Request.{names, clause, isPresent}

@@ -1,6 +1,6 @@
 use mathlib.Core.Path.{sym}
 use native.Mathlib.Omega.{arith}
-use Rattle.filter_write.specs.Size.Properties.{head-two, head-three, head-four}
+use Rattle.filter_write.proofs.Laws.Size.{head-two, head-three, head-four}
 use Rattle.filter_write.proofs.head_size.Statement.{statement}
 use Rattle.filter_write.proofs.head_size.Tie as tie
 

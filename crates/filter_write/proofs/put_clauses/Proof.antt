@@ -5,14 +5,14 @@ use native.Mathlib.Omega.{arith}
 use borrow.Author.Needs.{needs}
 use lib.ListN.{length, drop, take, getD, length-take, length-drop, length-append}
 use Rattle.octets.specs.Buffer.{over}
-use Rattle.octets.specs.Buffer.Properties.{over-none, over-lent, over-length}
+use Rattle.octets.proofs.Laws.Buffer.{over-none, over-lent, over-length}
 use Rattle.filter.specs.declared.Clause.{Clause}
 use Rattle.filter.specs.declared.Name.{Name}
 use Rattle.filter.specs.declared.Name.the-variants.{NtVer}
 use Rattle.filter.specs.Request.{names, clause, octetsOf}
 use Rattle.filter.specs.Write.{equalityFor}
-use Rattle.filter_write.specs.Size.{contents}
-use Rattle.filter_write.specs.Size.Properties.{written-next, written-within, written-fits, written-all}
+use Rattle.filter_write.specs.Internal.Size.{contents}
+use Rattle.filter_write.proofs.Laws.Size.{written-next, written-within, written-fits, written-all}
 use Rattle.filter_write.proofs.put_clauses.Statement.{statement}
 use Rattle.filter_write.proofs.put_clauses.Tie as tie
 

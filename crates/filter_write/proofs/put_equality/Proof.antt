@@ -6,12 +6,12 @@ use native.Mathlib.Omega.{arith}
 use borrow.Author.Needs.{needs}
 use lib.ListN.{length}
 use Rattle.octets.specs.Buffer.{over}
-use Rattle.octets.specs.Buffer.Properties.{over-none}
+use Rattle.octets.proofs.Laws.Buffer.{over-none}
 use Rattle.filter.specs.declared.Name.{Name}
 use Rattle.filter.specs.Request.{spelling, octetsOf}
 use Rattle.filter.specs.Write.{equalityFor}
-use Rattle.filter_write.specs.Size.{elementSize}
-use Rattle.filter_write.specs.Size.Properties.{equality-length}
+use Rattle.filter_write.specs.Internal.Size.{elementSize}
+use Rattle.filter_write.proofs.Laws.Size.{equality-length}
 use Rattle.filter_write.proofs.put_equality.Statement.{statement}
 use Rattle.filter_write.proofs.put_equality.Tie as tie
 

@@ -3,11 +3,11 @@ use mathlib.Core.List.{List, _∷_, _++_}
 use Prim.Native.Nat.{ℕ}
 use borrow.Author.Needs.{needs}
 use Rattle.octets.specs.Buffer.{over}
-use Rattle.octets.specs.Buffer.Properties.{over-lent}
+use Rattle.octets.proofs.Laws.Buffer.{over-lent}
 use Rattle.filter.specs.Request.{names}
 use Rattle.filter.specs.Write.{lengthOctets, element, filterOctets}
-use Rattle.filter_write.specs.Size.{contents}
-use Rattle.filter_write.specs.Size.Properties.{head-length}
+use Rattle.filter_write.specs.Internal.Size.{contents}
+use Rattle.filter_write.proofs.Laws.Size.{head-length}
 use Rattle.filter_write.proofs.put_filter.Statement.{statement}
 use Rattle.filter_write.proofs.put_filter.Tie as tie
 

@@ -6,7 +6,7 @@ use native.Mathlib.Numerals.{add-one}
 use lib.ListN.{length, getD, take, set, length-set}
 use lib.Seq.{take-suc, take-length, length-take-le}
 use Rattle.octets.specs.Buffer.{over}
-use Rattle.octets.specs.Buffer.Properties.{over-none, over-more}
+use Rattle.octets.proofs.Laws.Buffer.{over-none, over-more}
 use Rattle.filter_write.proofs.put_octets.Statement.{statement}
 use Rattle.filter_write.proofs.put_octets.Tie as tie
 

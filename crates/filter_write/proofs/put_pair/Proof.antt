@@ -5,10 +5,10 @@ use native.Mathlib.Omega.{arith}
 use borrow.Author.Needs.{needs}
 use lib.ListN.{length, take, drop, length-append}
 use Rattle.octets.specs.Buffer.{over}
-use Rattle.octets.specs.Buffer.Properties.{over-lent}
+use Rattle.octets.proofs.Laws.Buffer.{over-lent}
 use Rattle.filter.specs.Request.{spelling}
 use Rattle.filter.specs.Write.{lengthOctets, element}
-use Rattle.filter_write.specs.Size.Properties.{head-length, element-length}
+use Rattle.filter_write.proofs.Laws.Size.{head-length, element-length}
 use Rattle.filter_write.proofs.put_pair.Statement.{statement}
 use Rattle.filter_write.proofs.put_pair.Tie as tie
 

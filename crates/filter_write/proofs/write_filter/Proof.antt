@@ -3,12 +3,12 @@ use mathlib.Core.Bool.{true}
 use borrow.Author.Tests.{not-true, not-false}
 use borrow.Author.Needs.{needs}
 use lib.ListN.{length}
-use Rattle.octets.specs.Buffer.Properties.{over-none}
+use Rattle.octets.proofs.Laws.Buffer.{over-none}
 use Rattle.octets.specs.Lists.{any}
 use Rattle.filter.specs.declared.Written.the-variants.{Length}
 use Rattle.filter.specs.Request.{names, clause, isPresent}
-use Rattle.filter_write.specs.Size.{elementSize, contents}
-use Rattle.filter_write.specs.Size.Properties.{capped-long, capped-short, filter-length, answer-none, answer-long, answer-room, answer-good}
+use Rattle.filter_write.specs.Internal.Size.{elementSize, contents}
+use Rattle.filter_write.proofs.Laws.Size.{capped-long, capped-short, filter-length, answer-none, answer-long, answer-room, answer-good}
 use Rattle.filter_write.proofs.write_filter.Statement.{statement}
 use Rattle.filter_write.proofs.write_filter.Tie as tie
 

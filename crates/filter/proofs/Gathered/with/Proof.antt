@@ -5,8 +5,8 @@ use Prim.Native.Nat.{ℕ}
 use borrow.Author.Needs.{needs}
 use Rattle.filter.specs.declared.Request.{Request}
 use Rattle.filter.specs.Taken.{nameOf}
-use Rattle.filter.specs.Gather.{namedAs, nameIn, added}
-use Rattle.filter.specs.Gather.Properties.{named-none, named-some}
+use Rattle.filter.specs.Internal.Gather.{namedAs, nameIn, added}
+use Rattle.filter.proofs.Laws.Gather.{named-none, named-some}
 use Rattle.filter.specs.Request.{clause, isPresent}
 use Rattle.filter.proofs.Gathered.with.Statement.{statement}
 use Rattle.filter.proofs.Gathered.with.Tie as tie

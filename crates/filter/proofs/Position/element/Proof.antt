@@ -3,8 +3,8 @@ use Prim.Native.Nat.{_+_, _≤_}
 use native.Mathlib.Omega.{arith}
 use borrow.Author.Needs.{needs}
 use lib.ListN.{getD}
-use Rattle.filter.specs.Step.{taggedAs}
-use Rattle.filter.specs.Step.Properties.{element-short, element-sized, element-unsized, ends-past, ends-within}
+use Rattle.filter.specs.Internal.Step.{taggedAs}
+use Rattle.filter.proofs.Laws.Step.{element-short, element-sized, element-unsized, ends-past, ends-within}
 use Rattle.filter.proofs.Position.element.Statement.{statement}
 use Rattle.filter.proofs.Position.element.Tie as tie
 

@@ -4,7 +4,7 @@ use native.Mathlib.Omega.{arith}
 use borrow.Author.Tests.{eq-eqb, ne-eqb}
 use borrow.Author.Needs.{needs}
 use Rattle.filter.specs.Shape.{elementAt, equality}
-use Rattle.filter.specs.Step.Properties.{tagged-none, tagged-some}
+use Rattle.filter.proofs.Laws.Step.{tagged-none, tagged-some}
 use Rattle.filter.proofs.Position.equality.Statement.{statement}
 use Rattle.filter.proofs.Position.equality.Tie as tie
 

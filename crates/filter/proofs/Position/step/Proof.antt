@@ -1,7 +1,7 @@
 use mathlib.Core.Path.{sym, _∙_}
 use native.Mathlib.Omega.{arith}
 use borrow.Author.Needs.{needs}
-use Rattle.filter.specs.Step.Properties.{step-none, step-clause, step-wrong, step-other, step-and}
+use Rattle.filter.proofs.Laws.Step.{step-none, step-clause, step-wrong, step-other, step-and}
 use Rattle.filter.proofs.Position.step.Statement.{statement}
 use Rattle.filter.proofs.Position.step.Tie as tie
 

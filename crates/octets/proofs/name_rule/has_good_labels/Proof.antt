@@ -1,8 +1,8 @@
 use Rattle.octets.specs.declared.name_rule.LabelStep.{LabelStep}
 use Rattle.octets.specs.NameRule.{sized}
 use Rattle.octets.specs.Lists.{all}
-use Rattle.octets.specs.LabelStep.Properties.{goodLabels, good-whole, behind, step-good, end-good}
-use Rattle.octets.specs.LabelStep.{InLabel}
+use Rattle.octets.proofs.Laws.LabelStep.{goodLabels, good-whole, behind, step-good, end-good}
+use Rattle.octets.specs.Internal.LabelStep.{InLabel}
 use Rattle.octets.specs.Label.{parts}
 use borrow.Author.Needs.{needs}
 use lib.ListN.{length, drop}

@@ -1,4 +1,4 @@
-use Rattle.octets.specs.Number.Properties.{big-halves}
+use Rattle.octets.proofs.Laws.Number.{big-halves}
 use native.Mathlib.Omega.{arith}
 use borrow.Author.Needs.{needs}
 use Rattle.octets.proofs.number.big_u32_at.Statement.{statement}

@@ -1,4 +1,4 @@
-use Rattle.octets.specs.Utf8Step.{SoundState, behind}
+use Rattle.octets.specs.Internal.Utf8Step.{SoundState, behind}
 use mathlib.Core.Path.{ap, _∙_, subst}
 use borrow.Author.Needs.{needs}
 use Rattle.octets.proofs.utf8.advance.Statement.{statement}

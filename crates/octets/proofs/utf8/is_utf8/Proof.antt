@@ -1,6 +1,6 @@
 use Rattle.octets.specs.declared.utf8.State.{State}
-use Rattle.octets.specs.Utf8Step.Properties.{utf8-fails, utf8-next, utf8-end}
-use Rattle.octets.specs.Utf8Step.{SoundState, SoundNext, stateIn}
+use Rattle.octets.proofs.Laws.Utf8Step.{utf8-fails, utf8-next, utf8-end}
+use Rattle.octets.specs.Internal.Utf8Step.{SoundState, SoundNext, stateIn}
 use Rattle.octets.specs.Utf8.{pointsFrom, isUtf8, atEnd}
 use Rattle.octets.specs.Lists.{isSome}
 use borrow.Author.Needs.{needs}

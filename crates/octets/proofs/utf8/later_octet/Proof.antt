@@ -1,4 +1,4 @@
-use Rattle.octets.specs.Utf8Step.Properties.{below, above, taken, bits-at}
+use Rattle.octets.proofs.Laws.Utf8Step.{below, above, taken, bits-at}
 use native.Mathlib.Omega.{arith}
 use mathlib.Core.Path.{_≡_}
 use borrow.Author.Needs.{needs}

@@ -1,4 +1,4 @@
-use Rattle.octets.specs.Utf8Step.{Sound}
+use Rattle.octets.specs.Internal.Utf8Step.{Sound}
 use mathlib.Core.Path.{subst}
 use borrow.Author.Needs.{needs}
 use Rattle.octets.proofs.utf8.moved.Statement.{statement}

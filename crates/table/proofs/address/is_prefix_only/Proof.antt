@@ -1,4 +1,4 @@
-use Rattle.table.specs.Address.Properties.{share-some}
+use Rattle.table.proofs.Laws.Address.{share-some}
 use Rattle.table.specs.Address.{isPrefixOnly}
 use borrow.Author.Needs.{needs}
 use Rattle.table.proofs.address.is_prefix_only.Statement.{statement}

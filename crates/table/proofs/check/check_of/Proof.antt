@@ -1,4 +1,4 @@
-use Rattle.table.specs.Check.Properties.{grown-next, grown-end}
+use Rattle.table.proofs.Laws.Check.{grown-next, grown-end}
 use Rattle.table.specs.Check.{grow, grown, checkOf}
 use lib.ListN.{length, drop}
 use borrow.Author.Needs.{needs}

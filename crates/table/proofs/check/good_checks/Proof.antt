@@ -1,7 +1,7 @@
-use Rattle.table.specs.Table.Properties.{block-length}
+use Rattle.table.proofs.Laws.Table.{block-length}
 use Rattle.table.specs.Table.{blockAt, blocksOf}
 use Rattle.table.specs.Check.{goodCheck}
-use Rattle.octets.specs.Lists.Properties.{all-piece-fails, all-piece-next, all-pieces-end}
+use Rattle.octets.proofs.Laws.Lists.{all-piece-fails, all-piece-next, all-pieces-end}
 use Rattle.octets.specs.Lists.{all}
 use borrow.Author.Tests.{not-true, not-false}
 use borrow.Author.Needs.{needs}

@@ -1,4 +1,4 @@
-use Rattle.table.specs.Field.Properties.{zeros-none}
+use Rattle.table.proofs.Laws.Field.{zeros-none}
 use Rattle.table.specs.Field.{zeros}
 use Rattle.octets.specs.Text.{allZero}
 use mathlib.Core.Path.{ap, _∙_}

@@ -1,4 +1,4 @@
-use Rattle.table.specs.Rule.Properties.{netbios-field}
+use Rattle.table.proofs.Laws.Rule.{netbios-field}
 use Rattle.table.specs.Layout.{contextLayout}
 use borrow.Author.Needs.{needs}
 use Rattle.table.proofs.layout.context_layout.Statement.{statement}

@@ -1,6 +1,6 @@
-use Rattle.table.specs.Table.Properties.{block-length, blocks-step, blocks-end}
+use Rattle.table.proofs.Laws.Table.{block-length, blocks-step, blocks-end}
 use Rattle.table.specs.Table.{blockAt, blocksOf}
-use Rattle.table.specs.Layout.Properties.{layouts-fail, layouts-next, layouts-end}
+use Rattle.table.proofs.Laws.Layout.{layouts-fail, layouts-next, layouts-end}
 use Rattle.table.specs.Layout.{blockLayout, blockPlace, layoutsFrom}
 use borrow.Author.Tests.{not-true, not-false}
 use borrow.Author.Needs.{needs}

@@ -1,4 +1,4 @@
-use Rattle.table.specs.RecordKind.{recordWidth}
+use Rattle.table.specs.Internal.RecordKind.{recordWidth}
 use mathlib.Core.Path.{sym, ap, _∙_}
 use borrow.Author.Needs.{needs}
 use Rattle.table.proofs.layout.record_layout.Statement.{statement}

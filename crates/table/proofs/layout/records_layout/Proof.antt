@@ -1,12 +1,12 @@
 use mathlib.Core.Bool.{Bool}
-use Rattle.table.specs.RecordKind.Properties.{record-fits}
-use Rattle.octets.specs.Lists.Properties.{cut-length, all-piece-fails, all-piece-next, all-pieces-end}
+use Rattle.table.proofs.Laws.RecordKind.{record-fits}
+use Rattle.octets.proofs.Laws.Lists.{cut-length, all-piece-fails, all-piece-next, all-pieces-end}
 use Rattle.octets.specs.Lists.{all, cut, pieces}
 use Prim.Native.Nat.{ℕ, _+_, _-_, _*_, _≤_, _<_}
 use mathlib.Core.List.{List}
 use borrow.Author.Tests.{not-true, not-false}
 use borrow.Author.Needs.{needs}
-use Rattle.table.specs.RecordKind.{recordWidth, recordCount, recordRule}
+use Rattle.table.specs.Internal.RecordKind.{recordWidth, recordCount, recordRule}
 use Rattle.table.specs.Layout.{recordLayout}
 use lib.ListN.{length, drop}
 use native.Mathlib.Omega.{arith}

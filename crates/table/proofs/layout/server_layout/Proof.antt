@@ -1,4 +1,4 @@
-use Rattle.octets.specs.Number.Properties.{no-high-bits}
+use Rattle.octets.proofs.Laws.Number.{no-high-bits}
 use Rattle.table.specs.Layout.{serverLayout}
 use native.Mathlib.Omega.{arith}
 use borrow.Author.Needs.{needs}

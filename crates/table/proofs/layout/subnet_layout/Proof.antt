@@ -1,5 +1,5 @@
 use Rattle.table.specs.Layout.{subnetLayout}
-use Rattle.octets.specs.Lists.Properties.{cut-length}
+use Rattle.octets.proofs.Laws.Lists.{cut-length}
 use lib.ListN.{length}
 use native.Mathlib.Omega.{arith}
 use mathlib.Core.Path.{ap, _∙_}

@@ -1,4 +1,4 @@
-use Rattle.octets.specs.Number.Properties.{u16-anywhere}
+use Rattle.octets.proofs.Laws.Number.{u16-anywhere}
 use native.Mathlib.Omega.{arith}
 use borrow.Author.Needs.{needs}
 use Rattle.table.proofs.record.number_in.Statement.{statement}

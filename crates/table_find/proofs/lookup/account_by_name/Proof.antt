@@ -1,7 +1,7 @@
 use mathlib.Core.Option.{Option·map}
 use mathlib.Core.Path.{ap, _∙_}
 use Rattle.table.specs.Records.{accountOf}
-use Rattle.table_find.specs.Find.Properties.{account-search}
+use Rattle.table_find.proofs.Laws.Find.{account-search}
 use borrow.Author.Needs.{needs}
 use Rattle.table_find.proofs.lookup.account_by_name.Statement.{statement}
 use Rattle.table_find.proofs.lookup.account_by_name.Tie as tie

@@ -3,14 +3,14 @@ use mathlib.Core.Option.{some, Option·map}
 use mathlib.Core.List.{List}
 use mathlib.Core.Path.{_≡_, sym, ap, subst, _∙_}
 use lib.ListN.{length}
-use Rattle.octets.specs.Lists.Properties.{cut-length}
+use Rattle.octets.proofs.Laws.Lists.{cut-length}
 use Rattle.octets.specs.Lists.{first, cut}
 use Rattle.table.specs.Records.{siteOf}
 use Rattle.table.specs.Table.{blocksOf, tableOf}
 use Rattle.table.specs.declared.SiteNumber.{SiteNumber}
-use Rattle.table_find.specs.Key.{isSite}
-use Rattle.table_find.specs.Found.{LiesIn, siteAt}
-use Rattle.table_find.specs.Find.Properties.{site-search, no-site, lone-site, several-sites}
+use Rattle.table_find.specs.Internal.Key.{isSite}
+use Rattle.table_find.specs.Internal.Found.{LiesIn, siteAt}
+use Rattle.table_find.proofs.Laws.Find.{site-search, no-site, lone-site, several-sites}
 use Rattle.table_find.specs.Find.{clientSite}
 use Rattle.table_find.specs.declared.search.SiteKey.the-variants.{Any, OtherThan}
 use borrow.Author.Needs.{needs}

@@ -2,7 +2,7 @@ use mathlib.Core.Option.{Option·map}
 use mathlib.Core.Path.{ap, _∙_}
 use Rattle.table.specs.Records.{contextOf}
 use Rattle.table_find.specs.Find.{contextByNumber}
-use Rattle.table_find.specs.Find.Properties.{context-search}
+use Rattle.table_find.proofs.Laws.Find.{context-search}
 use borrow.Author.Needs.{needs}
 use Rattle.table_find.proofs.lookup.context_by_number.Statement.{statement}
 use Rattle.table_find.proofs.lookup.context_by_number.Tie as tie

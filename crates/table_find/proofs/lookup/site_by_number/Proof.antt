@@ -2,7 +2,7 @@ use mathlib.Core.Option.{Option·map}
 use mathlib.Core.Path.{ap, _∙_}
 use Rattle.table.specs.Records.{siteOf}
 use Rattle.table_find.specs.Find.{siteByNumber}
-use Rattle.table_find.specs.Find.Properties.{site-search}
+use Rattle.table_find.proofs.Laws.Find.{site-search}
 use borrow.Author.Needs.{needs}
 use Rattle.table_find.proofs.lookup.site_by_number.Statement.{statement}
 use Rattle.table_find.proofs.lookup.site_by_number.Tie as tie

@@ -2,10 +2,10 @@ use Prim.Native.Nat.{ℕ}
 use mathlib.Core.List.{List}
 use mathlib.Core.Path.{sym, ap, subst, _∙_}
 use lib.ListN.{length}
-use Rattle.octets.specs.Lists.Properties.{cut-length}
+use Rattle.octets.proofs.Laws.Lists.{cut-length}
 use Rattle.table.specs.Records.{subnetOf}
 use Rattle.table.specs.Table.{blocksOf, tableOf}
-use Rattle.table_find.specs.Found.{LiesIn, subnetAt}
+use Rattle.table_find.specs.Internal.Found.{LiesIn, subnetAt}
 use Rattle.table_find.specs.Find.{siteIfAny, siteOfSubnet}
 use borrow.Author.Needs.{needs}
 use Rattle.table_find.proofs.lookup.site_by_subnet.Statement.{statement}

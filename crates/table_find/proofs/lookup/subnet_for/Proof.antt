@@ -5,14 +5,14 @@ use lib.Seq.{take-all}
 use lib.ListN.{length, take}
 use Rattle.octets.specs.Number.{big}
 use Rattle.table.specs.Table.{blocksOf}
-use Rattle.table_find.specs.Search.{firstIn}
+use Rattle.table_find.specs.Internal.Search.{firstIn}
 use Rattle.table_find.specs.declared.search.Key.the-variants as key
 use Rattle.table_find.specs.declared.search.RecordKey.the-variants as by
 use mathlib.Core.Option.{Option·map}
 use mathlib.Core.Path.{ap, _∙_}
 use Rattle.table.specs.Records.{subnetOf}
 use Rattle.table.specs.Address.{addressNumber}
-use Rattle.table_find.specs.Find.Properties.{subnet-search}
+use Rattle.table_find.proofs.Laws.Find.{subnet-search}
 use borrow.Author.Needs.{needs}
 use Rattle.table_find.proofs.lookup.subnet_for.Statement.{statement}
 use Rattle.table_find.proofs.lookup.subnet_for.Tie as tie

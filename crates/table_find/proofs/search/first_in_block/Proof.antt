@@ -6,11 +6,11 @@ use native.Mathlib.Omega.{arith}
 use lib.Dec.{eqb}
 use lib.ListN.{length, getD}
 use borrow.Author.Tests.{eq-eqb, ne-eqb}
-use Rattle.octets.specs.Lists.Properties.{cut-cut}
-use Rattle.table.specs.Table.Properties.{block-length}
+use Rattle.octets.proofs.Laws.Lists.{cut-cut}
+use Rattle.table.proofs.Laws.Table.{block-length}
 use Rattle.table.specs.Table.{blockAt}
-use Rattle.table_find.specs.Search.{firstInBody, firstInBlock}
-use Rattle.table_find.specs.Key.{shapeOf}
+use Rattle.table_find.specs.Internal.Search.{firstInBody, firstInBlock}
+use Rattle.table_find.specs.Internal.Key.{shapeOf}
 use Rattle.table_find.specs.declared.search.Shape.{Shape}
 use borrow.Author.Needs.{needs}
 use Rattle.table_find.proofs.search.first_in_block.Statement.{statement}

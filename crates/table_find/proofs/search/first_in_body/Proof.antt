@@ -5,11 +5,11 @@ use mathlib.Core.Path.{_≡_, sym, ap, _∙_}
 use native.Mathlib.Omega.{arith}
 use lib.ListN.{length, drop}
 use borrow.Author.Needs.{needs}
-use Rattle.octets.specs.Lists.Properties.{cut-length}
+use Rattle.octets.proofs.Laws.Lists.{cut-length}
 use Rattle.octets.specs.Lists.{first, cut, pieces}
-use Rattle.table_find.specs.Search.Properties.{shape-fills, less-one, left-found, left-next, left-none, body-records}
-use Rattle.table_find.specs.Search.{firstInBody}
-use Rattle.table_find.specs.Key.{isFoundBy, shapeOf}
+use Rattle.table_find.proofs.Laws.Search.{shape-fills, less-one, left-found, left-next, left-none, body-records}
+use Rattle.table_find.specs.Internal.Search.{firstInBody}
+use Rattle.table_find.specs.Internal.Key.{isFoundBy, shapeOf}
 use Rattle.table_find.specs.declared.search.Shape.{Shape}
 use Rattle.table_find.proofs.search.first_in_body.Statement.{statement}
 use Rattle.table_find.proofs.search.first_in_body.Tie as tie

@@ -4,10 +4,10 @@ use mathlib.Core.Path.{_≡_, refl, sym, ap, subst, _∙_}
 use lib.ListN.{length, drop}
 use borrow.Author.Needs.{needs}
 use Rattle.table.specs.Table.{blocksOf}
-use Rattle.table_find.specs.Search.Properties.{search-step, search-end}
-use Rattle.table_find.specs.Search.{firstIn}
-use Rattle.table_find.specs.Found.{recordAt, LiesIn}
-use Rattle.table_find.specs.Key.{shapeOf}
+use Rattle.table_find.proofs.Laws.Search.{search-step, search-end}
+use Rattle.table_find.specs.Internal.Search.{firstIn}
+use Rattle.table_find.specs.Internal.Found.{recordAt, LiesIn}
+use Rattle.table_find.specs.Internal.Key.{shapeOf}
 use Rattle.table_find.proofs.search.first_record.Statement.{statement}
 use Rattle.table_find.proofs.search.first_record.Tie as tie
 

@@ -1,5 +1,5 @@
 use mathlib.Core.Path.{sym, ap, _∙_}
-use Rattle.table_find.specs.Key.{shapeOf}
+use Rattle.table_find.specs.Internal.Key.{shapeOf}
 use Rattle.table_find.specs.declared.search.Key.{Key}
 use borrow.Author.Needs.{needs}
 use Rattle.table_find.proofs.search.is_found_by.Statement.{statement}

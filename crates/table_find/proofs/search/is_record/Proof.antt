@@ -1,5 +1,5 @@
 use mathlib.Core.Path.{ap, _∙_}
-use Rattle.table_find.specs.Key.{shapeOfRecord}
+use Rattle.table_find.specs.Internal.Key.{shapeOfRecord}
 use Rattle.table_find.specs.declared.search.RecordKey.{RecordKey}
 use borrow.Author.Needs.{needs}
 use Rattle.table_find.proofs.search.is_record.Statement.{statement}

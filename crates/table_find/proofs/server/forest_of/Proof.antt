@@ -5,7 +5,7 @@ use native.Mathlib.Omega.{arith}
 use lib.ListN.{length}
 use Rattle.table.specs.Layout.{body}
 use Rattle.table.specs.Field.{textAt}
-use Rattle.table.specs.Table.Properties.{body-there, body-length}
+use Rattle.table.proofs.Laws.Table.{body-there, body-length}
 use Rattle.table.specs.Table.{tableOf}
 use borrow.Author.Needs.{needs}
 use Rattle.table_find.proofs.server.forest_of.Statement.{statement}

@@ -3,7 +3,7 @@ use lib.Dec.{eqb}
 use mathlib.Core.Path.{ap₂}
 use Rattle.table.specs.Address.{addressNumber}
 use Rattle.table.specs.Records.{subnetOf}
-use Rattle.table_find.specs.Key.{inSubnet}
+use Rattle.table_find.specs.Internal.Key.{inSubnet}
 use borrow.Author.Needs.{needs}
 use Rattle.table_find.proofs.subnet.holds_address.Statement.{statement}
 use Rattle.table_find.proofs.subnet.holds_address.Tie as tie

@@ -1,8 +1,8 @@
 use lib.ListN.{getD}
-use Rattle.octets.specs.Lists.Properties.{cut-rest}
+use Rattle.octets.proofs.Laws.Lists.{cut-rest}
 use mathlib.Core.Path.{ap₂}
-use Rattle.table_whole.specs.Alike.{likeAt, alikeAt}
-use Rattle.octets.specs.Lists.Properties.{apart-fails, apart-next, apart-end}
+use Rattle.table_whole.specs.Internal.Alike.{likeAt, alikeAt}
+use Rattle.octets.proofs.Laws.Lists.{apart-fails, apart-next, apart-end}
 use Rattle.octets.specs.Lists.{any, apart}
 use native.Mathlib.Omega.{arith}
 use lib.ListN.{length, drop}

@@ -1,6 +1,6 @@
 use lib.ListN.{getD}
-use Rattle.table_whole.specs.Alike.{alikeBy, likeAt}
-use Rattle.octets.specs.Lists.Properties.{any-holds, any-next, any-end}
+use Rattle.table_whole.specs.Internal.Alike.{alikeBy, likeAt}
+use Rattle.octets.proofs.Laws.Lists.{any-holds, any-next, any-end}
 use Rattle.octets.specs.Lists.{any}
 use native.Mathlib.Omega.{arith}
 use lib.ListN.{length, drop}

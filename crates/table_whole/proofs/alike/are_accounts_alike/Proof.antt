@@ -1,4 +1,4 @@
-use Rattle.table_whole.specs.Alike.Properties.{other-context, one-context}
+use Rattle.table_whole.proofs.Laws.Alike.{other-context, one-context}
 use Rattle.table.specs.Records.{accountOf}
 use Rattle.octets.specs.Text.{sameFolded}
 use mathlib.Core.Path.{sym, ap₂, _∙_}

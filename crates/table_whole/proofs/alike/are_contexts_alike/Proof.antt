@@ -1,4 +1,4 @@
-use Rattle.table_whole.specs.Alike.Properties.{alike-guid, alike-sid, alike-dns}
+use Rattle.table_whole.proofs.Laws.Alike.{alike-guid, alike-sid, alike-dns}
 use Rattle.table.specs.Records.{contextOf}
 use Rattle.octets.specs.Text.{same, sameFolded}
 use mathlib.Core.Path.{sym, ap₂, _∙_}

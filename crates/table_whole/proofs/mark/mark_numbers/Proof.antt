@@ -1,5 +1,5 @@
-use Rattle.table_whole.specs.Mark.Properties.{seen-none, seen-twice, seen-once}
-use Rattle.table_whole.specs.Mark.{numberAt, Seen}
+use Rattle.table_whole.proofs.Laws.Mark.{seen-none, seen-twice, seen-once}
+use Rattle.table_whole.specs.Internal.Mark.{numberAt, Seen}
 use Rattle.octets.specs.Number.{u16At}
 use mathlib.Core.Path.{subst}
 use mathlib.Core.Bool.{false≢true}

@@ -1,11 +1,11 @@
-use Rattle.table_whole.specs.Place.{countsAs}
+use Rattle.table_whole.specs.Internal.Place.{countsAs}
 use Rattle.octets.specs.Lists.{keepIf}
 use Prim.Native.Nat.{ℕ, _-_}
 use mathlib.Core.List.{List, append-nil}
 use mathlib.Core.Bool.{Bool}
 use borrow.Author.Needs.{needs}
-use Rattle.table_whole.specs.Place.Properties.{places-step, places-end, put-place}
-use Rattle.table_whole.specs.Place.{placesFrom}
+use Rattle.table_whole.proofs.Laws.Place.{places-step, places-end, put-place}
+use Rattle.table_whole.specs.Internal.Place.{placesFrom}
 use native.Mathlib.Omega.{arith}
 use lib.ListN.{length, take, length-set}
 use mathlib.Core.List.{_++_}

@@ -1,4 +1,4 @@
-use Rattle.table_whole.specs.Place.{countsAs}
+use Rattle.table_whole.specs.Internal.Place.{countsAs}
 use mathlib.Core.Bool.{Bool, not}
 use mathlib.Core.Path.{sym, ap, _∙_}
 use borrow.Author.Needs.{needs}

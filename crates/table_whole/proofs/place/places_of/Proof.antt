@@ -1,14 +1,14 @@
-use Rattle.table_whole.specs.Place.Properties.{one-more}
-use Rattle.table_whole.specs.Place.Properties.{counted-end, step-in, step-over, room-left}
-use Rattle.table.specs.Table.Properties.{block-length}
+use Rattle.table_whole.proofs.Laws.Place.{one-more}
+use Rattle.table_whole.proofs.Laws.Place.{counted-end, step-in, step-over, room-left}
+use Rattle.table.proofs.Laws.Table.{block-length}
 use Rattle.table.specs.Table.{blockAt}
 use borrow.Author.Tests.{eq-eqb, ne-eqb}
 use native.Mathlib.Nat.{mul-le-mul-left}
 use lib.ListN.{getD}
 use mathlib.Core.List.{append-nil}
 use borrow.Author.Needs.{needs}
-use Rattle.table_whole.specs.Place.Properties.{counted-end, room-left}
-use Rattle.table_whole.specs.Place.{recordsAt, countedOf}
+use Rattle.table_whole.proofs.Laws.Place.{counted-end, room-left}
+use Rattle.table_whole.specs.Internal.Place.{recordsAt, countedOf}
 use Rattle.table.specs.Table.{blocksOf}
 use native.Mathlib.Omega.{arith}
 use lib.ListN.{length, take, drop}

@@ -1,7 +1,7 @@
 use lib.ListN.{getD}
 use borrow.Author.Tests.{not-true, not-false}
-use Rattle.table_whole.specs.Refer.{refersBy, refersAt}
-use Rattle.octets.specs.Lists.Properties.{all-fails, all-next, all-end}
+use Rattle.table_whole.specs.Internal.Refer.{refersBy, refersAt}
+use Rattle.octets.proofs.Laws.Lists.{all-fails, all-next, all-end}
 use Rattle.octets.specs.Lists.{all}
 use native.Mathlib.Omega.{arith}
 use lib.ListN.{length, drop}

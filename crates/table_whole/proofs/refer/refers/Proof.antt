@@ -1,4 +1,4 @@
-use Rattle.table_whole.specs.Refer.{markedOrNone, nextMarked}
+use Rattle.table_whole.specs.Internal.Refer.{markedOrNone, nextMarked}
 use lib.ListN.{getD}
 use Prim.Native.Nat.{ℕ}
 use mathlib.Core.Bool.{false}

@@ -1,4 +1,4 @@
-use Rattle.table_whole.specs.Half.Properties.{lost-account, accounts-left}
+use Rattle.table_whole.proofs.Laws.Half.{lost-account, accounts-left}
 use borrow.Author.Tests.{not-true, not-false}
 use mathlib.Core.Path.{sym, _∙_}
 use borrow.Author.Needs.{needs}

@@ -1,12 +1,12 @@
-use Rattle.table_whole.specs.Mark.{sameNumber}
-use Rattle.table_whole.specs.Half.{ContextMarks}
+use Rattle.table_whole.specs.Internal.Mark.{sameNumber}
+use Rattle.table_whole.specs.Internal.Half.{ContextMarks}
 use Rattle.table.specs.Whole.{hasContext}
 use Rattle.table.specs.Table.{blocksOf, tableOf}
 use Rattle.octets.specs.Lists.{apart}
 use mathlib.Core.Bool.{true}
 use mathlib.Core.Path.{_≡_}
-use Rattle.table_whole.specs.Half.Properties.{context-marks, contexts-number, contexts-alike, contexts-default, contexts-accounts, default-marked}
-use Rattle.table_whole.specs.Mark.Properties.{marked-none}
+use Rattle.table_whole.proofs.Laws.Half.{context-marks, contexts-number, contexts-alike, contexts-default, contexts-accounts, default-marked}
+use Rattle.table_whole.proofs.Laws.Mark.{marked-none}
 use borrow.Author.Tests.{not-true, not-false}
 use lib.ListN.{getD, length-replicate}
 use Prim.Native.Nat.{ℕ}

@@ -1,4 +1,4 @@
-use Rattle.table_whole.specs.Place.Properties.{counted-records}
+use Rattle.table_whole.proofs.Laws.Place.{counted-records}
 use lib.Seq.{length-take-le}
 use lib.ListN.{length}
 use Prim.Native.Nat.{ℕ, _≤_}

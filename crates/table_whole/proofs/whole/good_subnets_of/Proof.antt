@@ -1,5 +1,5 @@
-use Rattle.table_whole.specs.Half.Properties.{subnets-refer}
-use Rattle.table_whole.specs.Place.Properties.{counted-records}
+use Rattle.table_whole.proofs.Laws.Half.{subnets-refer}
+use Rattle.table_whole.proofs.Laws.Place.{counted-records}
 use lib.Seq.{length-take-le}
 use lib.ListN.{length, take}
 use Prim.Native.Nat.{ℕ, _≤_}

@@ -1,8 +1,8 @@
-use Rattle.table_whole.specs.Place.{recordsAt}
+use Rattle.table_whole.specs.Internal.Place.{recordsAt}
 use Rattle.table.specs.Table.{blocksOf, bodies}
 use Prim.Native.Nat.{_<_}
-use Rattle.table_whole.specs.Half.Properties.{no-context, many-contexts, some-contexts}
-use Rattle.table_whole.specs.Place.Properties.{counted-bodies}
+use Rattle.table_whole.proofs.Laws.Half.{no-context, many-contexts, some-contexts}
+use Rattle.table_whole.proofs.Laws.Place.{counted-bodies}
 use lib.Seq.{length-take-le}
 use lib.ListN.{length, take}
 use Prim.Native.Nat.{ℕ, _≤_}

@@ -1,7 +1,7 @@
-use Rattle.table_whole.specs.Place.{recordsAt}
+use Rattle.table_whole.specs.Internal.Place.{recordsAt}
 use Rattle.table.specs.Table.{blocksOf, recordsOf}
-use Rattle.table_whole.specs.Half.Properties.{no-site, some-sites}
-use Rattle.table_whole.specs.Place.Properties.{counted-records}
+use Rattle.table_whole.proofs.Laws.Half.{no-site, some-sites}
+use Rattle.table_whole.proofs.Laws.Place.{counted-records}
 use lib.Seq.{length-take-le}
 use lib.ListN.{length, take}
 use Prim.Native.Nat.{ℕ, _≤_}

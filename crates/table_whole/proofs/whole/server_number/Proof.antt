@@ -1,4 +1,4 @@
-use Rattle.table_whole.specs.Half.Properties.{server-number}
+use Rattle.table_whole.proofs.Laws.Half.{server-number}
 use Rattle.table.specs.Layout.{body}
 use Rattle.octets.specs.Number.{u16At}
 use Prim.Native.Nat.{ℕ}

@@ -1,0 +1,134 @@
+-- The round trip, proved of the definitions and then of the two calls.
+pub mod Elements
+pub mod Clauses
+use mathlib.Core.Path.{_≡_, refl, sym, ap, subst, _∙_}
+use mathlib.Core.Bool.{Bool, true, false, not, _||_}
+use mathlib.Core.List.{List, [], _∷_, _++_, flatMap, append-nil}
+use mathlib.Core.Option.{Option, some}
+use Prim.Native.Nat.{ℕ, _+_, _-_, _≤_, _<_}
+use native.Mathlib.Omega.{arith}
+use borrow.Author.Tests.{le-ltb, ltb-false, eq-eqb}
+use lib.Dec.{eqb, ltb}
+use lib.ListN.{length, take, length-append}
+use Rattle.answers.specs.declared.Refusal.the-variants.{FilterShape, FilterLength, NoRoom}
+use Rattle.answers.specs.Try.{Try, refused, good, refusedIf}
+use Rattle.octets.specs.Buffer.{over}
+use Rattle.octets.proofs.Laws.Buffer.{over-front}
+use Rattle.octets.specs.Lists.{any, first, apart, cut}
+use Rattle.filter.specs.declared.Clause.{Clause}
+use Rattle.filter.specs.declared.Clause.the-variants.{Absent, Present}
+use Rattle.filter.specs.declared.Name.{Name}
+use Rattle.filter.specs.declared.Request.{Request}
+use Rattle.filter.specs.declared.Taken.the-variants as taken
+use Rattle.filter.specs.declared.Written.the-variants as written
+use Rattle.filter.specs.Internal.Gather.{place}
+use Rattle.filter.proofs.Laws.Gather.{clause-by, names-any}
+use Rattle.filter.specs.Request.{names, clause, isPresent, octetsOf}
+use Rattle.filter.specs.Shape.{one, andOf, clausesOf}
+use Rattle.filter.specs.Taken.{isNamed, asClause, requestOf, requestIn, takenAs}
+use Rattle.filter.specs.Write.{element, equalityFor, filterOctets, filterFor, writtenAs, writtenOctets}
+use Rattle.filter_write.specs.RoundTrip.{SameClauses, RoundTrip, CallsRoundTrip}
+use Rattle.filter_write.proofs.Laws.RoundTrip.Elements.{element-back, contents-back}
+use Rattle.filter_write.proofs.Laws.RoundTrip.Clauses.{Found-again, siblings-back, distinct, not-strange, not-twice, octets-back, some-length}
+use Rattle.filter_write.specs.Internal.Size.{headSize, elementSize, contents}
+use Rattle.filter_write.proofs.Laws.Size.{head-bounds, element-length}
+
+module _ (source : List ℕ) (r : Request) where
+  abbrev value : Name → Option (List ℕ)
+  value name = octetsOf source (clause r name)
+
+  -- a clause that is present takes octets
+  present-length : (ns : List Name) → any (λ name. isPresent (clause r name)) ns ≡ true → 0 < length (contents source r ns)
+  unfolding any flatMap
+  present-length [] e = let z : _≡_ {A = ℕ} 0 1 = cc in absurd (omega arith)
+  present-length (n ∷ ns) e = by (clause r n) e (present-length ns)
+    where
+      by : (c : Clause) → (isPresent c || any (λ name. isPresent (clause r name)) ns) ≡ true → (any (λ name. isPresent (clause r name)) ns ≡ true → 0 < length (contents source r ns))
+          → 0 < length (equalityFor n (octetsOf source c) ++ contents source r ns)
+      by Absent h rest = rest h
+      by (Present start len) h rest =
+          let l = length-append (equalityFor n (octetsOf source (Present start len))) (contents source r ns) in
+          let b = some-length source value n (cut source start len) in
+          omega arith
+
+  module _ (some-clause : any (λ name. isPresent (clause r name)) names ≡ true) (short : length (filterOctets source r) ≤ 2048) where
+    abbrev s : List ℕ
+    s = filterOctets source r
+
+    abbrev inside : List ℕ
+    inside = contents source r names
+
+    whole : s ≡ element 0xA0 inside
+    unfolding filterOctets
+    whole = refl
+
+    size : length s ≡ elementSize (length inside)
+    size = ap length whole ∙ element-length 0xA0 inside
+
+    start : ℕ
+    start = 0 + headSize (length inside)
+
+    again : Found-again s value 3 (start + length inside - start) start (start + length inside) names
+    unfolding start
+    again =
+        let z = size in
+        let b = head-bounds (length inside) in
+        siblings-back s value 3 names (start + length inside - start) start (start + length inside)
+        (contents-back s 0 (length s) 0xA0 inside [] (whole ∙ sym (append-nil (element 0xA0 inside))) ∙ append-nil inside)
+        refl
+        (omega arith)
+        (present-length names some-clause)
+        (omega arith)
+
+    read : clausesOf s ≡ some (again .clauses)
+    unfolding clausesOf one andOf start
+    read =
+        let z = size in
+        let b = head-bounds (length inside) in
+        let e = element-back s 0 (length s) 0xA0 inside [] (whole ∙ sym (append-nil (element 0xA0 inside))) (omega arith) (omega arith) in
+        let f : start + length inside ≡ length s = omega arith in
+        rw (clausesOf, e, eq-eqb (start + length inside) (length s) f) (again .reads)
+
+    apart-names : distinct s value names ≡ true
+    unfolding apart any
+    apart-names = refl
+
+    taken-apart : requestIn s ≡ good (requestOf s (again .clauses))
+    unfolding requestIn
+    taken-apart = rw (requestIn, le-ltb 2048 (length s) short, read, not-strange s value (again .tells), not-twice s value (again .tells) apart-names)
+
+    same-clauses : SameClauses s (requestOf s (again .clauses)) source r
+    unfolding requestOf
+    same-clauses name =
+        ap (octetsOf s) (clause-by (λ n. asClause (first (isNamed s n) (again .clauses))) name)
+        ∙ octets-back s value name (again .tells) apart-names (names-any (λ n. eqb (place n) (place name)) name (eq-eqb (place name) (place name) refl))
+
+-- an answer that refuses nothing: a clause is present, and the octets are those written, 2,048 at most
+answered : (a b c : Bool) (o octets : List ℕ) → refusedIf (not a) FilterShape (refusedIf b FilterLength (refusedIf c NoRoom (good o))) ≡ good octets → (a ≡ true) × (b ≡ false) × (o ≡ octets)
+answered false b c o octets e = let z : _≡_ {A = ℕ} 0 1 = cc in absurd (omega arith)
+answered true true c o octets e = let z : _≡_ {A = ℕ} 0 1 = cc in absurd (omega arith)
+answered true false true o octets e = let z : _≡_ {A = ℕ} 0 1 = cc in absurd (omega arith)
+answered true false false o octets e = (refl, refl, cc)
+
+pub round-trip : RoundTrip
+unfolding filterFor
+round-trip source r room octets e =
+    let a = answered (any (λ name. isPresent (clause r name)) names) (ltb 2048 (length (filterOctets source r))) (ltb room (length (filterOctets source r))) (filterOctets source r) octets e in
+    let h : length (filterOctets source r) ≤ 2048 = ltb-false 2048 (length (filterOctets source r)) (a .1) in
+    subst (λ (s : List ℕ). (q : Request) × (requestIn s ≡ good q) × SameClauses s q source r) (a .2)
+    (requestOf (filterOctets source r) (again source r (a .0) h .clauses), taken-apart source r (a .0) h, same-clauses source r (a .0) h)
+
+pub calls-round-trip : CallsRoundTrip
+calls-round-trip source r before after w n t wrote laid answer took = by (filterFor source r (length before)) refl
+  where
+    by : (o : Try (List ℕ)) → filterFor source r (length before) ≡ o → (q : Request) × (t ≡ taken.Request q) × SameClauses (take n after) q source r
+    by (refused x) e =
+        let f : written.Refused x ≡ written.Length n = sym (ap writtenAs e) ∙ sym wrote ∙ answer in
+        let z : _≡_ {A = ℕ} 0 1 = cc in
+        absurd (omega arith)
+    by (good octets) e =
+        let f : written.Length (length octets) ≡ written.Length n = sym (ap writtenAs e) ∙ sym wrote ∙ answer in
+        let l : length octets ≡ n = cc in
+        let s : take n after ≡ octets = ap (take n) (laid ∙ ap (λ (x : Try (List ℕ)). over (writtenOctets x) before) e) ∙ over-front octets before n l in
+        let g = round-trip source r (length before) octets e in
+        (g .0, took ∙ ap (λ (x : List ℕ). takenAs (requestIn x)) s ∙ ap takenAs (g .1), λ name. ap (λ (x : List ℕ). octetsOf x (clause (g .0) name)) s ∙ g .2 name)

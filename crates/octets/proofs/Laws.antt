@@ -1,0 +1,11 @@
+pub mod Buffer
+pub mod Label
+pub mod LabelStep
+pub mod Lists
+pub mod NameRule
+pub mod Number
+pub mod Sid
+pub mod Text
+pub mod Utf16
+pub mod Utf8
+pub mod Utf8Step

@@ -1,0 +1,3 @@
+pub mod Class
+pub mod LabelStep
+pub mod Utf8Step

@@ -1,0 +1,8 @@
+pub mod Address
+pub mod Check
+pub mod Field
+pub mod Judgement
+pub mod Layout
+pub mod RecordKind
+pub mod Rule
+pub mod Table

@@ -1,0 +1,114 @@
+-- Each lookup of the table is the search by its key; and when the client's site is the only one.
+use mathlib.Core.Path.{_≡_, refl, sym, ap, ap₂, _∙_}
+use mathlib.Core.Bool.{Bool, true, false, not, _&&_}
+use mathlib.Core.List.{List, [], _∷_, _++_, map, flatMap}
+use mathlib.Core.Option.{none, some, Option·map}
+use Prim.Native.Nat.{ℕ, _≤_}
+use native.Mathlib.Omega.{arith}
+use lib.Dec.{eqb}
+use lib.ListN.{length, getD, length-take}
+use borrow.Author.Tests.{eq-eqb, ne-eqb, eqb-false}
+use Rattle.octets.specs.Lists.{first, keep, any, apart, pieces}
+use Rattle.octets.proofs.Laws.Lists.{first-map, first-keep, pieces-one}
+use Rattle.octets.specs.Text.{allZero}
+use Rattle.table.specs.declared.ContextNumber.{ContextNumber}
+use Rattle.table.specs.Address.{addressNumber, sharePrefix}
+use Rattle.table.specs.Layout.{body}
+use Rattle.table.specs.Records.{Site, sameContext, sameSite, contextOf, accountOf, siteOf, subnetOf}
+use Rattle.table.specs.Table.{Table, bodies, recordsOf, tableOf}
+use Rattle.table.specs.Whole.{sameAccountName, sitesApart}
+use Rattle.table_find.specs.declared.search.ContextKey.{ContextKey}
+use Rattle.table_find.specs.declared.search.SiteKey.{SiteKey}
+use Rattle.table_find.specs.declared.search.SiteKey.the-variants.{Any, OtherThan}
+use Rattle.table_find.specs.declared.search.RecordKey.the-variants as by
+use Rattle.table_find.specs.declared.search.Key.the-variants as key
+use Rattle.table_find.specs.Find.{contextsSearched, accountByName, subnetFor, siteOfSubnet, siteFor}
+use Rattle.table_find.specs.Internal.Key.{isContext, isSite, inSubnet}
+use Rattle.table_find.specs.Internal.Search.{firstIn}
+
+-- a context is the whole of its body
+bodies-whole : (kind : ℕ) (blocks : List (List ℕ)) → flatMap (pieces 1 504) (bodies kind blocks) ≡ bodies kind blocks
+unfolding bodies flatMap
+bodies-whole kind blocks = go (keep (λ block. eqb (getD block 0 0) kind) blocks)
+  where
+    go : (found : List (List ℕ)) → flatMap (pieces 1 504) (map body found) ≡ map body found
+    go [] = refl
+    go (block ∷ found) =
+        let short : length (body block) ≤ 504 = simp length-take (omega arith) in
+        ap₂ (λ (s t : List (List ℕ)). s ++ t) (pieces-one 504 (body block) short) (go found)
+
+module _ (asked : List ℕ) (blocks : List (List ℕ)) where
+  pub context-search : (k : ContextKey) → Option·map contextOf (firstIn (key.Context k) asked blocks) ≡ first (isContext k asked) (contextsSearched (tableOf blocks))
+  unfolding firstIn contextsSearched tableOf
+  context-search k =
+      ap (λ (bs : List (List ℕ)). Option·map contextOf (first (λ b. isContext k asked (contextOf b)) bs)) (bodies-whole 3 blocks)
+      ∙ sym (first-map contextOf (isContext k asked) (bodies 3 blocks))
+
+  -- a search in the used records of a kind, read as f does
+  used-search : {A : Type 0} (f : List ℕ → A) (p : A → Bool) (kind n w : ℕ)
+      → Option·map f (first (λ r. not (allZero r) && p (f r)) (flatMap (pieces n w) (bodies kind blocks))) ≡ first p (map f (recordsOf kind n w blocks))
+  unfolding recordsOf
+  used-search f p kind n w =
+      let records = flatMap (pieces n w) (bodies kind blocks) in
+      sym (first-map f p (keep (λ r. not (allZero r)) records) ∙ ap (Option·map f) (first-keep (λ r. p (f r)) (λ r. not (allZero r)) records))
+
+  pub account-search : (n : ContextNumber) → Option·map accountOf (firstIn (key.Used (by.Account n)) asked blocks) ≡ accountByName (tableOf blocks) n asked
+  unfolding firstIn accountByName tableOf
+  account-search n = used-search accountOf (λ a. sameContext (a .context) n && sameAccountName (a .name) asked) 4 6 84
+
+  pub site-search : (k : SiteKey) → Option·map siteOf (firstIn (key.Used (by.Site k)) asked blocks) ≡ first (isSite k) (tableOf blocks .sites)
+  unfolding firstIn tableOf
+  site-search k = used-search siteOf (isSite k) 5 7 72
+
+  pub subnet-search : (client : List ℕ) → Option·map subnetOf (firstIn (key.Used (by.Subnet (addressNumber client))) asked blocks) ≡ subnetFor (tableOf blocks) client
+  unfolding firstIn subnetFor tableOf inSubnet sharePrefix
+  subnet-search client = used-search subnetOf (λ n. sharePrefix (n .prefix) client (n .address)) 6 42 12
+
+-- the first site is no other than itself
+skip-own : (q s : Site) (rest : List Site) → some s ≡ some q → first (isSite (OtherThan (s .number))) (q ∷ rest) ≡ first (isSite (OtherThan (s .number))) rest
+unfolding first
+skip-own q s rest e =
+    let same : q ≡ s = cc in
+    rw (eq-eqb (q .number .0) (s .number .0) (ap (λ (x : Site). x .number .0) same))
+
+numbers-differ : (r q : Site) (rest : List Site) → sitesApart (r ∷ q ∷ rest) ≡ true → sameSite (r .number) (q .number) ≡ false
+unfolding sitesApart apart any
+numbers-differ r q rest h = go (sameSite (r .number) (q .number)) refl
+  where
+    go : (b : Bool) → sameSite (r .number) (q .number) ≡ b → b ≡ false
+    go false e = refl
+    go true e = sym h ∙ rw e
+
+-- no site is there
+pub no-site : (t : Table) (client : List ℕ) (sites : List Site) → none ≡ first (isSite Any) sites → none ≡ siteFor t client sites
+unfolding first
+no-site t client [] e = refl
+no-site t client (s ∷ rest) e = absurd (let z : _≡_ {A = ℕ} 0 1 = cc in omega arith)
+
+-- no other site is there: the first is the only one
+pub lone-site : (t : Table) (client : List ℕ) (sites : List Site) (s : Site)
+    → sitesApart sites ≡ true
+    → some s ≡ first (isSite Any) sites
+    → none ≡ first (isSite (OtherThan (s .number))) sites
+    → some s ≡ siteFor t client sites
+unfolding first
+lone-site t client [] s apart e f = absurd (let z : _≡_ {A = ℕ} 0 1 = cc in omega arith)
+lone-site t client (r ∷ []) s apart e f = e
+lone-site t client (r ∷ q ∷ rest) s apart e f =
+    let same : r ≡ s = cc in
+    let differ : sameSite (q .number) (s .number) ≡ false =
+    ne-eqb (q .number .0) (s .number .0) (λ z. eqb-false (r .number .0) (q .number .0) (numbers-differ r q rest apart) (ap (λ (x : Site). x .number .0) same ∙ sym z)) in
+    let other : none ≡ some q = f ∙ skip-own r s (q ∷ rest) e ∙ rw differ in
+    absurd (let z : _≡_ {A = ℕ} 0 1 = cc in omega arith)
+
+-- another site is there: the subnet decides
+pub several-sites : (t : Table) (client : List ℕ) (sites : List Site) (s r : Site)
+    → some s ≡ first (isSite Any) sites
+    → some r ≡ first (isSite (OtherThan (s .number))) sites
+    → siteOfSubnet t (subnetFor t client) ≡ siteFor t client sites
+unfolding first
+several-sites t client [] s r e f = absurd (let z : _≡_ {A = ℕ} 0 1 = cc in omega arith)
+several-sites t client (q ∷ []) s r e f =
+    let nothing : some r ≡ none = f ∙ skip-own q s [] e in
+    absurd (let z : _≡_ {A = ℕ} 0 1 = cc in omega arith)
+several-sites t client (q ∷ p ∷ rest) s r e f = refl

@@ -1,0 +1,4 @@
+pub mod Key
+pub mod Search
+pub mod Found
+pub mod Reference

@@ -1,0 +1,4 @@
+pub mod Alike
+pub mod Half
+pub mod Mark
+pub mod Place

@@ -1,0 +1,260 @@
+-- Laws of the two halves: from what is found at places and among marks to what is said of the table.
+use mathlib.Core.Path.{_≡_, refl, sym, ap, ap₂, _∙_, fun-ext}
+use mathlib.Core.Bool.{Bool, true, false, cond, not, _&&_, _||_, and-true, and-false, and-comm}
+use mathlib.Core.List.{List, map}
+use mathlib.Core.Option.{none, some}
+use Prim.Native.Nat.{ℕ, _/_, _≤_, _<_}
+use native.Mathlib.Omega.{arith}
+use lib.Dec.{eqb, leb}
+use lib.ListN.{length, getD, length-map}
+use borrow.Author.Tests.{le-leb, lt-leb}
+use Rattle.octets.specs.Lists.{all, any, apart, cut, holds}
+use Rattle.octets.proofs.Laws.Lists.{all-map, any-map, apart-map, all-both, apart-either}
+use Rattle.octets.specs.Number.{u16At}
+use Rattle.octets.specs.Text.{same, sameFolded, within}
+use Rattle.table.specs.Layout.{body}
+use Rattle.table.specs.Records.{contextOf, accountOf, siteOf, subnetOf, serverOf, contextNumber, siteNumber, siteOrNone, sameContext, sameSite}
+use Rattle.table.specs.Table.{Table, blockAt, blocksOf, bodies, recordsOf, tableOf}
+use Rattle.table.proofs.Laws.Table.{block-there}
+use Rattle.table.specs.Whole.{sameSid, contextsApart, accountsApart, sitesApart, hasContext, hasSite, noneOr, refersRightly, goodWhole}
+use Rattle.table_whole.specs.declared.alike.Likeness.the-variants.{Contexts, Accounts}
+use Rattle.table_whole.specs.declared.refer.Reference.the-variants.{AccountContext, NextSite, SubnetSite}
+use Rattle.table_whole.specs.Internal.Alike.{alikeAt, contextsAlike}
+use Rattle.table_whole.specs.Internal.Half.{ContextMarks, SiteMarks, serverNumber, goodAccounts, goodContexts, contextHalf, goodNext, goodSubnets, goodSites, siteHalf}
+use Rattle.table_whole.specs.Internal.Mark.{Marked, sameNumber}
+use Rattle.table_whole.specs.Internal.Place.{recordsAt}
+use Rattle.table_whole.specs.Internal.Refer.{refersAt, markedOrNone, nextMarked}
+
+-- tests of what is made from records, over the places of these records
+module _ {A : Type 0} (f : List ℕ → A) (image : List ℕ) (w : ℕ) (places : List ℕ) (records : List (List ℕ)) (e : recordsAt image w places ≡ records) where
+  all-at : (p : A → Bool) → all (λ q. p (f (cut image q w))) places ≡ all p (map f records)
+  all-at p = sym (ap (λ (rs : List (List ℕ)). all p (map f rs)) (sym e) ∙ all-map f p (recordsAt image w places) ∙ all-map (λ q. cut image q w) (λ r. p (f r)) places)
+
+  any-at : (p : A → Bool) → any (λ q. p (f (cut image q w))) places ≡ any p (map f records)
+  any-at p = sym (ap (λ (rs : List (List ℕ)). any p (map f rs)) (sym e) ∙ any-map f p (recordsAt image w places) ∙ any-map (λ q. cut image q w) (λ r. p (f r)) places)
+
+  apart-at : (alike : A → A → Bool) → apart (λ p q. alike (f (cut image p w)) (f (cut image q w))) places ≡ apart alike (map f records)
+  apart-at alike = sym (ap (λ (rs : List (List ℕ)). apart alike (map f rs)) (sym e) ∙ apart-map f alike (recordsAt image w places) ∙ apart-map (λ q. cut image q w) (λ r s. alike (f r) (f s)) places)
+
+pub server-number : (image : List ℕ) (at : ℕ) → 512 ≤ length image → u16At (body (blockAt image 0)) at ≡ serverNumber (blocksOf image) at
+unfolding serverNumber
+server-number image at h =
+    let h0 : 0 < length image / 512 = omega arith in
+    ap (λ (b : List ℕ). u16At (body b) at) (sym (block-there image 0 h0))
+
+-- accounts
+module _ (marks : List Bool) (image : List ℕ) (places : List ℕ) (e : recordsAt image 84 places ≡ recordsOf 4 6 84 (blocksOf image)) where
+  accounts-refer : ContextMarks marks (tableOf (blocksOf image)) → all (refersAt AccountContext marks image 84) places ≡ all (λ a. hasContext (tableOf (blocksOf image)) (a .context)) (tableOf (blocksOf image) .accounts)
+  unfolding tableOf accountOf
+  accounts-refer m =
+      ap (λ (p : ℕ → Bool). all p places) (fun-ext (λ q. m .say (contextNumber (u16At (cut image q 84) 0))))
+      ∙ all-at accountOf image 84 places (recordsOf 4 6 84 (blocksOf image)) e (λ a. hasContext (tableOf (blocksOf image)) (a .context))
+
+  accounts-apart : apart (alikeAt Accounts image 84) places ≡ accountsApart (tableOf (blocksOf image) .accounts)
+  unfolding tableOf accountsApart
+  accounts-apart = apart-at accountOf image 84 places (recordsOf 4 6 84 (blocksOf image)) e _
+
+  pub lost-account : ContextMarks marks (tableOf (blocksOf image)) → all (refersAt AccountContext marks image 84) places ≡ false → false ≡ goodAccounts (tableOf (blocksOf image))
+  unfolding goodAccounts
+  lost-account m f = sym (ap (λ (b : Bool). b && accountsApart (tableOf (blocksOf image) .accounts)) (sym (accounts-refer m) ∙ f))
+
+  pub accounts-left : ContextMarks marks (tableOf (blocksOf image)) → all (refersAt AccountContext marks image 84) places ≡ true → apart (alikeAt Accounts image 84) places ≡ goodAccounts (tableOf (blocksOf image))
+  unfolding goodAccounts
+  accounts-left m f = accounts-apart ∙ sym (ap (λ (b : Bool). b && accountsApart (tableOf (blocksOf image) .accounts)) (sym (accounts-refer m) ∙ f))
+
+-- marks of context numbers, and of site numbers
+module _ (marks : List Bool) (image : List ℕ) (places : List ℕ) (size : length marks ≡ 65536) where
+  pub context-marks : recordsAt image 504 places ≡ bodies 3 (blocksOf image) → Marked marks image 504 places → ContextMarks marks (tableOf (blocksOf image))
+  unfolding tableOf contextOf hasContext
+  context-marks e seen =
+      record {
+        size = size;
+        say = λ n. seen (n .0) ∙ any-at contextOf image 504 places (bodies 3 (blocksOf image)) e (λ c. sameContext (c .number) n);
+      }
+
+  pub site-marks : recordsAt image 72 places ≡ recordsOf 5 7 72 (blocksOf image) → Marked marks image 72 places → SiteMarks marks (tableOf (blocksOf image))
+  unfolding tableOf siteOf hasSite
+  site-marks e seen =
+      record {
+        size = size;
+        say = λ n. seen (n .0) ∙ any-at siteOf image 72 places (recordsOf 5 7 72 (blocksOf image)) e (λ s. sameSite (s .number) n);
+      }
+
+-- contexts, test by test
+module _ (image : List ℕ) (places : List ℕ) (e : recordsAt image 504 places ≡ bodies 3 (blocksOf image)) where
+  contexts-apart : contextsApart (tableOf (blocksOf image) .contexts) ≡ (apart (sameNumber image 504) places && apart (alikeAt Contexts image 504) places)
+  unfolding tableOf contextOf contextsApart
+  contexts-apart =
+      let cs = tableOf (blocksOf image) .contexts in
+      let number = apart (λ c d. sameContext (c .number) (d .number)) cs in
+      let guid = apart (λ c d. same (c .guid) (d .guid)) cs in
+      let sid = apart (λ c d. sameSid (c .sid) (d .sid)) cs in
+      let dns = apart (λ c d. sameFolded (c .dns) (d .dns)) cs in
+      shift number guid sid dns
+      ∙ ap₂ (λ (m n : Bool). m && n)
+      (sym (apart-at contextOf image 504 places (bodies 3 (blocksOf image)) e (λ c d. sameContext (c .number) (d .number))))
+      (ap (λ (b : Bool). b && dns) (apart-either (λ c d. same (c .guid) (d .guid)) (λ c d. sameSid (c .sid) (d .sid)) cs)
+      ∙ apart-either (λ c d. same (c .guid) (d .guid) || sameSid (c .sid) (d .sid)) (λ c d. sameFolded (c .dns) (d .dns)) cs
+      ∙ sym (apart-at contextOf image 504 places (bodies 3 (blocksOf image)) e contextsAlike))
+    where
+      shift : (a b c d : Bool) → (((a && b) && c) && d) ≡ (a && ((b && c) && d))
+      shift true b c d = refl
+      shift false b c d = refl
+
+  contexts-tests : goodContexts (tableOf (blocksOf image))
+      ≡ (((apart (sameNumber image 504) places && apart (alikeAt Contexts image 504) places) && hasContext (tableOf (blocksOf image)) (tableOf (blocksOf image) .server .defaultContext)) && goodAccounts (tableOf (blocksOf image)))
+  unfolding goodContexts
+  contexts-tests = ap (λ (b : Bool). (b && hasContext (tableOf (blocksOf image)) (tableOf (blocksOf image) .server .defaultContext)) && goodAccounts (tableOf (blocksOf image))) contexts-apart
+
+  pub contexts-number : apart (sameNumber image 504) places ≡ false → false ≡ goodContexts (tableOf (blocksOf image))
+  contexts-number a = rw (contexts-tests, a)
+
+  module _ (a : apart (sameNumber image 504) places ≡ true) where
+    pub contexts-alike : apart (alikeAt Contexts image 504) places ≡ false → false ≡ goodContexts (tableOf (blocksOf image))
+    contexts-alike b = rw (contexts-tests, a, b)
+
+    module _ (b : apart (alikeAt Contexts image 504) places ≡ true) where
+      pub contexts-default : hasContext (tableOf (blocksOf image)) (tableOf (blocksOf image) .server .defaultContext) ≡ false → false ≡ goodContexts (tableOf (blocksOf image))
+      contexts-default d = rw (contexts-tests, a, b, d)
+
+      pub contexts-accounts : hasContext (tableOf (blocksOf image)) (tableOf (blocksOf image) .server .defaultContext) ≡ true → goodAccounts (tableOf (blocksOf image)) ≡ goodContexts (tableOf (blocksOf image))
+      contexts-accounts d = rw (contexts-tests, a, b, d)
+
+  contexts-count : length (tableOf (blocksOf image) .contexts) ≡ length places
+  unfolding tableOf
+  contexts-count = length-map (bodies 3 (blocksOf image)) contextOf ∙ ap length (sym e) ∙ length-map places (λ q. cut image q 504)
+
+  pub no-context : length places ≡ 0 → false ≡ contextHalf (tableOf (blocksOf image))
+  unfolding contextHalf
+  no-context z = rw (contexts-count, z)
+
+  pub many-contexts : 16 < length places → false ≡ contextHalf (tableOf (blocksOf image))
+  unfolding contextHalf
+  many-contexts h = rw (contexts-count, lt-leb (length places) 16 h, le-leb 1 (length places) (omega arith))
+
+  pub some-contexts : (length places ≡ 0 → ⊥) → length places ≤ 16 → goodContexts (tableOf (blocksOf image)) ≡ contextHalf (tableOf (blocksOf image))
+  unfolding contextHalf
+  some-contexts n h = rw (contexts-count, le-leb (length places) 16 h, le-leb 1 (length places) (omega arith))
+
+pub default-marked : (marks : List Bool) (image : List ℕ) → ContextMarks marks (tableOf (blocksOf image))
+    → getD marks (serverNumber (blocksOf image) 14) false ≡ hasContext (tableOf (blocksOf image)) (tableOf (blocksOf image) .server .defaultContext)
+unfolding tableOf serverOf serverNumber
+default-marked marks image m = m .say (contextNumber (serverNumber (blocksOf image) 14))
+
+pub own-marked : (marks : List Bool) (image : List ℕ) → SiteMarks marks (tableOf (blocksOf image))
+    → getD marks (serverNumber (blocksOf image) 12) false ≡ hasSite (tableOf (blocksOf image)) (tableOf (blocksOf image) .server .site)
+unfolding tableOf serverOf serverNumber
+own-marked marks image m = m .say (siteNumber (serverNumber (blocksOf image) 12))
+
+-- sites referred to: 0 means none
+module _ (marks : List Bool) (t : Table) (m : SiteMarks marks t) where
+  none-or-marked : (n : ℕ) → markedOrNone marks n ≡ noneOr (hasSite t) (siteOrNone n)
+  none-or-marked n = go (eqb n 0)
+    where
+      go : (b : Bool) → cond b true (getD marks n false) ≡ noneOr (hasSite t) (cond b none (some (siteNumber n)))
+      go true = refl
+      go false = m .say (siteNumber n)
+
+  next-marked : (own next : ℕ) → nextMarked marks own next ≡ (noneOr (hasSite t) (siteOrNone next) && not (holds (sameSite (siteNumber own)) (siteOrNone next)))
+  next-marked own next = go (eqb next 0)
+    where
+      other : (b : Bool) → cond b false (getD marks next false) ≡ (hasSite t (siteNumber next) && not b)
+      other true = sym (and-false (hasSite t (siteNumber next)))
+      other false = m .say (siteNumber next) ∙ sym (and-true (hasSite t (siteNumber next)))
+
+      go : (b : Bool) → cond b true (cond (eqb own next) false (getD marks next false)) ≡ (noneOr (hasSite t) (cond b none (some (siteNumber next))) && not (holds (sameSite (siteNumber own)) (cond b none (some (siteNumber next)))))
+      go true = refl
+      go false = other (eqb own next)
+
+pub subnets-refer : (marks : List Bool) (image : List ℕ) (places : List ℕ) → recordsAt image 12 places ≡ recordsOf 6 42 12 (blocksOf image) → SiteMarks marks (tableOf (blocksOf image))
+    → all (refersAt SubnetSite marks image 12) places ≡ goodSubnets (tableOf (blocksOf image))
+unfolding tableOf subnetOf goodSubnets
+subnets-refer marks image places e m =
+    ap (λ (p : ℕ → Bool). all p places) (fun-ext (λ q. none-or-marked marks (tableOf (blocksOf image)) m (u16At (cut image q 12) 6)))
+    ∙ all-at subnetOf image 12 places (recordsOf 6 42 12 (blocksOf image)) e (λ n. noneOr (hasSite (tableOf (blocksOf image))) (n .site))
+
+-- sites, test by test
+module _ (image : List ℕ) (places : List ℕ) (e : recordsAt image 72 places ≡ recordsOf 5 7 72 (blocksOf image)) where
+  sites-apart : sitesApart (tableOf (blocksOf image) .sites) ≡ apart (sameNumber image 72) places
+  unfolding tableOf siteOf sitesApart
+  sites-apart = sym (apart-at siteOf image 72 places (recordsOf 5 7 72 (blocksOf image)) e (λ s t. sameSite (s .number) (t .number)))
+
+  pub next-refer : (marks : List Bool) → SiteMarks marks (tableOf (blocksOf image)) → all (refersAt NextSite marks image 72) places ≡ goodNext (tableOf (blocksOf image))
+  unfolding tableOf siteOf goodNext
+  next-refer marks m =
+      let t = tableOf (blocksOf image) in
+      ap (λ (p : ℕ → Bool). all p places) (fun-ext (λ q. next-marked marks t m (u16At (cut image q 72) 0) (u16At (cut image q 72) 66)))
+      ∙ all-at siteOf image 72 places (recordsOf 5 7 72 (blocksOf image)) e (λ s. noneOr (hasSite t) (s .next) && not (holds (sameSite (s .number)) (s .next)))
+      ∙ sym (all-both (λ s. noneOr (hasSite t) (s .next)) (λ s. not (holds (sameSite (s .number)) (s .next))) (t .sites))
+
+  sites-tests : goodSites (tableOf (blocksOf image))
+      ≡ (((apart (sameNumber image 72) places && hasSite (tableOf (blocksOf image)) (tableOf (blocksOf image) .server .site)) && goodNext (tableOf (blocksOf image))) && goodSubnets (tableOf (blocksOf image)))
+  unfolding goodSites
+  sites-tests = ap (λ (b : Bool). ((b && hasSite (tableOf (blocksOf image)) (tableOf (blocksOf image) .server .site)) && goodNext (tableOf (blocksOf image))) && goodSubnets (tableOf (blocksOf image))) sites-apart
+
+  pub sites-number : apart (sameNumber image 72) places ≡ false → false ≡ goodSites (tableOf (blocksOf image))
+  sites-number a = rw (sites-tests, a)
+
+  module _ (a : apart (sameNumber image 72) places ≡ true) where
+    pub sites-own : hasSite (tableOf (blocksOf image)) (tableOf (blocksOf image) .server .site) ≡ false → false ≡ goodSites (tableOf (blocksOf image))
+    sites-own b = rw (sites-tests, a, b)
+
+    module _ (b : hasSite (tableOf (blocksOf image)) (tableOf (blocksOf image) .server .site) ≡ true) where
+      pub sites-next : goodNext (tableOf (blocksOf image)) ≡ false → false ≡ goodSites (tableOf (blocksOf image))
+      sites-next d = rw (sites-tests, a, b, d)
+
+      pub sites-subnets : goodNext (tableOf (blocksOf image)) ≡ true → goodSubnets (tableOf (blocksOf image)) ≡ goodSites (tableOf (blocksOf image))
+      sites-subnets d = rw (sites-tests, a, b, d)
+
+  sites-count : length (tableOf (blocksOf image) .sites) ≡ length places
+  unfolding tableOf
+  sites-count = length-map (recordsOf 5 7 72 (blocksOf image)) siteOf ∙ ap length (sym e) ∙ length-map places (λ q. cut image q 72)
+
+  pub no-site : length places ≡ 0 → false ≡ siteHalf (tableOf (blocksOf image))
+  unfolding siteHalf
+  no-site z = rw (sites-count, z)
+
+  pub some-sites : (length places ≡ 0 → ⊥) → goodSites (tableOf (blocksOf image)) ≡ siteHalf (tableOf (blocksOf image))
+  unfolding siteHalf
+  some-sites n = rw (sites-count, le-leb 1 (length places) (omega arith))
+
+-- the two halves are the whole
+halves : (t : Table) → (contextHalf t && siteHalf t) ≡ goodWhole t
+unfolding contextHalf goodContexts goodAccounts siteHalf goodSites goodNext goodSubnets goodWhole refersRightly
+halves t =
+    go
+    (within 1 16 (length (t .contexts)))
+    (leb 1 (length (t .sites)))
+    (contextsApart (t .contexts))
+    (sitesApart (t .sites))
+    (accountsApart (t .accounts))
+    (hasSite t (t .server .site))
+    (hasContext t (t .server .defaultContext))
+    (all (λ a. hasContext t (a .context)) (t .accounts))
+    (all (λ s. noneOr (hasSite t) (s .next)) (t .sites))
+    (all (λ n. noneOr (hasSite t) (n .site)) (t .subnets))
+    (all (λ s. not (holds (sameSite (s .number)) (s .next))) (t .sites))
+  where
+    rest : (hs hc ar nr sr ns : Bool) → ((hc && (ar && true)) && ((hs && (nr && ns)) && sr)) ≡ (((((hs && hc) && ar) && nr) && sr) && ns)
+    rest false hc ar nr sr ns = and-false (hc && (ar && true))
+    rest true false ar nr sr ns = refl
+    rest true true false nr sr ns = refl
+    rest true true true false sr ns = refl
+    rest true true true true sr ns = and-comm ns sr
+
+    go : (w l ca sa aa hs hc ar nr sr ns : Bool)
+        → ((w && ((ca && hc) && (ar && aa))) && (l && (((sa && hs) && (nr && ns)) && sr))) ≡ ((((((w && l) && ca) && sa) && aa) && ((((hs && hc) && ar) && nr) && sr)) && ns)
+    go false l ca sa aa hs hc ar nr sr ns = refl
+    go true false ca sa aa hs hc ar nr sr ns = and-false ((ca && hc) && (ar && aa))
+    go true true false sa aa hs hc ar nr sr ns = refl
+    go true true true false aa hs hc ar nr sr ns = and-false (hc && (ar && aa))
+    go true true true true false hs false ar nr sr ns = refl
+    go true true true true false hs true false nr sr ns = refl
+    go true true true true false hs true true nr sr ns = refl
+    go true true true true true hs hc ar nr sr ns = rest hs hc ar nr sr ns
+
+pub bad-half : (t : Table) → contextHalf t ≡ false → false ≡ goodWhole t
+bad-half t e = rw e at (halves t)
+
+pub good-half : (t : Table) → contextHalf t ≡ true → siteHalf t ≡ goodWhole t
+good-half t e = rw e at (halves t)
