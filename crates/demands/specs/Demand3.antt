@@ -1,4 +1,4 @@
--- Demand 3: for every table image, client address, filter and room that get an answer, each name of the reply, walked from its first octet,
+-- Demand 3: for every table image, caller, filter and room that get an answer, each name of the reply, walked from its first octet,
 -- is read back as exactly its labels, with few pointers; and the reader accepts the reply and counts as the walk does.
 use mathlib.Core.Path.{_≡_}
 use mathlib.Core.List.{List, [], _++_}
@@ -15,6 +15,7 @@ use Rattle.octets.specs.Label as label
 use Rattle.reader.specs.Reader.{Named, Fields, nt40, response, ex, readIn}
 use Rattle.reply.specs.Reply.{Reply, responseHead, responseNames, exHead, exNames, addressIf}
 use Rattle.demands.specs.Made.{Made, said}
+use Rattle.table.specs.declared.Caller.{Caller}
 
 -- what stands before the first name of a form
 abbrev pub headOf : Form → Reply → List ℕ
@@ -85,6 +86,6 @@ pub record NamesWalked (form : Form) (v : ℕ) (r : Reply) (s : List ℕ) : Type
 
 abbrev pub Demand3 : Type 0
 Demand3 =
-    (image client filter : List ℕ) (room : ℕ) (a : Outcome)
-    → answerTo image client filter room ≡ good a
-    → (m : Made image client filter room a) × NamesWalked (a .form) (m .ping .version) (said m) (a .octets)
+    (image : List ℕ) (caller : Caller) (filter : List ℕ) (room : ℕ) (a : Outcome)
+    → answerTo image caller filter room ≡ good a
+    → (m : Made image caller filter room a) × NamesWalked (a .form) (m .ping .version) (said m) (a .octets)

@@ -7,6 +7,7 @@ use Rattle.answers.specs.declared.Form.{Form}
 use Rattle.answers.specs.declared.Form.the-variants.{Nt40, Response, Ex}
 use Rattle.answers.specs.Try.{good}
 use Rattle.locator.specs.Answer.{Outcome, answerTo}
+use Rattle.table.specs.declared.Caller.{Caller}
 
 abbrev pub longest : Form → ℕ
 longest Nt40 = 202
@@ -14,4 +15,4 @@ longest Response = 1007
 longest Ex = 1108
 
 abbrev pub LengthBound : Type 0
-LengthBound = (image client filter : List ℕ) (room : ℕ) (a : Outcome) → answerTo image client filter room ≡ good a → length (a .octets) ≤ longest (a .form)
+LengthBound = (image : List ℕ) (caller : Caller) (filter : List ℕ) (room : ℕ) (a : Outcome) → answerTo image caller filter room ≡ good a → length (a .octets) ≤ longest (a .form)

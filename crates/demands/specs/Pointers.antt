@@ -16,6 +16,7 @@ use Rattle.octets.specs.Text.{same}
 use Rattle.reply.specs.Reply.{Reply}
 use Rattle.demands.specs.Demand3.{headOf, namesOf}
 use Rattle.demands.specs.Made.{Made, said}
+use Rattle.table.specs.declared.Caller.{Caller}
 
 -- the tails that the first k names of a form leave
 abbrev pub tailsBefore : Form → Reply → ℕ → List Tail
@@ -29,6 +30,6 @@ pub record Fit (tails : List Tail) : Type 0 where
 
 abbrev pub PointersFit : Type 0
 PointersFit =
-    (image client filter : List ℕ) (room : ℕ) (a : Outcome)
-    → answerTo image client filter room ≡ good a
-    → (m : Made image client filter room a) × ((k : ℕ) → Fit (tailsBefore (a .form) (said m) k))
+    (image : List ℕ) (caller : Caller) (filter : List ℕ) (room : ℕ) (a : Outcome)
+    → answerTo image caller filter room ≡ good a
+    → (m : Made image caller filter room a) × ((k : ℕ) → Fit (tailsBefore (a .form) (said m) k))

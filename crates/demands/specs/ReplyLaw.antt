@@ -1,4 +1,4 @@
--- The reply law: for every table image, client address, filter and room that get an answer, the reader, given the reply's octets, its form
+-- The reply law: for every table image, caller, filter and room that get an answer, the reader, given the reply's octets, its form
 -- and the version bits asked, accepts the reply with its length and gives back the texts and numbers that went in.
 use mathlib.Core.Path.{_≡_}
 use mathlib.Core.Bool.{Bool, true, false}
@@ -16,6 +16,7 @@ use Rattle.reader.specs.Reader.{Named, Nt40Fields, ResponseFields, ExFields, nt
 use Rattle.reader.specs.Text.{Stretch}
 use Rattle.reply.specs.Reply.{Reply, responseNames, exNames}
 use Rattle.demands.specs.Made.{Made, said}
+use Rattle.table.specs.declared.Caller.{Caller}
 
 -- the octets of a stretch
 abbrev pub stretchOf : List ℕ → Stretch → List ℕ
@@ -73,8 +74,8 @@ GivenBack Ex v r s = (f : ExFields) × (readIn Ex v s ≡ good (ex f)) × ExBack
 
 abbrev pub ReplyLaw : Type 0
 ReplyLaw =
-    (image client filter : List ℕ) (room : ℕ) (a : Outcome)
-    → answerTo image client filter room ≡ good a
-    → (m : Made image client filter room a)
+    (image : List ℕ) (caller : Caller) (filter : List ℕ) (room : ℕ) (a : Outcome)
+    → answerTo image caller filter room ≡ good a
+    → (m : Made image caller filter room a)
     × GivenBack (a .form) (m .ping .version) (said m) (a .octets)
     × (readLength (readIn (a .form) (m .ping .version) (a .octets)) (a .octets) ≡ length (a .octets))

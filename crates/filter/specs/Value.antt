@@ -17,11 +17,11 @@ use Rattle.filter.specs.declared.Judged.the-variants as judged
 use Rattle.filter.specs.declared.Request.{Request}
 use Rattle.filter.specs.Request.{octetsOf}
 
--- what the clauses of a request say that the answer goes by: absent, or their octets
+-- what the clauses of a request say that the answer goes by: absent, or their octets; an absent AAC is 0
 pub record Ping : Type 0 where
   pub dnsDomain : Option (List ℕ)
   pub user : Option (List ℕ)
-  pub aac : Option (List ℕ)
+  pub aac : ℕ
   pub domainSid : Option (List ℕ)
   pub domainGuid : Option (List ℕ)
   pub version : ℕ
@@ -49,12 +49,17 @@ versionFrom (some x) = some (little x)
 unfoldable pub versionAsked : List ℕ → Request → Option ℕ
 versionAsked s r = versionFrom (octetsOf s (r .«nt_ver»))
 
+-- the number of a clause, or another where it is absent
+abbrev pub numberOr : ℕ → Option (List ℕ) → ℕ
+numberOr n none = n
+numberOr n (some x) = little x
+
 abbrev pub pingOf : List ℕ → Request → ℕ → Ping
 pingOf s r v =
     record {
       dnsDomain = octetsOf s (r .«dns_domain»);
       user = octetsOf s (r .«user»);
-      aac = octetsOf s (r .«aac»);
+      aac = numberOr 0 (octetsOf s (r .«aac»));
       domainSid = octetsOf s (r .«domain_sid»);
       domainGuid = octetsOf s (r .«domain_guid»);
       version = v;

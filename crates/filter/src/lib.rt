@@ -54,12 +54,6 @@ pub enum Taken {
     Refused(Refusal),
 }
 
-// What writing a filter gives: 0 with the length, or 6, 5 or 19.
-pub enum Written {
-    Length(usize),
-    Refused(Refusal),
-}
-
 // What judging a request's values gives: the version asked for, or 9 or 10.
 pub enum Judged {
     Version(u32),

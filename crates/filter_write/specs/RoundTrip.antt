@@ -9,11 +9,11 @@ use Rattle.filter.specs.declared.Name.{Name}
 use Rattle.filter.specs.declared.Request.{Request}
 use Rattle.filter.specs.declared.Taken.{Taken}
 use Rattle.filter.specs.declared.Taken.the-variants as taken
-use Rattle.filter.specs.declared.Written.{Written}
-use Rattle.filter.specs.declared.Written.the-variants as written
+use Rattle.filter_write.specs.declared.Written.{Written}
+use Rattle.filter_write.specs.declared.Written.the-variants as written
 use Rattle.filter.specs.Request.{clause, octetsOf}
 use Rattle.filter.specs.Taken.{requestIn, takenAs}
-use Rattle.filter.specs.Write.{filterFor, writtenAs, writtenOctets}
+use Rattle.filter_write.specs.Write.{filterFor, writtenAs, writtenOctets}
 
 -- the same clauses: for each name both are absent, or both are present with the same octets
 abbrev pub SameClauses : List ℕ → Request → List ℕ → Request → Type 0

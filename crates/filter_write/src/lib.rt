@@ -3,7 +3,6 @@ use answers::Refusal;
 use filter::Clause;
 use filter::Name;
 use filter::Request;
-use filter::Written;
 use octets::part;
 ghost use mathlib.Core.Path.{_≡_};
 ghost use mathlib.Core.List.{_∷_};
@@ -14,8 +13,14 @@ ghost use Rattle.octets.specs.Buffer.{over};
 ghost use Rattle.octets.specs.Lists.{any};
 ghost use Rattle.filter.specs.declared.Name.the-variants.{NtVer};
 ghost use Rattle.filter.specs.Request.{names, spelling, clause, isPresent, octetsOf};
-ghost use Rattle.filter.specs.Write.{lengthOctets, element, equalityFor, filterOctets, filterFor, writtenAs, writtenOctets};
+ghost use Rattle.filter_write.specs.Write.{lengthOctets, element, equalityFor, filterOctets, filterFor, writtenAs, writtenOctets};
 ghost use Rattle.filter_write.specs.Internal.Size.{headSize, elementSize, contents};
+
+// What writing a filter gives: 0 with the length, or 6, 5 or 19.
+pub enum Written {
+    Length(usize),
+    Refused(Refusal),
+}
 
 // Lengths below this take one octet.
 const LENGTH_OF_ONE: usize = 0x80;

@@ -1,4 +1,4 @@
--- Document 01, "Answer numbers": the answer to a ping, as one function of table image, client address, filter and room.
+-- Document 01, "Answer numbers": the answer to a ping, as one function of table image, caller, filter and room.
 use mathlib.Core.Bool.{Bool, true, false, not, _&&_, _||_}
 use mathlib.Core.List.{List, []}
 use mathlib.Core.Option.{Option, none, some}
@@ -15,8 +15,9 @@ use Rattle.filter.specs.Value.{Ping, pingIn}
 use Rattle.octets.specs.Label.{labels}
 use Rattle.octets.specs.Lists.{any, holds}
 use Rattle.reply.specs.Reply.{octetsIn}
+use Rattle.table.specs.declared.Caller.{Caller}
 use Rattle.table.specs.declared.ContextNumber.{ContextNumber}
-use Rattle.table.specs.Judgement.{tableIn}
+use Rattle.table_whole.specs.Judgement.{tableIn}
 use Rattle.table.specs.Records.{Context}
 use Rattle.table.specs.Table.{Table}
 use Rattle.locator.specs.declared.Answer.{Answer}
@@ -39,21 +40,21 @@ pub record Outcome : Type 0 where
   pub form : Form
   pub octets : List ℕ
 
-unfoldable pub replyTo : Table → List ℕ → Ping → ℕ → Context → Try Outcome
-replyTo t client p room c =
+unfoldable pub replyTo : Table → Caller → Ping → ℕ → Context → Try Outcome
+replyTo t caller p room c =
     let form = formOf (t .server) (p .version) in
-    let octets = octetsIn form (replyFor t client p c form) in
+    let octets = octetsIn form (replyFor t caller p c form) in
     refusedIf (wrongUser form p) UserLabelEmpty
     (refusedIf (ltb room (length octets)) NoRoom (good (record { context = c .number; form = form; octets = octets })))
 
 -- the numbers are judged in their order, each over the whole table or filter
-unfoldable pub answerTo : List ℕ → List ℕ → List ℕ → ℕ → Try Outcome
-answerTo image client filter room = do
+unfoldable pub answerTo : List ℕ → Caller → List ℕ → ℕ → Try Outcome
+answerTo image caller filter room = do
   t ← tableIn image
   r ← requestIn filter
   p ← pingIn filter r
   c ← contextIn t p
-  replyTo t client p room c
+  replyTo t caller p room c
 
 -- the answer as the enum that the call returns
 abbrev pub answerAs : Try Outcome → Answer

@@ -7,8 +7,9 @@ use Rattle.answers.specs.declared.Form.{Form}
 use Rattle.answers.specs.declared.Form.the-variants.{Nt40, Response, Ex}
 use Rattle.filter.specs.Value.{Ping}
 use Rattle.octets.specs.Lists.{holds}
-use Rattle.octets.specs.Number.{has, little}
+use Rattle.octets.specs.Number.{has}
 use Rattle.reply.specs.Reply.{Reply}
+use Rattle.table.specs.declared.Caller.{Caller}
 use Rattle.table.specs.declared.SiteNumber.{SiteNumber}
 use Rattle.table.specs.Records.{Server, Context, Site, sameSite}
 use Rattle.table.specs.Table.{Table}
@@ -64,18 +65,13 @@ rpcInitialized = 0x4
 abbrev pub frsPaused : ℕ
 frsPaused = 0x8
 
--- an absent AAC is 0
-abbrev pub aacOf : Option (List ℕ) → ℕ
-aacOf none = 0
-aacOf (some octets) = little octets
-
 -- document 01's user x is not none, for the user asked for
 unfoldable pub isKnown : Table → Context → ℕ → List ℕ → Bool
 isKnown t c aac name = holds (mayLogOn aac) (accountByName t (c .number) name)
 
 -- a user was asked for, empty or not, and x is none
 unfoldable pub userUnknown : Table → Context → Ping → Bool
-userUnknown t c p = holds (λ name. not (isKnown t c (aacOf (p .aac)) name)) (p .user)
+userUnknown t c p = holds (λ name. not (isKnown t c (p .aac) name)) (p .user)
 
 -- the reply's form; v is the version asked, 01000000h its bit that keeps NT4 forms away
 unfoldable pub formOf : Server → ℕ → Form
@@ -162,10 +158,10 @@ onlyIf false x = none
 unfoldable pub nextSite : Table → ℕ → Option Site → Option (List ℕ)
 nextSite t v site = onlyIf (has v 0x10 && has (t .server .roles) level2008) (nameOfSite (nextTo t site))
 
--- the reply to a ping from a client, in the context used
-unfoldable pub replyFor : Table → List ℕ → Ping → Context → Form → Reply
-replyFor t client p c form =
-    let site = clientSite t client in
+-- the reply to a ping from a caller, in the context used
+unfoldable pub replyFor : Table → Caller → Ping → Context → Form → Reply
+replyFor t caller p c form =
+    let site = clientSite t caller in
     let v = p .version in
     record {
       opcode = opcodeOf form (isHeldBack (t .server) v) (userUnknown t c p);

@@ -12,7 +12,7 @@ use Rattle.filter.specs.declared.Name.the-variants.{User, Aac, DomainGuid, NtVe
 use Rattle.filter.specs.Shape.{elementAt, equality, one, siblings, andOf, clausesOf}
 use Rattle.filter.specs.Taken.{isNamed, strange, twice, requestOf, requestIn}
 use Rattle.filter.specs.Value.{wrongValue, versionAsked, pingIn}
-use Rattle.filter.specs.Write.{lengthOctets, element, equalityFor}
+use Rattle.filter_write.specs.Write.{lengthOctets, element, equalityFor}
 use Rattle.names.specs.Name.{pointer, label, labelsAt, nameAt, namesAt}
 use Rattle.names.specs.Walk.{lookAt, walkFrom, walk}
 use Rattle.names.specs.Walk as walking
@@ -32,11 +32,13 @@ use Rattle.reply.specs.Reply.{u16, u32, text16, ending, opening, nt40Octets, re
 use Rattle.table.specs.Address.{addressNumber, isPrefixOnly, sharePrefix}
 use Rattle.table.specs.Check.{grown, checkOf, goodCheck}
 use Rattle.table.specs.Field.{zeros, textField}
-use Rattle.table.specs.Judgement.{goodLength, tableIn}
+use Rattle.table_whole.specs.Judgement.{goodLength, tableIn}
 use Rattle.table.specs.Layout.{serverLayout, forestLayout, contextLayout, accountLayout, siteLayout, subnetLayout, bodyLayout, blockLayout, layoutsFrom}
 use Rattle.table.specs.Records.{serverOf, contextOf, accountOf, siteOf, subnetOf}
+use Rattle.table.specs.SameName.{sameAccountName}
+use Rattle.table.specs.declared.Caller.{Caller}
 use Rattle.table.specs.Table.{blocksOf, bodies, recordsOf, tableOf}
-use Rattle.table.specs.Whole.{sameAccountName, contextsApart, accountsApart, sitesApart, hasContext, hasSite, refersRightly, goodWhole}
+use Rattle.table_whole.specs.Whole.{contextsApart, accountsApart, sitesApart, hasContext, hasSite, refersRightly, goodWhole}
 use Rattle.locator.specs.Answer.{answerTo, answerAs, octetsWritten, numberOf, lengthOf, wrongUser, replyTo}
 use Rattle.locator.specs.Answer as answers
 use Rattle.locator.specs.Choose.{isKnown, userUnknown, formOf, isHeldBack, opcodeOf, namesApplication, exFlags, responseFlags, nextSite, replyFor}
@@ -115,11 +117,11 @@ version v = record { name = NtVer; octets = u32 v }
 six : List ℕ
 six = 0xA0 ∷ 0x0F ∷ 0xA3 ∷ 0x0D ∷ 0x04 ∷ 0x05 ∷ 0x4E ∷ 0x74 ∷ 0x56 ∷ 0x65 ∷ 0x72 ∷ 0x04 ∷ 0x04 ∷ 0x06 ∷ 0x00 ∷ 0x00 ∷ 0x00 ∷ []
 
-client : List ℕ
-client = 192 ∷ 0 ∷ 2 ∷ 77 ∷ []
+caller : Caller
+caller = record { address = 192 ∷ 0 ∷ 2 ∷ 77 ∷ [] }
 
 pings : ℕ → List ℕ → ℕ → Try answers.Outcome
-pings roles f room = answerTo (image roles) client f room
+pings roles f room = answerTo (image roles) caller f room
 
 -- what an answer is judged by: its number, length and context, the form (0 none, 1 NT40, 2 RESPONSE, 3 EX), and the opcode, 0 where there is none
 abbrev formMark : Option Form → ℕ
@@ -207,5 +209,5 @@ samples =
     ∷ []
 
 pub samples-hold : map (λ r. r .got) samples ≡ map (λ r. r .due) samples
-unfolding samples checked block example corp CORP DC1 dc1 HQ ann guid ipv4 image filter version six client pings summary refusal P1 asks named elementAt equality one siblings andOf clausesOf isNamed strange twice requestOf requestIn wrongValue versionAsked pingIn lengthOctets element pointer label labelsAt nameAt namesAt lookAt walkFrom walk parts labels joined all any first keep apart pieces isDnsName isPlainName isAccountName little big littleOctets bigOctets has isSid same lower pointOctets pointsOctets utf16 lead follow pointsFrom isUtf8 octetsAt fixedAt reading.nameFrom reading.nameAt reader.namesAt opcodeIn numberAt tokensAt addressAt hasNextSite lastAt readEx text16 ending opening nt40Octets responseHead responseOctets exHead exOctets grown checkOf goodCheck zeros textField goodLength tableIn serverLayout forestLayout contextLayout accountLayout siteLayout subnetLayout bodyLayout blockLayout layoutsFrom serverOf contextOf accountOf siteOf subnetOf blocksOf bodies recordsOf tableOf sameAccountName contextsApart accountsApart sitesApart hasContext hasSite refersRightly goodWhole answerTo wrongUser replyTo mayLogOn isKnown userUnknown formOf isHeldBack opcodeOf namesApplication exFlags responseFlags nextSite replyFor contextsSearched contextByGuid isNamedBy contextByDnsName holdsSid contextBySid contextByNumber defaultContext accountByName siteByNumber addressNumber isPrefixOnly sharePrefix subnetFor clientSite contextUsed contextIn flatMap
+unfolding samples checked block example corp CORP DC1 dc1 HQ ann guid ipv4 image filter version six caller pings summary refusal P1 asks named elementAt equality one siblings andOf clausesOf isNamed strange twice requestOf requestIn wrongValue versionAsked pingIn lengthOctets element pointer label labelsAt nameAt namesAt lookAt walkFrom walk parts labels joined all any first keep apart pieces isDnsName isPlainName isAccountName little big littleOctets bigOctets has isSid same lower pointOctets pointsOctets utf16 lead follow pointsFrom isUtf8 octetsAt fixedAt reading.nameFrom reading.nameAt reader.namesAt opcodeIn numberAt tokensAt addressAt hasNextSite lastAt readEx text16 ending opening nt40Octets responseHead responseOctets exHead exOctets grown checkOf goodCheck zeros textField goodLength tableIn serverLayout forestLayout contextLayout accountLayout siteLayout subnetLayout bodyLayout blockLayout layoutsFrom serverOf contextOf accountOf siteOf subnetOf blocksOf bodies recordsOf tableOf sameAccountName contextsApart accountsApart sitesApart hasContext hasSite refersRightly goodWhole answerTo wrongUser replyTo mayLogOn isKnown userUnknown formOf isHeldBack opcodeOf namesApplication exFlags responseFlags nextSite replyFor contextsSearched contextByGuid isNamedBy contextByDnsName holdsSid contextBySid contextByNumber defaultContext accountByName siteByNumber addressNumber isPrefixOnly sharePrefix subnetFor clientSite contextUsed contextIn flatMap
 samples-hold = refl

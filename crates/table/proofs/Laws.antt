@@ -1,7 +1,6 @@
 pub mod Address
 pub mod Check
 pub mod Field
-pub mod Judgement
 pub mod Layout
 pub mod RecordKind
 pub mod Rule

@@ -3,7 +3,6 @@ pub mod Address
 pub mod Field
 pub mod Records
 pub mod Layout
+pub mod SameName
 pub mod Table
-pub mod Whole
-pub mod Judgement
 pub mod Internal

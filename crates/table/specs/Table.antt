@@ -44,3 +44,7 @@ tableOf blocks =
       sites = map siteOf (recordsOf 5 7 72 blocks);
       subnets = map subnetOf (recordsOf 6 42 12 blocks);
     }
+
+-- the table of an image
+abbrev pub tableFrom : List ℕ → Table
+tableFrom image = tableOf (blocksOf image)

@@ -2,6 +2,7 @@
 ghost use mathlib.Core.Path.{_≡_};
 ghost use lib.ListN.{length};
 ghost use Rattle.table.specs.Address.{addressNumber, shareSize, isPrefixOnly};
+use crate::Caller;
 use octets::number::big_u32_at;
 
 // An address as the number that prefixes are taken of.
@@ -10,6 +11,13 @@ fn address_number(address: &[u8]) -> u32
     ensures { λ r. ⌜ r ≡ addressNumber (now (address .entry)) ⌝ }
 {
     big_u32_at(address, 0)
+}
+
+// The same of a caller's address.
+pub fn caller_number(caller: Caller) -> u32
+    ensures { λ r. ⌜ r ≡ addressNumber (caller .address) ⌝ }
+{
+    address_number(&caller.address)
 }
 
 // How many addresses share a prefix.

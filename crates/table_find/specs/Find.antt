@@ -5,12 +5,13 @@ use mathlib.Core.Option.{Option, none, some}
 use Prim.Native.Nat.{ℕ}
 use Rattle.octets.specs.Lists.{first, holds}
 use Rattle.octets.specs.Text.{same}
+use Rattle.table.specs.declared.Caller.{Caller}
 use Rattle.table.specs.declared.ContextNumber.{ContextNumber}
 use Rattle.table.specs.declared.SiteNumber.{SiteNumber}
 use Rattle.table.specs.Address.{sharePrefix}
 use Rattle.table.specs.Records.{Context, Account, Site, Subnet, sameContext, sameSite}
+use Rattle.table.specs.SameName.{sameDnsName, sameAccountName}
 use Rattle.table.specs.Table.{Table}
-use Rattle.table.specs.Whole.{sameDnsName, sameAccountName}
 
 -- the contexts that a ping's clauses are held against
 unfoldable pub contextsSearched : Table → List Context
@@ -46,9 +47,9 @@ accountByName t n name = first (λ a. sameContext (a .context) n && sameAccountN
 unfoldable pub siteByNumber : Table → SiteNumber → Option Site
 siteByNumber t n = first (λ s. sameSite (s .number) n) (t .sites)
 
--- the subnet that decides: the first in table order that holds the client's address
-unfoldable pub subnetFor : Table → List ℕ → Option Subnet
-subnetFor t client = first (λ n. sharePrefix (n .prefix) client (n .address)) (t .subnets)
+-- the subnet that decides: the first in table order that holds the caller's address
+unfoldable pub subnetFor : Table → Caller → Option Subnet
+subnetFor t caller = first (λ n. sharePrefix (n .prefix) (caller .address) (n .address)) (t .subnets)
 
 -- the site of a number that may be none
 abbrev pub siteIfAny : Table → Option SiteNumber → Option Site
@@ -60,10 +61,10 @@ siteOfSubnet t none = none
 siteOfSubnet t (some n) = siteIfAny t (n .site)
 
 -- document 01's client site s: the only site, or that of the subnet that decides
-abbrev pub siteFor : Table → List ℕ → List Site → Option Site
-siteFor t client [] = none
-siteFor t client (s ∷ []) = some s
-siteFor t client (s ∷ r ∷ rest) = siteOfSubnet t (subnetFor t client)
+abbrev pub siteFor : Table → Caller → List Site → Option Site
+siteFor t caller [] = none
+siteFor t caller (s ∷ []) = some s
+siteFor t caller (s ∷ r ∷ rest) = siteOfSubnet t (subnetFor t caller)
 
-unfoldable pub clientSite : Table → List ℕ → Option Site
-clientSite t client = siteFor t client (t .sites)
+unfoldable pub clientSite : Table → Caller → Option Site
+clientSite t caller = siteFor t caller (t .sites)

@@ -3,14 +3,14 @@ ghost use mathlib.Core.Path.{_≡_};
 ghost use mathlib.Core.Bool.{_&&_};
 ghost use lib.ListN.{length};
 ghost use Rattle.table.specs.Records.{accountOf, sameContext};
-ghost use Rattle.table.specs.Whole.{sameAccountName};
+ghost use Rattle.table.specs.SameName.{sameAccountName};
 ghost use Rattle.table_find.specs.LogOn.{mayLogOn};
 use octets::number::has_bits;
 use octets::number::u16_at;
 use octets::number::u32_at;
-use octets::text::same_folded;
 use table::ContextNumber;
 use table::record::text_in;
+use table::same_name::same_account_name;
 
 pub fn account_context(octets: &[u8]) -> ContextNumber
     requires { ⌜ length (now octets) ≡ 84 ⌝ }
@@ -42,7 +42,7 @@ pub fn is_account(octets: &[u8], context: ContextNumber, name: &[u8]) -> bool
     if own.0 != context.0 {
         return false;
     }
-    same_folded(account_name(octets), name)
+    same_account_name(account_name(octets), name)
 }
 
 // Whether the account is not disabled and of a kind that AAC allows.

@@ -5,11 +5,11 @@ ghost use Rattle.table.specs.Records.{contextOf, sameContext};
 ghost use Rattle.table_find.specs.Find.{isNamedBy, holdsSid};
 use octets::number::u16_at;
 use octets::part::part;
-use octets::text::same_folded;
 use octets::text::same_octets;
 use table::ContextNumber;
 use table::record::sid_in;
 use table::record::text_in;
+use table::same_name::same_dns_name;
 
 pub fn context_number(body: &[u8]) -> ContextNumber
     requires { ⌜ length (now body) ≡ 504 ⌝ }
@@ -61,7 +61,7 @@ pub fn is_named_by(body: &[u8], asked: &[u8]) -> bool
     requires { ⌜ length (now body) ≡ 504 ⌝ }
     ensures { λ r. ⌜ r ≡ isNamedBy (now (asked .entry)) (contextOf (now (body .entry))) ⌝ }
 {
-    same_folded(context_dns_name(body), asked)
+    same_dns_name(context_dns_name(body), asked)
 }
 
 pub fn is_numbered(body: &[u8], asked: ContextNumber) -> bool

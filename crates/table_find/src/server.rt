@@ -3,7 +3,7 @@ ghost use mathlib.Core.Path.{_≡_};
 ghost use Prim.Native.Nat.{_≤_};
 ghost use lib.ListN.{length};
 ghost use Rattle.table.specs.Records.{serverOf};
-ghost use Rattle.table.specs.Table.{blocksOf, tableOf};
+ghost use Rattle.table.specs.Table.{tableFrom};
 use octets::number::u16_at;
 use octets::number::u32_at;
 use octets::part::part;
@@ -16,7 +16,7 @@ use table::record::text_in;
 // The server block's body.
 pub fn server_of(image: &[u8]) -> &[u8]
     requires { ⌜ 1024 ≤ length (now image) ⌝ }
-    ensures { λ r. ⌜ serverOf (now r) ≡ tableOf (blocksOf (now (image .entry))) .server ⌝ }
+    ensures { λ r. ⌜ serverOf (now r) ≡ tableFrom (now (image .entry)) .server ⌝ }
     ensures { λ r. ⌜ length (now r) ≡ 504 ⌝ }
 {
     body_of(block_at(image, 0))
@@ -24,7 +24,7 @@ pub fn server_of(image: &[u8]) -> &[u8]
 
 pub fn forest_of(image: &[u8]) -> &[u8]
     requires { ⌜ 1024 ≤ length (now image) ⌝ }
-    ensures { λ r. ⌜ now r ≡ tableOf (blocksOf (now (image .entry))) .forest ⌝ }
+    ensures { λ r. ⌜ now r ≡ tableFrom (now (image .entry)) .forest ⌝ }
 {
     text_in(body_of(block_at(image, 1)), 0)
 }

@@ -1,3 +1,4 @@
+pub mod Judgement
 pub mod Alike
 pub mod Half
 pub mod Mark

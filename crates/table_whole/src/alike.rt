@@ -3,15 +3,16 @@ ghost use mathlib.Core.Path.{_≡_};
 ghost use mathlib.Core.Bool.{Bool};
 ghost use Rattle.octets.specs.Lists.{any, apart};
 ghost use Rattle.table.specs.Records.{contextOf, accountOf};
-ghost use Rattle.table.specs.Whole.{sameSid};
+ghost use Rattle.table_whole.specs.Whole.{sameSid};
 ghost use Rattle.table_whole.specs.Internal.Alike.{contextsAlike, accountsAlike, alikeBy, likeAt, alikeAt};
 use octets::part::part;
-use octets::text::alike;
 use octets::text::same_octets;
 use table::record::number_in;
 use table::record::octet_in;
 use table::record::sid_in;
 use table::record::text_in;
+use table::same_name::same_account_name;
+use table::same_name::same_dns_name;
 
 // Which records are compared.
 pub enum Likeness {
@@ -41,7 +42,7 @@ fn are_contexts_alike(a: &[u8], b: &[u8]) -> bool
     if same_sid(a, b) {
         return true;
     }
-    alike(text_in(a, 104), text_in(b, 104), true)
+    same_dns_name(text_in(a, 104), text_in(b, 104))
 }
 
 fn are_accounts_alike(a: &[u8], b: &[u8]) -> bool
@@ -50,7 +51,7 @@ fn are_accounts_alike(a: &[u8], b: &[u8]) -> bool
     if number_in(a, 0) != number_in(b, 0) {
         return false;
     }
-    alike(text_in(a, 8), text_in(b, 8), true)
+    same_account_name(text_in(a, 8), text_in(b, 8))
 }
 
 fn are_alike(a: &[u8], b: &[u8], likeness: Likeness) -> bool

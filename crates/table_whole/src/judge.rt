@@ -2,12 +2,11 @@
 ghost use mathlib.Core.Path.{_≡_};
 ghost use Prim.Native.Nat.{_≤_};
 ghost use lib.ListN.{length};
-ghost use Rattle.table.specs.Judgement.{goodLength, tableIn, judgedAs};
+ghost use Rattle.table_whole.specs.Judgement.{goodLength, tableIn, judgedAs};
 ghost use Rattle.table.specs.Table.{blocksOf};
 ghost use Rattle.table_whole.specs.Internal.BlockRule.{blocksPass};
 use crate::whole::good_whole;
 use answers::Refusal;
-use table::Judgement;
 use table::check::good_checks;
 use table::layout::good_layouts;
 
@@ -22,6 +21,12 @@ fn has_good_length(image: &[u8]) -> bool
         return false;
     }
     image.len() % 512 == 0
+}
+
+// What judging an image gives: 0, or 1 to 4.
+pub enum Judgement {
+    Passed,
+    Refused(Refusal),
 }
 
 // What is judged of every block: first the checks of all, then the layouts of all.

@@ -2,8 +2,8 @@
 ghost use mathlib.Core.Path.{_≡_};
 ghost use Prim.Native.Nat.{_≤_};
 ghost use lib.ListN.{length};
-ghost use Rattle.table.specs.Table.{blocksOf, tableOf, bodies, recordsOf};
-ghost use Rattle.table.specs.Whole.{goodWhole};
+ghost use Rattle.table.specs.Table.{blocksOf, bodies, recordsOf, tableFrom};
+ghost use Rattle.table_whole.specs.Whole.{goodWhole};
 ghost use Rattle.table_whole.specs.Internal.Place.{recordsAt};
 ghost use Rattle.table_whole.specs.Internal.Half.{ContextMarks, SiteMarks, serverNumber, goodAccounts, goodContexts, goodSubnets, goodSites, contextHalf, siteHalf};
 use crate::alike::Likeness;
@@ -31,8 +31,8 @@ fn server_number(image: &[u8], at: usize) -> u16
 // The accounts at places: each one's context exists, and no two of a context have one name.
 fn are_accounts_good(image: &[u8], accounts: &[usize], marks: &[bool]) -> bool
     requires { ⌜ recordsAt (now image) 84 (now accounts) ≡ recordsOf 4 6 84 (blocksOf (now image)) ⌝ }
-    requires { ⌜ ContextMarks (now marks) (tableOf (blocksOf (now image))) ⌝ }
-    ensures { λ r. ⌜ r ≡ goodAccounts (tableOf (blocksOf (now (image .entry)))) ⌝ }
+    requires { ⌜ ContextMarks (now marks) (tableFrom (now image)) ⌝ }
+    ensures { λ r. ⌜ r ≡ goodAccounts (tableFrom (now (image .entry))) ⌝ }
 {
     if !all_refer(image, accounts, 84, Reference::AccountContext, marks) {
         return false;
@@ -42,8 +42,8 @@ fn are_accounts_good(image: &[u8], accounts: &[usize], marks: &[bool]) -> bool
 
 fn good_accounts_of(image: &[u8], marks: &[bool]) -> bool
     requires { ⌜ length (now image) ≤ 65536 ⌝ }
-    requires { ⌜ ContextMarks (now marks) (tableOf (blocksOf (now image))) ⌝ }
-    ensures { λ r. ⌜ r ≡ goodAccounts (tableOf (blocksOf (now (image .entry)))) ⌝ }
+    requires { ⌜ ContextMarks (now marks) (tableFrom (now image)) ⌝ }
+    ensures { λ r. ⌜ r ≡ goodAccounts (tableFrom (now (image .entry))) ⌝ }
 {
     let mut accounts: [usize; 768] = [0; 768];
     let count = places_of(image, 4, 6, 84, false, &mut accounts);
@@ -54,7 +54,7 @@ fn good_accounts_of(image: &[u8], marks: &[bool]) -> bool
 fn are_contexts_good(image: &[u8], contexts: &[usize]) -> bool
     requires { ⌜ (512 ≤ length (now image)) × (length (now image) ≤ 65536) ⌝ }
     requires { ⌜ recordsAt (now image) 504 (now contexts) ≡ bodies 3 (blocksOf (now image)) ⌝ }
-    ensures { λ r. ⌜ r ≡ goodContexts (tableOf (blocksOf (now (image .entry)))) ⌝ }
+    ensures { λ r. ⌜ r ≡ goodContexts (tableFrom (now (image .entry))) ⌝ }
 {
     let mut marks = [false; 65536];
     if !mark_numbers(image, contexts, 504, &mut marks) {
@@ -72,7 +72,7 @@ fn are_contexts_good(image: &[u8], contexts: &[usize]) -> bool
 // 1 to 16 contexts, and what is said of them; no pair is compared where there are more.
 fn is_context_half_good(image: &[u8]) -> bool
     requires { ⌜ (512 ≤ length (now image)) × (length (now image) ≤ 65536) ⌝ }
-    ensures { λ r. ⌜ r ≡ contextHalf (tableOf (blocksOf (now (image .entry)))) ⌝ }
+    ensures { λ r. ⌜ r ≡ contextHalf (tableFrom (now (image .entry))) ⌝ }
 {
     let mut contexts: [usize; 128] = [0; 128];
     let count = places_of(image, 3, 1, 504, true, &mut contexts);
@@ -87,8 +87,8 @@ fn is_context_half_good(image: &[u8]) -> bool
 
 fn good_subnets_of(image: &[u8], marks: &[bool]) -> bool
     requires { ⌜ length (now image) ≤ 65536 ⌝ }
-    requires { ⌜ SiteMarks (now marks) (tableOf (blocksOf (now image))) ⌝ }
-    ensures { λ r. ⌜ r ≡ goodSubnets (tableOf (blocksOf (now (image .entry)))) ⌝ }
+    requires { ⌜ SiteMarks (now marks) (tableFrom (now image)) ⌝ }
+    ensures { λ r. ⌜ r ≡ goodSubnets (tableFrom (now (image .entry))) ⌝ }
 {
     let mut subnets: [usize; 5376] = [0; 5376];
     let count = places_of(image, 6, 42, 12, false, &mut subnets);
@@ -99,7 +99,7 @@ fn good_subnets_of(image: &[u8], marks: &[bool]) -> bool
 fn are_sites_good(image: &[u8], sites: &[usize]) -> bool
     requires { ⌜ (512 ≤ length (now image)) × (length (now image) ≤ 65536) ⌝ }
     requires { ⌜ recordsAt (now image) 72 (now sites) ≡ recordsOf 5 7 72 (blocksOf (now image)) ⌝ }
-    ensures { λ r. ⌜ r ≡ goodSites (tableOf (blocksOf (now (image .entry)))) ⌝ }
+    ensures { λ r. ⌜ r ≡ goodSites (tableFrom (now (image .entry))) ⌝ }
 {
     let mut marks = [false; 65536];
     if !mark_numbers(image, sites, 72, &mut marks) {
@@ -116,7 +116,7 @@ fn are_sites_good(image: &[u8], sites: &[usize]) -> bool
 
 fn is_site_half_good(image: &[u8]) -> bool
     requires { ⌜ (512 ≤ length (now image)) × (length (now image) ≤ 65536) ⌝ }
-    ensures { λ r. ⌜ r ≡ siteHalf (tableOf (blocksOf (now (image .entry)))) ⌝ }
+    ensures { λ r. ⌜ r ≡ siteHalf (tableFrom (now (image .entry))) ⌝ }
 {
     let mut sites: [usize; 896] = [0; 896];
     let count = places_of(image, 5, 7, 72, false, &mut sites);
@@ -129,7 +129,7 @@ fn is_site_half_good(image: &[u8]) -> bool
 // Whether the table is good as a whole, for an image of a whole block at least.
 pub fn good_whole(image: &[u8]) -> bool
     requires { ⌜ (512 ≤ length (now image)) × (length (now image) ≤ 65536) ⌝ }
-    ensures { λ r. ⌜ r ≡ goodWhole (tableOf (blocksOf (now (image .entry)))) ⌝ }
+    ensures { λ r. ⌜ r ≡ goodWhole (tableFrom (now (image .entry))) ⌝ }
 {
     if !is_context_half_good(image) {
         return false;

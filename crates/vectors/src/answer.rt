@@ -1,7 +1,7 @@
 // The answer to one request line.
 ghost use mathlib.Core.Path.{_≡_};
 ghost use Rattle.filter.specs.Taken.{numberOf as takenNumber};
-ghost use Rattle.table.specs.Judgement.{numberOf};
+ghost use Rattle.table_whole.specs.Judgement.{numberOf};
 use crate::parse::decode;
 use crate::parse::is_octets;
 use crate::parse::space_count;
@@ -17,7 +17,7 @@ use filter::Request;
 use filter::Taken;
 use octets::part::part;
 use octets::text::same_octets;
-use table::Judgement;
+use table_whole::judge::Judgement;
 
 // The longest line that is read, without its LF.
 const LONGEST: usize = 140100;

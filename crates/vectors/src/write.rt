@@ -1,6 +1,6 @@
 // `write` lines: a filter is written from eight clauses.
 ghost use mathlib.Core.Path.{_≡_};
-ghost use Rattle.filter.specs.Write.{numberOf, lengthOf};
+ghost use Rattle.filter_write.specs.Write.{numberOf, lengthOf};
 ghost use lib.ListN.{length};
 use crate::parse::Decimal;
 use crate::parse::decimal_of;
@@ -15,7 +15,7 @@ use crate::say::say_unknown;
 use answers::number_of;
 use filter::Clause;
 use filter::Request;
-use filter::Written;
+use filter_write::Written;
 
 // The most room that a line may lend.
 const MOST_ROOM: u64 = 4096;

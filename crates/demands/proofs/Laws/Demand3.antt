@@ -82,7 +82,7 @@ names-walked Response v r k = response-walked v r k
 names-walked Ex v r k = ex-walked v r k
 
 pub demand-3 : Demand3
-demand-3 image client filter room a e =
-    let m = made image client filter room a e in
+demand-3 image caller filter room a e =
+    let m = made image caller filter room a e in
     let v : ℕ = m .ping .version in
     (m, subst (NamesWalked (a .form) v (said m)) (sym (said-octets m)) (names-walked (a .form) v (said m) (said-sound m)))

@@ -16,6 +16,6 @@ form-length Response v r k = response-length v r k
 form-length Ex v r k = ex-length v r k
 
 pub length-bound : LengthBound
-length-bound image client filter room a e =
-    let m = made image client filter room a e in
+length-bound image caller filter room a e =
+    let m = made image caller filter room a e in
     subst (λ (x : List ℕ). length x ≤ longest (a .form)) (sym (said-octets m)) (form-length (a .form) (m .ping .version) _ (said-sound m))

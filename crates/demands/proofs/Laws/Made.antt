@@ -32,18 +32,19 @@ use Rattle.octets.specs.Utf8.{isUtf8}
 use Rattle.octets.proofs.Laws.Utf16.{Spoken}
 use Rattle.reply.specs.Reply.{Reply, octetsIn}
 use Rattle.table.specs.declared.SiteNumber.{SiteNumber}
-use Rattle.table.specs.Judgement.{tableIn}
-use Rattle.table.proofs.Laws.Judgement.{GoodContext, GoodSite, GoodTable, judged-good}
+use Rattle.table_whole.specs.Judgement.{tableIn}
+use Rattle.table_whole.proofs.Laws.Judgement.{GoodContext, GoodSite, GoodTable, judged-good}
 use Rattle.table.specs.Records.{Context, Site, Subnet, sameSite}
 use Rattle.table.specs.Table.{Table}
 use Rattle.demands.specs.Made.{Made, said}
+use Rattle.table.specs.declared.Caller.{Caller}
 pub mod Forms
 
 -- ---- from the answer to its parts
 
-pub made : (image client filter : List ℕ) (room : ℕ) (a : Outcome) → answerTo image client filter room ≡ good a → Made image client filter room a
+pub made : (image : List ℕ) (caller : Caller) (filter : List ℕ) (room : ℕ) (a : Outcome) → answerTo image caller filter room ≡ good a → Made image caller filter room a
 unfolding answerTo
-made image client filter room a e =
+made image caller filter room a e =
     let t = good-then (tableIn image) _ a e in
     let r = good-then (requestIn filter) _ a (t .2) in
     let p = good-then (pingIn filter (r .0)) _ a (r .2) in
@@ -152,14 +153,14 @@ module _ (t : Table) (g : GoodTable t) where
   of-subnet none = tt
   of-subnet (some n) = if-any (n .site)
 
-  of-client : (client : List ℕ) → SiteGood (clientSite t client)
+  of-client : (caller : Caller) → SiteGood (clientSite t caller)
   unfolding clientSite
-  of-client client = go (t .sites) (g .sites)
+  of-client caller = go (t .sites) (g .sites)
     where
-      go : (sites : List Site) → Every GoodSite sites → SiteGood (siteFor t client sites)
+      go : (sites : List Site) → Every GoodSite sites → SiteGood (siteFor t caller sites)
       go [] k = tt
       go (s ∷ []) k = k .0
-      go (s ∷ r ∷ rest) k = of-subnet (subnetFor t client)
+      go (s ∷ r ∷ rest) k = of-subnet (subnetFor t caller)
 
   site-next : (o : Option Site) → SiteGood (nextTo t o)
   site-next none = tt
@@ -256,9 +257,9 @@ pub record Sound (form : Form) (v : ℕ) (r : Reply) : Type 0 where
   pub opcodeHigh : r .opcode ≤ least form + 2
   pub flags : r .flags < 256 ^ 4
 
-reply-sound : (t : Table) (client : List ℕ) (p : Ping) (c : Context) (form : Form) → GoodTable t → GoodContext c → UserGood (p .user) → wrongUser form p ≡ false → Sound form (p .version) (replyFor t client p c form)
+reply-sound : (t : Table) (caller : Caller) (p : Ping) (c : Context) (form : Form) → GoodTable t → GoodContext c → UserGood (p .user) → wrongUser form p ≡ false → Sound form (p .version) (replyFor t caller p c form)
 unfolding replyFor
-reply-sound t client p c form g k u w =
+reply-sound t caller p c form g k u w =
     record {
       guid = k .guid;
       ipv4 = g .server .address;
@@ -273,38 +274,38 @@ reply-sound t client p c form g k u w =
       userSpoken = user-spoken (p .user) u .0;
       userShort = user-spoken (p .user) u .1;
       ownSite = site-name (siteByNumber t (t .server .site)) (by-number t g (t .server .site));
-      clientSite = site-name (clientSite t client) (of-client t g client);
+      clientSite = site-name (clientSite t caller) (of-client t g caller);
       address = refl;
-      nextSite = next-good t g (p .version) (clientSite t client);
+      nextSite = next-good t g (p .version) (clientSite t caller);
       opcodeLow = opcode-within form _ _ .0;
       opcodeHigh = opcode-within form _ _ .1;
-      flags = flags-within form t p (clientSite t client);
+      flags = flags-within form t p (clientSite t caller);
     }
 
-pub record Replied (t : Table) (client : List ℕ) (p : Ping) (c : Context) (a : Outcome) : Type 0 where
-  pub octets : a .octets ≡ octetsIn (a .form) (replyFor t client p c (a .form))
+pub record Replied (t : Table) (caller : Caller) (p : Ping) (c : Context) (a : Outcome) : Type 0 where
+  pub octets : a .octets ≡ octetsIn (a .form) (replyFor t caller p c (a .form))
   pub user : wrongUser (a .form) p ≡ false
 
-replied : (t : Table) (client : List ℕ) (p : Ping) (room : ℕ) (c : Context) (a : Outcome) → replyTo t client p room c ≡ good a → Replied t client p c a
+replied : (t : Table) (caller : Caller) (p : Ping) (room : ℕ) (c : Context) (a : Outcome) → replyTo t caller p room c ≡ good a → Replied t caller p c a
 unfolding replyTo
-replied t client p room c a e =
+replied t caller p room c a e =
     let form : Form = formOf (t .server) (p .version) in
-    let octets : List ℕ = octetsIn form (replyFor t client p c form) in
+    let octets : List ℕ = octetsIn form (replyFor t caller p c form) in
     let whole : Outcome = record { context = c .number; form = form; octets = octets } in
     let b = refusedIf-good (wrongUser form p) UserLabelEmpty _ a e in
     let d = refusedIf-good (ltb room (length octets)) NoRoom _ a (b .1) in
     let q : good whole ≡ good a = d .1 in
-    subst (Replied t client p c) (same whole a q) (record { octets = refl; user = b .0 })
+    subst (Replied t caller p c) (same whole a q) (record { octets = refl; user = b .0 })
   where
     same : (x y : Outcome) → good x ≡ good y → x ≡ y
     same x y q = cc
 
-module _ {image client filter : List ℕ} {room : ℕ} {a : Outcome} (m : Made image client filter room a) where
+module _ {image : List ℕ} {caller : Caller} {filter : List ℕ} {room : ℕ} {a : Outcome} (m : Made image caller filter room a) where
   pub said-octets : a .octets ≡ octetsIn (a .form) (said m)
-  said-octets = replied (m .table) client (m .ping) room (m .context) a (m .replied) .octets
+  said-octets = replied (m .table) caller (m .ping) room (m .context) a (m .replied) .octets
 
   pub said-sound : Sound (a .form) (m .ping .version) (said m)
   said-sound =
       let g : GoodTable (m .table) = judged-good image (m .table) (m .judged) in
-      reply-sound (m .table) client (m .ping) (m .context) (a .form) g (context-good (m .table) (m .ping) (m .context) g (m .used)) (user-good filter (m .request) (m .ping) (m .valued))
-      (replied (m .table) client (m .ping) room (m .context) a (m .replied) .user)
+      reply-sound (m .table) caller (m .ping) (m .context) (a .form) g (context-good (m .table) (m .ping) (m .context) g (m .used)) (user-good filter (m .request) (m .ping) (m .valued))
+      (replied (m .table) caller (m .ping) room (m .context) a (m .replied) .user)

@@ -54,4 +54,4 @@ fits Response v r s k = fit-before (responseHead r) (responseNames r) (response-
 fits Ex v r s k = fit-before (exHead r) (exNames r) (ex-plain v r s) (ex-short v r s) (ex-room v r s) k
 
 pub pointers-fit : PointersFit
-pointers-fit image client filter room a e = let m = made image client filter room a e in (m, fits (a .form) (m .ping .version) (said m) (said-sound m))
+pointers-fit image caller filter room a e = let m = made image caller filter room a e in (m, fits (a .form) (m .ping .version) (said m) (said-sound m))

@@ -85,8 +85,8 @@ read-whole Response v r s g = rw (g .1)
 read-whole Ex v r s g = rw (g .1)
 
 pub reply-law : ReplyLaw
-reply-law image client filter room a e =
-    let m = made image client filter room a e in
+reply-law image caller filter room a e =
+    let m = made image caller filter room a e in
     let v : ℕ = m .ping .version in
     let g : GivenBack (a .form) v (said m) (a .octets) = subst (GivenBack (a .form) v (said m)) (sym (said-octets m)) (given-back (a .form) v (said m) (said-sound m)) in
     (m, g, read-whole (a .form) v (said m) (a .octets) g)

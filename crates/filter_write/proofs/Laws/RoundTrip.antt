@@ -20,13 +20,13 @@ use Rattle.filter.specs.declared.Clause.the-variants.{Absent, Present}
 use Rattle.filter.specs.declared.Name.{Name}
 use Rattle.filter.specs.declared.Request.{Request}
 use Rattle.filter.specs.declared.Taken.the-variants as taken
-use Rattle.filter.specs.declared.Written.the-variants as written
+use Rattle.filter_write.specs.declared.Written.the-variants as written
 use Rattle.filter.specs.Internal.Gather.{place}
 use Rattle.filter.proofs.Laws.Gather.{clause-by, names-any}
 use Rattle.filter.specs.Request.{names, clause, isPresent, octetsOf}
 use Rattle.filter.specs.Shape.{one, andOf, clausesOf}
 use Rattle.filter.specs.Taken.{isNamed, asClause, requestOf, requestIn, takenAs}
-use Rattle.filter.specs.Write.{element, equalityFor, filterOctets, filterFor, writtenAs, writtenOctets}
+use Rattle.filter_write.specs.Write.{element, equalityFor, filterOctets, filterFor, writtenAs, writtenOctets}
 use Rattle.filter_write.specs.RoundTrip.{SameClauses, RoundTrip, CallsRoundTrip}
 use Rattle.filter_write.proofs.Laws.RoundTrip.Elements.{element-back, contents-back}
 use Rattle.filter_write.proofs.Laws.RoundTrip.Clauses.{Found-again, siblings-back, distinct, not-strange, not-twice, octets-back, some-length}

@@ -17,8 +17,8 @@ use Rattle.filter.specs.declared.Name.{Name}
 use Rattle.filter.specs.declared.Name.the-variants.{NtVer}
 use Rattle.filter.specs.declared.Request.{Request}
 use Rattle.filter.specs.Request.{names, spelling, clause, isPresent, octetsOf}
-use Rattle.filter.specs.Write.{lengthOctets, element, equalityFor, filterOctets, filterFor}
-use Rattle.filter.proofs.Laws.Write.{octets-one, octets-two, octets-three}
+use Rattle.filter_write.specs.Write.{lengthOctets, element, equalityFor, filterOctets, filterFor}
+use Rattle.filter_write.proofs.Laws.Write.{octets-one, octets-two, octets-three}
 use Rattle.filter_write.specs.Internal.Size.{headSize, elementSize, contents}
 
 pub head-two : (n : ℕ) → n < 0x80 → headSize n ≡ 2

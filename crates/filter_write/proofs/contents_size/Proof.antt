@@ -6,7 +6,7 @@ use Rattle.filter.specs.declared.Name.{Name}
 use Rattle.filter.specs.declared.Clause.{Clause}
 use Rattle.filter.specs.declared.Name.the-variants.{NtVer}
 use Rattle.filter.specs.Request.{names, clause, octetsOf}
-use Rattle.filter.specs.Write.{equalityFor}
+use Rattle.filter_write.specs.Write.{equalityFor}
 use Rattle.filter_write.specs.Internal.Size.{contents}
 use Rattle.filter_write.proofs.Laws.Size.{contents-size-next, contents-end}
 use Rattle.filter_write.proofs.contents_size.Statement.{statement}

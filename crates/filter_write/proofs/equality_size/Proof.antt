@@ -5,7 +5,7 @@ use borrow.Author.Needs.{needs}
 use lib.ListN.{length}
 use Rattle.filter.specs.declared.Clause.{Clause}
 use Rattle.filter.specs.Request.{octetsOf, spelling}
-use Rattle.filter.specs.Write.{equalityFor}
+use Rattle.filter_write.specs.Write.{equalityFor}
 use Rattle.filter_write.specs.Internal.Size.{elementSize}
 use Rattle.filter_write.proofs.Laws.Size.{equality-length}
 use Rattle.filter_write.proofs.equality_size.Statement.{statement}

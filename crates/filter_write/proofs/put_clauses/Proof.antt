@@ -10,7 +10,7 @@ use Rattle.filter.specs.declared.Clause.{Clause}
 use Rattle.filter.specs.declared.Name.{Name}
 use Rattle.filter.specs.declared.Name.the-variants.{NtVer}
 use Rattle.filter.specs.Request.{names, clause, octetsOf}
-use Rattle.filter.specs.Write.{equalityFor}
+use Rattle.filter_write.specs.Write.{equalityFor}
 use Rattle.filter_write.specs.Internal.Size.{contents}
 use Rattle.filter_write.proofs.Laws.Size.{written-next, written-within, written-fits, written-all}
 use Rattle.filter_write.proofs.put_clauses.Statement.{statement}

@@ -9,7 +9,7 @@ use Rattle.octets.specs.Buffer.{over}
 use Rattle.octets.proofs.Laws.Buffer.{over-none}
 use Rattle.filter.specs.declared.Name.{Name}
 use Rattle.filter.specs.Request.{spelling, octetsOf}
-use Rattle.filter.specs.Write.{equalityFor}
+use Rattle.filter_write.specs.Write.{equalityFor}
 use Rattle.filter_write.specs.Internal.Size.{elementSize}
 use Rattle.filter_write.proofs.Laws.Size.{equality-length}
 use Rattle.filter_write.proofs.put_equality.Statement.{statement}

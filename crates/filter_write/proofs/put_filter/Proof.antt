@@ -5,7 +5,7 @@ use borrow.Author.Needs.{needs}
 use Rattle.octets.specs.Buffer.{over}
 use Rattle.octets.proofs.Laws.Buffer.{over-lent}
 use Rattle.filter.specs.Request.{names}
-use Rattle.filter.specs.Write.{lengthOctets, element, filterOctets}
+use Rattle.filter_write.specs.Write.{lengthOctets, element, filterOctets}
 use Rattle.filter_write.specs.Internal.Size.{contents}
 use Rattle.filter_write.proofs.Laws.Size.{head-length}
 use Rattle.filter_write.proofs.put_filter.Statement.{statement}

@@ -6,7 +6,7 @@ use borrow.Author.Needs.{needs}
 use lib.ListN.{length, set, length-set}
 use Rattle.octets.specs.Buffer.{over}
 use Rattle.octets.proofs.Laws.Buffer.{over-none, over-more}
-use Rattle.filter.proofs.Laws.Write.{octets-one, octets-two, octets-three}
+use Rattle.filter_write.proofs.Laws.Write.{octets-one, octets-two, octets-three}
 use Rattle.filter_write.proofs.Laws.Size.{head-two, head-three, head-four, head-bounds}
 use Rattle.filter_write.proofs.put_head.Statement.{statement}
 use Rattle.filter_write.proofs.put_head.Tie as tie

@@ -7,7 +7,7 @@ use lib.ListN.{length, take, drop, length-append}
 use Rattle.octets.specs.Buffer.{over}
 use Rattle.octets.proofs.Laws.Buffer.{over-lent}
 use Rattle.filter.specs.Request.{spelling}
-use Rattle.filter.specs.Write.{lengthOctets, element}
+use Rattle.filter_write.specs.Write.{lengthOctets, element}
 use Rattle.filter_write.proofs.Laws.Size.{head-length, element-length}
 use Rattle.filter_write.proofs.put_pair.Statement.{statement}
 use Rattle.filter_write.proofs.put_pair.Tie as tie

@@ -4,7 +4,7 @@ use Prim.Native.Nat.{ℕ, _+_}
 use borrow.Author.Needs.{needs}
 use lib.ListN.{length}
 use Rattle.octets.proofs.Laws.Buffer.{over-lent}
-use Rattle.filter.specs.Write.{lengthOctets, element}
+use Rattle.filter_write.specs.Write.{lengthOctets, element}
 use Rattle.filter_write.proofs.Laws.Size.{head-length}
 use Rattle.filter_write.proofs.put_string.Statement.{statement}
 use Rattle.filter_write.proofs.put_string.Tie as tie

@@ -5,7 +5,7 @@ use borrow.Author.Needs.{needs}
 use lib.ListN.{length}
 use Rattle.octets.proofs.Laws.Buffer.{over-none}
 use Rattle.octets.specs.Lists.{any}
-use Rattle.filter.specs.declared.Written.the-variants.{Length}
+use Rattle.filter_write.specs.declared.Written.the-variants.{Length}
 use Rattle.filter.specs.Request.{names, clause, isPresent}
 use Rattle.filter_write.specs.Internal.Size.{elementSize, contents}
 use Rattle.filter_write.proofs.Laws.Size.{capped-long, capped-short, filter-length, answer-none, answer-long, answer-room, answer-good}

@@ -6,7 +6,7 @@ use lib.Dec.{ltb}
 use Rattle.filter.specs.declared.Name.{Name}
 use Rattle.filter.specs.declared.Request.{Request}
 use Rattle.filter.specs.Request.{clause, octetsOf}
-use Rattle.filter.specs.Write.{equalityFor}
+use Rattle.filter_write.specs.Write.{equalityFor}
 
 -- a tag and the shortest length of n octets
 abbrev pub headSize : ℕ → ℕ

@@ -16,7 +16,8 @@ use Rattle.table.specs.Address.{addressNumber, sharePrefix}
 use Rattle.table.specs.Layout.{body}
 use Rattle.table.specs.Records.{Site, sameContext, sameSite, contextOf, accountOf, siteOf, subnetOf}
 use Rattle.table.specs.Table.{Table, bodies, recordsOf, tableOf}
-use Rattle.table.specs.Whole.{sameAccountName, sitesApart}
+use Rattle.table.specs.SameName.{sameAccountName}
+use Rattle.table_whole.specs.Whole.{sitesApart}
 use Rattle.table_find.specs.declared.search.ContextKey.{ContextKey}
 use Rattle.table_find.specs.declared.search.SiteKey.{SiteKey}
 use Rattle.table_find.specs.declared.search.SiteKey.the-variants.{Any, OtherThan}
@@ -25,6 +26,7 @@ use Rattle.table_find.specs.declared.search.Key.the-variants as key
 use Rattle.table_find.specs.Find.{contextsSearched, accountByName, subnetFor, siteOfSubnet, siteFor}
 use Rattle.table_find.specs.Internal.Key.{isContext, isSite, inSubnet}
 use Rattle.table_find.specs.Internal.Search.{firstIn}
+use Rattle.table.specs.declared.Caller.{Caller}
 
 -- a context is the whole of its body
 bodies-whole : (kind : ℕ) (blocks : List (List ℕ)) → flatMap (pieces 1 504) (bodies kind blocks) ≡ bodies kind blocks
@@ -60,9 +62,9 @@ module _ (asked : List ℕ) (blocks : List (List ℕ)) where
   unfolding firstIn tableOf
   site-search k = used-search siteOf (isSite k) 5 7 72
 
-  pub subnet-search : (client : List ℕ) → Option·map subnetOf (firstIn (key.Used (by.Subnet (addressNumber client))) asked blocks) ≡ subnetFor (tableOf blocks) client
+  pub subnet-search : (caller : Caller) → Option·map subnetOf (firstIn (key.Used (by.Subnet (addressNumber (caller .address)))) asked blocks) ≡ subnetFor (tableOf blocks) caller
   unfolding firstIn subnetFor tableOf inSubnet sharePrefix
-  subnet-search client = used-search subnetOf (λ n. sharePrefix (n .prefix) client (n .address)) 6 42 12
+  subnet-search caller = used-search subnetOf (λ n. sharePrefix (n .prefix) (caller .address) (n .address)) 6 42 12
 
 -- the first site is no other than itself
 skip-own : (q s : Site) (rest : List Site) → some s ≡ some q → first (isSite (OtherThan (s .number))) (q ∷ rest) ≡ first (isSite (OtherThan (s .number))) rest
@@ -80,21 +82,21 @@ numbers-differ r q rest h = go (sameSite (r .number) (q .number)) refl
     go true e = sym h ∙ rw e
 
 -- no site is there
-pub no-site : (t : Table) (client : List ℕ) (sites : List Site) → none ≡ first (isSite Any) sites → none ≡ siteFor t client sites
+pub no-site : (t : Table) (caller : Caller) (sites : List Site) → none ≡ first (isSite Any) sites → none ≡ siteFor t caller sites
 unfolding first
-no-site t client [] e = refl
-no-site t client (s ∷ rest) e = absurd (let z : _≡_ {A = ℕ} 0 1 = cc in omega arith)
+no-site t caller [] e = refl
+no-site t caller (s ∷ rest) e = absurd (let z : _≡_ {A = ℕ} 0 1 = cc in omega arith)
 
 -- no other site is there: the first is the only one
-pub lone-site : (t : Table) (client : List ℕ) (sites : List Site) (s : Site)
+pub lone-site : (t : Table) (caller : Caller) (sites : List Site) (s : Site)
     → sitesApart sites ≡ true
     → some s ≡ first (isSite Any) sites
     → none ≡ first (isSite (OtherThan (s .number))) sites
-    → some s ≡ siteFor t client sites
+    → some s ≡ siteFor t caller sites
 unfolding first
-lone-site t client [] s apart e f = absurd (let z : _≡_ {A = ℕ} 0 1 = cc in omega arith)
-lone-site t client (r ∷ []) s apart e f = e
-lone-site t client (r ∷ q ∷ rest) s apart e f =
+lone-site t caller [] s apart e f = absurd (let z : _≡_ {A = ℕ} 0 1 = cc in omega arith)
+lone-site t caller (r ∷ []) s apart e f = e
+lone-site t caller (r ∷ q ∷ rest) s apart e f =
     let same : r ≡ s = cc in
     let differ : sameSite (q .number) (s .number) ≡ false =
     ne-eqb (q .number .0) (s .number .0) (λ z. eqb-false (r .number .0) (q .number .0) (numbers-differ r q rest apart) (ap (λ (x : Site). x .number .0) same ∙ sym z)) in
@@ -102,13 +104,13 @@ lone-site t client (r ∷ q ∷ rest) s apart e f =
     absurd (let z : _≡_ {A = ℕ} 0 1 = cc in omega arith)
 
 -- another site is there: the subnet decides
-pub several-sites : (t : Table) (client : List ℕ) (sites : List Site) (s r : Site)
+pub several-sites : (t : Table) (caller : Caller) (sites : List Site) (s r : Site)
     → some s ≡ first (isSite Any) sites
     → some r ≡ first (isSite (OtherThan (s .number))) sites
-    → siteOfSubnet t (subnetFor t client) ≡ siteFor t client sites
+    → siteOfSubnet t (subnetFor t caller) ≡ siteFor t caller sites
 unfolding first
-several-sites t client [] s r e f = absurd (let z : _≡_ {A = ℕ} 0 1 = cc in omega arith)
-several-sites t client (q ∷ []) s r e f =
+several-sites t caller [] s r e f = absurd (let z : _≡_ {A = ℕ} 0 1 = cc in omega arith)
+several-sites t caller (q ∷ []) s r e f =
     let nothing : some r ≡ none = f ∙ skip-own q s [] e in
     absurd (let z : _≡_ {A = ℕ} 0 1 = cc in omega arith)
-several-sites t client (q ∷ p ∷ rest) s r e f = refl
+several-sites t caller (q ∷ p ∷ rest) s r e f = refl

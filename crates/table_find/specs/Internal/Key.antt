@@ -6,7 +6,7 @@ use lib.Dec.{eqb}
 use Rattle.octets.specs.Text.{allZero, same}
 use Rattle.table.specs.Address.{addressNumber, shareSize}
 use Rattle.table.specs.Records.{Context, Site, Subnet, sameContext, sameSite, contextOf, accountOf, siteOf, subnetOf}
-use Rattle.table.specs.Whole.{sameAccountName}
+use Rattle.table.specs.SameName.{sameAccountName}
 use Rattle.table_find.specs.declared.search.ContextKey.{ContextKey}
 use Rattle.table_find.specs.declared.search.ContextKey.the-variants.{Number, Guid, DnsName, Sid}
 use Rattle.table_find.specs.declared.search.SiteKey.{SiteKey}

@@ -11,12 +11,13 @@ use borrow.Author.Tests.{le-leb, lt-leb}
 use Rattle.octets.specs.Lists.{all, any, apart, cut, holds}
 use Rattle.octets.proofs.Laws.Lists.{all-map, any-map, apart-map, all-both, apart-either}
 use Rattle.octets.specs.Number.{u16At}
-use Rattle.octets.specs.Text.{same, sameFolded, within}
+use Rattle.octets.specs.Text.{same, within}
+use Rattle.table.specs.SameName.{sameDnsName}
 use Rattle.table.specs.Layout.{body}
 use Rattle.table.specs.Records.{contextOf, accountOf, siteOf, subnetOf, serverOf, contextNumber, siteNumber, siteOrNone, sameContext, sameSite}
-use Rattle.table.specs.Table.{Table, blockAt, blocksOf, bodies, recordsOf, tableOf}
+use Rattle.table.specs.Table.{Table, blockAt, blocksOf, bodies, recordsOf, tableOf, tableFrom}
 use Rattle.table.proofs.Laws.Table.{block-there}
-use Rattle.table.specs.Whole.{sameSid, contextsApart, accountsApart, sitesApart, hasContext, hasSite, noneOr, refersRightly, goodWhole}
+use Rattle.table_whole.specs.Whole.{sameSid, contextsApart, accountsApart, sitesApart, hasContext, hasSite, noneOr, refersRightly, goodWhole}
 use Rattle.table_whole.specs.declared.alike.Likeness.the-variants.{Contexts, Accounts}
 use Rattle.table_whole.specs.declared.refer.Reference.the-variants.{AccountContext, NextSite, SubnetSite}
 use Rattle.table_whole.specs.Internal.Alike.{alikeAt, contextsAlike}
@@ -44,27 +45,27 @@ server-number image at h =
 
 -- accounts
 module _ (marks : List Bool) (image : List ℕ) (places : List ℕ) (e : recordsAt image 84 places ≡ recordsOf 4 6 84 (blocksOf image)) where
-  accounts-refer : ContextMarks marks (tableOf (blocksOf image)) → all (refersAt AccountContext marks image 84) places ≡ all (λ a. hasContext (tableOf (blocksOf image)) (a .context)) (tableOf (blocksOf image) .accounts)
+  accounts-refer : ContextMarks marks (tableFrom image) → all (refersAt AccountContext marks image 84) places ≡ all (λ a. hasContext (tableFrom image) (a .context)) (tableFrom image .accounts)
   unfolding tableOf accountOf
   accounts-refer m =
       ap (λ (p : ℕ → Bool). all p places) (fun-ext (λ q. m .say (contextNumber (u16At (cut image q 84) 0))))
-      ∙ all-at accountOf image 84 places (recordsOf 4 6 84 (blocksOf image)) e (λ a. hasContext (tableOf (blocksOf image)) (a .context))
+      ∙ all-at accountOf image 84 places (recordsOf 4 6 84 (blocksOf image)) e (λ a. hasContext (tableFrom image) (a .context))
 
-  accounts-apart : apart (alikeAt Accounts image 84) places ≡ accountsApart (tableOf (blocksOf image) .accounts)
+  accounts-apart : apart (alikeAt Accounts image 84) places ≡ accountsApart (tableFrom image .accounts)
   unfolding tableOf accountsApart
   accounts-apart = apart-at accountOf image 84 places (recordsOf 4 6 84 (blocksOf image)) e _
 
-  pub lost-account : ContextMarks marks (tableOf (blocksOf image)) → all (refersAt AccountContext marks image 84) places ≡ false → false ≡ goodAccounts (tableOf (blocksOf image))
+  pub lost-account : ContextMarks marks (tableFrom image) → all (refersAt AccountContext marks image 84) places ≡ false → false ≡ goodAccounts (tableFrom image)
   unfolding goodAccounts
-  lost-account m f = sym (ap (λ (b : Bool). b && accountsApart (tableOf (blocksOf image) .accounts)) (sym (accounts-refer m) ∙ f))
+  lost-account m f = sym (ap (λ (b : Bool). b && accountsApart (tableFrom image .accounts)) (sym (accounts-refer m) ∙ f))
 
-  pub accounts-left : ContextMarks marks (tableOf (blocksOf image)) → all (refersAt AccountContext marks image 84) places ≡ true → apart (alikeAt Accounts image 84) places ≡ goodAccounts (tableOf (blocksOf image))
+  pub accounts-left : ContextMarks marks (tableFrom image) → all (refersAt AccountContext marks image 84) places ≡ true → apart (alikeAt Accounts image 84) places ≡ goodAccounts (tableFrom image)
   unfolding goodAccounts
-  accounts-left m f = accounts-apart ∙ sym (ap (λ (b : Bool). b && accountsApart (tableOf (blocksOf image) .accounts)) (sym (accounts-refer m) ∙ f))
+  accounts-left m f = accounts-apart ∙ sym (ap (λ (b : Bool). b && accountsApart (tableFrom image .accounts)) (sym (accounts-refer m) ∙ f))
 
 -- marks of context numbers, and of site numbers
 module _ (marks : List Bool) (image : List ℕ) (places : List ℕ) (size : length marks ≡ 65536) where
-  pub context-marks : recordsAt image 504 places ≡ bodies 3 (blocksOf image) → Marked marks image 504 places → ContextMarks marks (tableOf (blocksOf image))
+  pub context-marks : recordsAt image 504 places ≡ bodies 3 (blocksOf image) → Marked marks image 504 places → ContextMarks marks (tableFrom image)
   unfolding tableOf contextOf hasContext
   context-marks e seen =
       record {
@@ -72,7 +73,7 @@ module _ (marks : List Bool) (image : List ℕ) (places : List ℕ) (size : leng
         say = λ n. seen (n .0) ∙ any-at contextOf image 504 places (bodies 3 (blocksOf image)) e (λ c. sameContext (c .number) n);
       }
 
-  pub site-marks : recordsAt image 72 places ≡ recordsOf 5 7 72 (blocksOf image) → Marked marks image 72 places → SiteMarks marks (tableOf (blocksOf image))
+  pub site-marks : recordsAt image 72 places ≡ recordsOf 5 7 72 (blocksOf image) → Marked marks image 72 places → SiteMarks marks (tableFrom image)
   unfolding tableOf siteOf hasSite
   site-marks e seen =
       record {
@@ -82,67 +83,67 @@ module _ (marks : List Bool) (image : List ℕ) (places : List ℕ) (size : leng
 
 -- contexts, test by test
 module _ (image : List ℕ) (places : List ℕ) (e : recordsAt image 504 places ≡ bodies 3 (blocksOf image)) where
-  contexts-apart : contextsApart (tableOf (blocksOf image) .contexts) ≡ (apart (sameNumber image 504) places && apart (alikeAt Contexts image 504) places)
+  contexts-apart : contextsApart (tableFrom image .contexts) ≡ (apart (sameNumber image 504) places && apart (alikeAt Contexts image 504) places)
   unfolding tableOf contextOf contextsApart
   contexts-apart =
-      let cs = tableOf (blocksOf image) .contexts in
+      let cs = tableFrom image .contexts in
       let number = apart (λ c d. sameContext (c .number) (d .number)) cs in
       let guid = apart (λ c d. same (c .guid) (d .guid)) cs in
       let sid = apart (λ c d. sameSid (c .sid) (d .sid)) cs in
-      let dns = apart (λ c d. sameFolded (c .dns) (d .dns)) cs in
+      let dns = apart (λ c d. sameDnsName (c .dns) (d .dns)) cs in
       shift number guid sid dns
       ∙ ap₂ (λ (m n : Bool). m && n)
       (sym (apart-at contextOf image 504 places (bodies 3 (blocksOf image)) e (λ c d. sameContext (c .number) (d .number))))
       (ap (λ (b : Bool). b && dns) (apart-either (λ c d. same (c .guid) (d .guid)) (λ c d. sameSid (c .sid) (d .sid)) cs)
-      ∙ apart-either (λ c d. same (c .guid) (d .guid) || sameSid (c .sid) (d .sid)) (λ c d. sameFolded (c .dns) (d .dns)) cs
+      ∙ apart-either (λ c d. same (c .guid) (d .guid) || sameSid (c .sid) (d .sid)) (λ c d. sameDnsName (c .dns) (d .dns)) cs
       ∙ sym (apart-at contextOf image 504 places (bodies 3 (blocksOf image)) e contextsAlike))
     where
       shift : (a b c d : Bool) → (((a && b) && c) && d) ≡ (a && ((b && c) && d))
       shift true b c d = refl
       shift false b c d = refl
 
-  contexts-tests : goodContexts (tableOf (blocksOf image))
-      ≡ (((apart (sameNumber image 504) places && apart (alikeAt Contexts image 504) places) && hasContext (tableOf (blocksOf image)) (tableOf (blocksOf image) .server .defaultContext)) && goodAccounts (tableOf (blocksOf image)))
+  contexts-tests : goodContexts (tableFrom image)
+      ≡ (((apart (sameNumber image 504) places && apart (alikeAt Contexts image 504) places) && hasContext (tableFrom image) (tableFrom image .server .defaultContext)) && goodAccounts (tableFrom image))
   unfolding goodContexts
-  contexts-tests = ap (λ (b : Bool). (b && hasContext (tableOf (blocksOf image)) (tableOf (blocksOf image) .server .defaultContext)) && goodAccounts (tableOf (blocksOf image))) contexts-apart
+  contexts-tests = ap (λ (b : Bool). (b && hasContext (tableFrom image) (tableFrom image .server .defaultContext)) && goodAccounts (tableFrom image)) contexts-apart
 
-  pub contexts-number : apart (sameNumber image 504) places ≡ false → false ≡ goodContexts (tableOf (blocksOf image))
+  pub contexts-number : apart (sameNumber image 504) places ≡ false → false ≡ goodContexts (tableFrom image)
   contexts-number a = rw (contexts-tests, a)
 
   module _ (a : apart (sameNumber image 504) places ≡ true) where
-    pub contexts-alike : apart (alikeAt Contexts image 504) places ≡ false → false ≡ goodContexts (tableOf (blocksOf image))
+    pub contexts-alike : apart (alikeAt Contexts image 504) places ≡ false → false ≡ goodContexts (tableFrom image)
     contexts-alike b = rw (contexts-tests, a, b)
 
     module _ (b : apart (alikeAt Contexts image 504) places ≡ true) where
-      pub contexts-default : hasContext (tableOf (blocksOf image)) (tableOf (blocksOf image) .server .defaultContext) ≡ false → false ≡ goodContexts (tableOf (blocksOf image))
+      pub contexts-default : hasContext (tableFrom image) (tableFrom image .server .defaultContext) ≡ false → false ≡ goodContexts (tableFrom image)
       contexts-default d = rw (contexts-tests, a, b, d)
 
-      pub contexts-accounts : hasContext (tableOf (blocksOf image)) (tableOf (blocksOf image) .server .defaultContext) ≡ true → goodAccounts (tableOf (blocksOf image)) ≡ goodContexts (tableOf (blocksOf image))
+      pub contexts-accounts : hasContext (tableFrom image) (tableFrom image .server .defaultContext) ≡ true → goodAccounts (tableFrom image) ≡ goodContexts (tableFrom image)
       contexts-accounts d = rw (contexts-tests, a, b, d)
 
-  contexts-count : length (tableOf (blocksOf image) .contexts) ≡ length places
+  contexts-count : length (tableFrom image .contexts) ≡ length places
   unfolding tableOf
   contexts-count = length-map (bodies 3 (blocksOf image)) contextOf ∙ ap length (sym e) ∙ length-map places (λ q. cut image q 504)
 
-  pub no-context : length places ≡ 0 → false ≡ contextHalf (tableOf (blocksOf image))
+  pub no-context : length places ≡ 0 → false ≡ contextHalf (tableFrom image)
   unfolding contextHalf
   no-context z = rw (contexts-count, z)
 
-  pub many-contexts : 16 < length places → false ≡ contextHalf (tableOf (blocksOf image))
+  pub many-contexts : 16 < length places → false ≡ contextHalf (tableFrom image)
   unfolding contextHalf
   many-contexts h = rw (contexts-count, lt-leb (length places) 16 h, le-leb 1 (length places) (omega arith))
 
-  pub some-contexts : (length places ≡ 0 → ⊥) → length places ≤ 16 → goodContexts (tableOf (blocksOf image)) ≡ contextHalf (tableOf (blocksOf image))
+  pub some-contexts : (length places ≡ 0 → ⊥) → length places ≤ 16 → goodContexts (tableFrom image) ≡ contextHalf (tableFrom image)
   unfolding contextHalf
   some-contexts n h = rw (contexts-count, le-leb (length places) 16 h, le-leb 1 (length places) (omega arith))
 
-pub default-marked : (marks : List Bool) (image : List ℕ) → ContextMarks marks (tableOf (blocksOf image))
-    → getD marks (serverNumber (blocksOf image) 14) false ≡ hasContext (tableOf (blocksOf image)) (tableOf (blocksOf image) .server .defaultContext)
+pub default-marked : (marks : List Bool) (image : List ℕ) → ContextMarks marks (tableFrom image)
+    → getD marks (serverNumber (blocksOf image) 14) false ≡ hasContext (tableFrom image) (tableFrom image .server .defaultContext)
 unfolding tableOf serverOf serverNumber
 default-marked marks image m = m .say (contextNumber (serverNumber (blocksOf image) 14))
 
-pub own-marked : (marks : List Bool) (image : List ℕ) → SiteMarks marks (tableOf (blocksOf image))
-    → getD marks (serverNumber (blocksOf image) 12) false ≡ hasSite (tableOf (blocksOf image)) (tableOf (blocksOf image) .server .site)
+pub own-marked : (marks : List Bool) (image : List ℕ) → SiteMarks marks (tableFrom image)
+    → getD marks (serverNumber (blocksOf image) 12) false ≡ hasSite (tableFrom image) (tableFrom image .server .site)
 unfolding tableOf serverOf serverNumber
 own-marked marks image m = m .say (siteNumber (serverNumber (blocksOf image) 12))
 
@@ -166,55 +167,55 @@ module _ (marks : List Bool) (t : Table) (m : SiteMarks marks t) where
       go true = refl
       go false = other (eqb own next)
 
-pub subnets-refer : (marks : List Bool) (image : List ℕ) (places : List ℕ) → recordsAt image 12 places ≡ recordsOf 6 42 12 (blocksOf image) → SiteMarks marks (tableOf (blocksOf image))
-    → all (refersAt SubnetSite marks image 12) places ≡ goodSubnets (tableOf (blocksOf image))
+pub subnets-refer : (marks : List Bool) (image : List ℕ) (places : List ℕ) → recordsAt image 12 places ≡ recordsOf 6 42 12 (blocksOf image) → SiteMarks marks (tableFrom image)
+    → all (refersAt SubnetSite marks image 12) places ≡ goodSubnets (tableFrom image)
 unfolding tableOf subnetOf goodSubnets
 subnets-refer marks image places e m =
-    ap (λ (p : ℕ → Bool). all p places) (fun-ext (λ q. none-or-marked marks (tableOf (blocksOf image)) m (u16At (cut image q 12) 6)))
-    ∙ all-at subnetOf image 12 places (recordsOf 6 42 12 (blocksOf image)) e (λ n. noneOr (hasSite (tableOf (blocksOf image))) (n .site))
+    ap (λ (p : ℕ → Bool). all p places) (fun-ext (λ q. none-or-marked marks (tableFrom image) m (u16At (cut image q 12) 6)))
+    ∙ all-at subnetOf image 12 places (recordsOf 6 42 12 (blocksOf image)) e (λ n. noneOr (hasSite (tableFrom image)) (n .site))
 
 -- sites, test by test
 module _ (image : List ℕ) (places : List ℕ) (e : recordsAt image 72 places ≡ recordsOf 5 7 72 (blocksOf image)) where
-  sites-apart : sitesApart (tableOf (blocksOf image) .sites) ≡ apart (sameNumber image 72) places
+  sites-apart : sitesApart (tableFrom image .sites) ≡ apart (sameNumber image 72) places
   unfolding tableOf siteOf sitesApart
   sites-apart = sym (apart-at siteOf image 72 places (recordsOf 5 7 72 (blocksOf image)) e (λ s t. sameSite (s .number) (t .number)))
 
-  pub next-refer : (marks : List Bool) → SiteMarks marks (tableOf (blocksOf image)) → all (refersAt NextSite marks image 72) places ≡ goodNext (tableOf (blocksOf image))
+  pub next-refer : (marks : List Bool) → SiteMarks marks (tableFrom image) → all (refersAt NextSite marks image 72) places ≡ goodNext (tableFrom image)
   unfolding tableOf siteOf goodNext
   next-refer marks m =
-      let t = tableOf (blocksOf image) in
+      let t = tableFrom image in
       ap (λ (p : ℕ → Bool). all p places) (fun-ext (λ q. next-marked marks t m (u16At (cut image q 72) 0) (u16At (cut image q 72) 66)))
       ∙ all-at siteOf image 72 places (recordsOf 5 7 72 (blocksOf image)) e (λ s. noneOr (hasSite t) (s .next) && not (holds (sameSite (s .number)) (s .next)))
       ∙ sym (all-both (λ s. noneOr (hasSite t) (s .next)) (λ s. not (holds (sameSite (s .number)) (s .next))) (t .sites))
 
-  sites-tests : goodSites (tableOf (blocksOf image))
-      ≡ (((apart (sameNumber image 72) places && hasSite (tableOf (blocksOf image)) (tableOf (blocksOf image) .server .site)) && goodNext (tableOf (blocksOf image))) && goodSubnets (tableOf (blocksOf image)))
+  sites-tests : goodSites (tableFrom image)
+      ≡ (((apart (sameNumber image 72) places && hasSite (tableFrom image) (tableFrom image .server .site)) && goodNext (tableFrom image)) && goodSubnets (tableFrom image))
   unfolding goodSites
-  sites-tests = ap (λ (b : Bool). ((b && hasSite (tableOf (blocksOf image)) (tableOf (blocksOf image) .server .site)) && goodNext (tableOf (blocksOf image))) && goodSubnets (tableOf (blocksOf image))) sites-apart
+  sites-tests = ap (λ (b : Bool). ((b && hasSite (tableFrom image) (tableFrom image .server .site)) && goodNext (tableFrom image)) && goodSubnets (tableFrom image)) sites-apart
 
-  pub sites-number : apart (sameNumber image 72) places ≡ false → false ≡ goodSites (tableOf (blocksOf image))
+  pub sites-number : apart (sameNumber image 72) places ≡ false → false ≡ goodSites (tableFrom image)
   sites-number a = rw (sites-tests, a)
 
   module _ (a : apart (sameNumber image 72) places ≡ true) where
-    pub sites-own : hasSite (tableOf (blocksOf image)) (tableOf (blocksOf image) .server .site) ≡ false → false ≡ goodSites (tableOf (blocksOf image))
+    pub sites-own : hasSite (tableFrom image) (tableFrom image .server .site) ≡ false → false ≡ goodSites (tableFrom image)
     sites-own b = rw (sites-tests, a, b)
 
-    module _ (b : hasSite (tableOf (blocksOf image)) (tableOf (blocksOf image) .server .site) ≡ true) where
-      pub sites-next : goodNext (tableOf (blocksOf image)) ≡ false → false ≡ goodSites (tableOf (blocksOf image))
+    module _ (b : hasSite (tableFrom image) (tableFrom image .server .site) ≡ true) where
+      pub sites-next : goodNext (tableFrom image) ≡ false → false ≡ goodSites (tableFrom image)
       sites-next d = rw (sites-tests, a, b, d)
 
-      pub sites-subnets : goodNext (tableOf (blocksOf image)) ≡ true → goodSubnets (tableOf (blocksOf image)) ≡ goodSites (tableOf (blocksOf image))
+      pub sites-subnets : goodNext (tableFrom image) ≡ true → goodSubnets (tableFrom image) ≡ goodSites (tableFrom image)
       sites-subnets d = rw (sites-tests, a, b, d)
 
-  sites-count : length (tableOf (blocksOf image) .sites) ≡ length places
+  sites-count : length (tableFrom image .sites) ≡ length places
   unfolding tableOf
   sites-count = length-map (recordsOf 5 7 72 (blocksOf image)) siteOf ∙ ap length (sym e) ∙ length-map places (λ q. cut image q 72)
 
-  pub no-site : length places ≡ 0 → false ≡ siteHalf (tableOf (blocksOf image))
+  pub no-site : length places ≡ 0 → false ≡ siteHalf (tableFrom image)
   unfolding siteHalf
   no-site z = rw (sites-count, z)
 
-  pub some-sites : (length places ≡ 0 → ⊥) → goodSites (tableOf (blocksOf image)) ≡ siteHalf (tableOf (blocksOf image))
+  pub some-sites : (length places ≡ 0 → ⊥) → goodSites (tableFrom image) ≡ siteHalf (tableFrom image)
   unfolding siteHalf
   some-sites n = rw (sites-count, le-leb 1 (length places) (omega arith))
 

@@ -5,7 +5,8 @@ use Prim.Native.Nat.{ℕ}
 use Rattle.octets.specs.Lists.{cut}
 use Rattle.octets.specs.Text.{same}
 use Rattle.table.specs.Records.{Context, Account, sameContext, contextOf, accountOf}
-use Rattle.table.specs.Whole.{sameSid, sameAccountName, sameDnsName}
+use Rattle.table_whole.specs.Whole.{sameSid}
+use Rattle.table.specs.SameName.{sameDnsName, sameAccountName}
 use Rattle.table_whole.specs.declared.alike.Likeness.{Likeness}
 use Rattle.table_whole.specs.declared.alike.Likeness.the-variants.{Contexts, Accounts}
 

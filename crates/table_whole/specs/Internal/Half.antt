@@ -13,7 +13,7 @@ use Rattle.table.specs.declared.SiteNumber.{SiteNumber}
 use Rattle.table.specs.Layout.{body}
 use Rattle.table.specs.Records.{sameSite}
 use Rattle.table.specs.Table.{Table}
-use Rattle.table.specs.Whole.{contextsApart, accountsApart, sitesApart, hasContext, hasSite, noneOr}
+use Rattle.table_whole.specs.Whole.{contextsApart, accountsApart, sitesApart, hasContext, hasSite, noneOr}
 
 -- marks that say of each number whether the table has such a context, or such a site
 pub record ContextMarks (marks : List Bool) (t : Table) : Type 0 where

@@ -21,7 +21,7 @@ use Rattle.filter.proofs.Laws.Gather.{place-eq, spelled, names-any}
 use Rattle.filter.specs.Request.{names, spelling, octetsOf}
 use Rattle.filter.specs.Shape.{one, siblings, andOf}
 use Rattle.filter.specs.Taken.{nameOf, isNamed, strange, twice, asClause}
-use Rattle.filter.specs.Write.{equalityFor}
+use Rattle.filter_write.specs.Write.{equalityFor}
 use Rattle.filter_write.proofs.Laws.Size.{equality-length, head-bounds}
 use Rattle.filter_write.proofs.Laws.RoundTrip.Elements.{Again, equality-back, behind}
 

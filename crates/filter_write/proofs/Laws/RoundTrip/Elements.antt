@@ -17,8 +17,8 @@ use Rattle.filter.specs.Request.{spelling}
 use Rattle.filter.specs.Shape.{Element, elementAt, equality, lengthWidth}
 use Rattle.filter.specs.Internal.Step.{sizeAt}
 use Rattle.filter.proofs.Laws.Step.{width-one, width-two, size-of, value-at, element-sized, ends-within}
-use Rattle.filter.specs.Write.{lengthOctets, element, equalityFor}
-use Rattle.filter.proofs.Laws.Write.{octets-one, octets-two, octets-three}
+use Rattle.filter_write.specs.Write.{lengthOctets, element, equalityFor}
+use Rattle.filter_write.proofs.Laws.Write.{octets-one, octets-two, octets-three}
 use Rattle.filter_write.specs.Internal.Size.{headSize, elementSize}
 use Rattle.filter_write.proofs.Laws.Size.{by-size, head-two, head-three, head-four, head-length, head-bounds, element-length}
 

@@ -3,8 +3,7 @@ use Prim.Native.Nat.{ℕ}
 use mathlib.Core.List.{List}
 use mathlib.Core.Bool.{true, false}
 use mathlib.Core.Path.{_≡_, sym, ap, _∙_}
-use Rattle.octets.specs.Text.{sameFolded}
-use Rattle.table.specs.Whole.{sameAccountName}
+use Rattle.table.specs.SameName.{sameAccountName}
 use Rattle.table.specs.Records.{accountOf, sameContext}
 use Rattle.table.specs.declared.ContextNumber.{ContextNumber}
 use borrow.Author.Needs.{needs}
@@ -23,15 +22,14 @@ returns c =
 account-name-requires : tie.Need-account-name-requires
 account-name-requires c κs = search needs
 
-same-folded-requires : tie.Need-same-folded-requires
-same-folded-requires c κs = search needs
+same-account-name-requires : tie.Need-same-account-name-requires
+same-account-name-requires c κs = search needs
 
 returns-2 : tie.Need-returns-2
-unfolding sameAccountName
 returns-2 c =
     let a = c .before .before .before .before .before .before .before .before .args in
     let e : sameContext (accountOf (a .octets .now) .context) (a .context) ≡ true = ap (λ (n : ContextNumber). sameContext n (a .context)) (sym (c .before .before .before .before .before .account-context .ensures)) ∙ eq-eqb _ _ (c .before .before .if1 .left) in
-    rw e (c .same-folded .ensures ∙ ap (λ (s : List ℕ). sameFolded s (a .name .now)) (c .before .account-name .ensures))
+    rw e (c .same-account-name .ensures ∙ ap (λ (s : List ℕ). sameAccountName s (a .name .now)) (c .before .account-name .ensures))
 
 pub is-account-spec : {M : Type 1} → statement M
 is-account-spec =
@@ -40,5 +38,5 @@ is-account-spec =
     account-context-requires
     returns
     account-name-requires
-    same-folded-requires
+    same-account-name-requires
     returns-2)

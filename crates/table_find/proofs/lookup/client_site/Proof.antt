@@ -6,7 +6,7 @@ use lib.ListN.{length}
 use Rattle.octets.proofs.Laws.Lists.{cut-length}
 use Rattle.octets.specs.Lists.{first, cut}
 use Rattle.table.specs.Records.{siteOf}
-use Rattle.table.specs.Table.{blocksOf, tableOf}
+use Rattle.table.specs.Table.{blocksOf, tableOf, tableFrom}
 use Rattle.table.specs.declared.SiteNumber.{SiteNumber}
 use Rattle.table_find.specs.Internal.Key.{isSite}
 use Rattle.table_find.specs.Internal.Found.{LiesIn, siteAt}
@@ -19,28 +19,28 @@ use Rattle.table_find.proofs.lookup.client_site.Tie as tie
 
 -- the first site, where it stands
 first-there : (c : tie.After-at)
-    → some (siteOf (cut (c .before .before .before .before .before .before .args .image .now) (c .at .given .0 .0) 72))
-    ≡ first (isSite Any) (tableOf (blocksOf (c .before .before .before .before .before .before .args .image .now)) .sites)
+    → some (siteOf (cut (c .before .before .before .before .before .args .image .now) (c .at .given .0 .0) 72))
+    ≡ first (isSite Any) (tableFrom (c .before .before .before .before .before .args .image .now) .sites)
 first-there c =
-    ap (siteAt (c .before .before .before .before .before .before .args .image .now)) (sym (c .at .given .1))
+    ap (siteAt (c .before .before .before .before .before .args .image .now)) (sym (c .at .given .1))
     ∙ ap (Option·map siteOf) (c .before .before .first-record .ensures .0)
     ∙ site-search _ _ Any
 
-lies-there : (c : tie.After-at) → c .at .given .0 .0 + 72 ≤ length (c .before .before .before .before .before .before .args .image .now)
-lies-there c = subst (LiesIn (c .before .before .before .before .before .before .args .image .now) 72) (c .at .given .1) (c .before .before .first-record .ensures .1)
+lies-there : (c : tie.After-at) → c .at .given .0 .0 + 72 ≤ length (c .before .before .before .before .before .args .image .now)
+lies-there c = subst (LiesIn (c .before .before .before .before .before .args .image .now) 72) (c .at .given .1) (c .before .before .first-record .ensures .1)
 
 -- the first site of another number
 another : (c : tie.After-first-record2)
-    → siteAt (c .before .before .before .before .before .before .before .before .before .before .before .args .image .now) (c .first-record2 .result)
+    → siteAt (c .before .before .before .before .before .before .before .before .before .before .args .image .now) (c .first-record2 .result)
     ≡ first
-    (isSite (OtherThan (siteOf (cut (c .before .before .before .before .before .before .before .before .before .before .before .args .image .now) (c .before .before .before .before .before .at .given .0 .0) 72) .number)))
-    (tableOf (blocksOf (c .before .before .before .before .before .before .before .before .before .before .before .args .image .now)) .sites)
+    (isSite (OtherThan (siteOf (cut (c .before .before .before .before .before .before .before .before .before .before .args .image .now) (c .before .before .before .before .before .at .given .0 .0) 72) .number)))
+    (tableFrom (c .before .before .before .before .before .before .before .before .before .before .args .image .now) .sites)
 another c =
-    let s = c .before .before .before .before .before .before .before .before .before .before .before .args .image .now in
+    let s = c .before .before .before .before .before .before .before .before .before .before .args .image .now in
     let number = c .before .before .site-number .ensures ∙ ap (λ (r : List ℕ). siteOf r .number) (c .before .before .before .part .ensures) in
     ap (Option·map siteOf) (c .first-record2 .ensures .0)
     ∙ site-search _ _ (OtherThan (c .before .before .site-number .result))
-    ∙ ap (λ (n : SiteNumber). first (isSite (OtherThan n)) (tableOf (blocksOf s) .sites)) number
+    ∙ ap (λ (n : SiteNumber). first (isSite (OtherThan n)) (tableFrom s .sites)) number
 
 slice-aggregate-first-record : tie.Need-slice-aggregate-first-record
 slice-aggregate-first-record c = search needs
@@ -57,10 +57,10 @@ enum-told c = search needs
 returns : tie.Need-returns
 unfolding clientSite
 returns c =
-    let a = c .before .before .before .before .before .before .args in
-    let t = tableOf (blocksOf (a .image .now)) in
+    let a = c .before .before .before .before .before .args in
+    let t = tableFrom (a .image .now) in
     let found = ap (siteAt (a .image .now)) (sym (c .enum-told .given .1)) ∙ ap (Option·map siteOf) (c .before .before .first-record .ensures .0) ∙ site-search _ _ Any in
-    (no-site t (a .client .now) (t .sites) found, tt)
+    (no-site t (a .caller) (t .sites) found, tt)
 
 part-requires : tie.Need-part-requires
 part-requires c κs = search needs
@@ -86,19 +86,19 @@ enum-told-3 c = search needs
 returns-2 : tie.Need-returns-2
 unfolding clientSite
 returns-2 c =
-    let a = c .before .before .before .before .before .before .before .before .before .before .before .before .before .before .args in
-    let t = tableOf (blocksOf (a .image .now)) in
+    let a = c .before .before .before .before .before .before .before .before .before .before .before .before .before .args in
+    let t = tableFrom (a .image .now) in
     let other = ap (siteAt (a .image .now)) (sym (c .before .enum-told2 .given .1)) ∙ another (c .before .before .before) in
-    (c .site-by-subnet .ensures .0 ∙ several-sites t (a .client .now) (t .sites) _ _ (first-there (c .before .before .before .before .before .before .before .before)) other, c .site-by-subnet .ensures .1)
+    (c .site-by-subnet .ensures .0 ∙ several-sites t (a .caller) (t .sites) _ _ (first-there (c .before .before .before .before .before .before .before .before)) other, c .site-by-subnet .ensures .1)
 
 returns-3 : tie.Need-returns-3
 unfolding clientSite
 returns-3 c =
-    let a = c .before .before .before .before .before .before .before .before .before .before .before .before .before .args in
-    let t = tableOf (blocksOf (a .image .now)) in
+    let a = c .before .before .before .before .before .before .before .before .before .before .before .before .args in
+    let t = tableFrom (a .image .now) in
     let p = c .before .before .before .before .before .before .before in
     let none-other = ap (siteAt (a .image .now)) (sym (c .enum-told3 .given .1)) ∙ another (c .before .before) in
-    (lone-site t (a .client .now) (t .sites) _ (p .before .before .before .before .before .before .pre .1) (first-there p) none-other, lies-there p)
+    (lone-site t (a .caller) (t .sites) _ (p .before .before .before .before .before .pre .1) (first-there p) none-other, lies-there p)
 
 pub client-site-spec : {M : Type 1} → statement M
 client-site-spec =

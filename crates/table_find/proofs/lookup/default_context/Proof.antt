@@ -1,6 +1,6 @@
 use mathlib.Core.Path.{ap, _∙_}
 use Rattle.table.specs.Records.{Server}
-use Rattle.table.specs.Table.{blocksOf, tableOf}
+use Rattle.table.specs.Table.{tableFrom}
 use Rattle.table_find.specs.Find.{contextByNumber, defaultContext}
 use borrow.Author.Needs.{needs}
 use Rattle.table_find.proofs.lookup.default_context.Statement.{statement}
@@ -18,7 +18,7 @@ context-by-number-requires c κs = search needs
 returns : tie.Need-returns
 unfolding defaultContext
 returns c =
-    let t = tableOf (blocksOf (c .before .before .before .before .args .image .now)) in
+    let t = tableFrom (c .before .before .before .before .args .image .now) in
     let number = c .before .default-context-number .ensures ∙ ap (λ (s : Server). s .defaultContext) (c .before .before .server-of .ensures .0) in
     (c .context-by-number .ensures .0 ∙ ap (contextByNumber t) number, c .context-by-number .ensures .1)
 

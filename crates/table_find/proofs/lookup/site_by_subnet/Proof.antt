@@ -4,7 +4,7 @@ use mathlib.Core.Path.{sym, ap, subst, _∙_}
 use lib.ListN.{length}
 use Rattle.octets.proofs.Laws.Lists.{cut-length}
 use Rattle.table.specs.Records.{subnetOf}
-use Rattle.table.specs.Table.{blocksOf, tableOf}
+use Rattle.table.specs.Table.{tableFrom}
 use Rattle.table_find.specs.Internal.Found.{LiesIn, subnetAt}
 use Rattle.table_find.specs.Find.{siteIfAny, siteOfSubnet}
 use borrow.Author.Needs.{needs}
@@ -22,7 +22,7 @@ part-requires c κs = search needs
 
 subnet-site-requires : tie.Need-subnet-site-requires
 subnet-site-requires c κs =
-    let s = c .before .before .before .before .before .before .before .args .image .now in
+    let s = c .before .before .before .before .before .before .args .image .now in
     ap length (c .part .ensures) ∙ cut-length s (c .before .before .at .given .0 .0) 12 (subst (LiesIn s 12) (c .before .before .at .given .1) (c .before .before .before .before .subnet-for .ensures .1))
 
 site-if-any-requires : tie.Need-site-if-any-requires
@@ -33,17 +33,17 @@ enum-told c = search needs
 
 returns : tie.Need-returns
 returns c =
-    let s = c .before .before .before .before .before .before .before .before .before .args .image .now in
-    let t = tableOf (blocksOf s) in
+    let s = c .before .before .before .before .before .before .before .before .args .image .now in
+    let t = tableFrom s in
     let site = c .before .subnet-site .ensures ∙ ap (λ (r : List ℕ). subnetOf r .site) (c .before .before .part .ensures) in
     let subnet = ap (subnetAt s) (sym (c .before .before .before .before .at .given .1)) ∙ c .before .before .before .before .before .before .subnet-for .ensures .0 in
     (c .site-if-any .ensures .0 ∙ ap (siteIfAny t) site ∙ ap (siteOfSubnet t) subnet, c .site-if-any .ensures .1)
 
 returns-2 : tie.Need-returns-2
 returns-2 c =
-    let s = c .before .before .before .before .before .args .image .now in
+    let s = c .before .before .before .before .args .image .now in
     let subnet = ap (subnetAt s) (sym (c .enum-told .given .1)) ∙ c .before .before .subnet-for .ensures .0 in
-    (ap (siteOfSubnet (tableOf (blocksOf s))) subnet, tt)
+    (ap (siteOfSubnet (tableFrom s)) subnet, tt)
 
 pub site-by-subnet-spec : {M : Type 1} → statement M
 site-by-subnet-spec =

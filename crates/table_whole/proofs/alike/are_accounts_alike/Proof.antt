@@ -1,6 +1,6 @@
 use Rattle.table_whole.proofs.Laws.Alike.{other-context, one-context}
 use Rattle.table.specs.Records.{accountOf}
-use Rattle.octets.specs.Text.{sameFolded}
+use Rattle.table.specs.SameName.{sameAccountName}
 use mathlib.Core.Path.{sym, ap₂, _∙_}
 use borrow.Author.Needs.{needs}
 use Rattle.table_whole.proofs.alike.are_accounts_alike.Statement.{statement}
@@ -24,15 +24,15 @@ text-in-requires c κs = search needs
 text-in-requires-2 : tie.Need-text-in-requires-2
 text-in-requires-2 c κs = search needs
 
-alike-requires : tie.Need-alike-requires
-alike-requires c κs = search needs
+same-account-name-requires : tie.Need-same-account-name-requires
+same-account-name-requires c κs = search needs
 
 returns-2 : tie.Need-returns-2
 unfolding accountOf
 returns-2 c =
     let a = c .before .before .before .before .before .before .before .before .args in
     let e = sym (c .before .before .before .before .before .number-in .ensures) ∙ c .before .before .before .if1 .left ∙ c .before .before .before .before .number-in2 .ensures in
-    c .alike .ensures ∙ ap₂ sameFolded (c .before .before .text-in .ensures) (c .before .text-in2 .ensures) ∙ one-context (accountOf (a .a .now)) (accountOf (a .b .now)) e
+    c .same-account-name .ensures ∙ ap₂ sameAccountName (c .before .before .text-in .ensures) (c .before .text-in2 .ensures) ∙ one-context (accountOf (a .a .now)) (accountOf (a .b .now)) e
 
 pub are-accounts-alike-spec : {M : Type 1} → statement M
 are-accounts-alike-spec =
@@ -43,5 +43,5 @@ are-accounts-alike-spec =
     returns
     text-in-requires
     text-in-requires-2
-    alike-requires
+    same-account-name-requires
     returns-2)

@@ -1,6 +1,7 @@
 use Rattle.table_whole.proofs.Laws.Alike.{alike-guid, alike-sid, alike-dns}
 use Rattle.table.specs.Records.{contextOf}
-use Rattle.octets.specs.Text.{same, sameFolded}
+use Rattle.octets.specs.Text.{same}
+use Rattle.table.specs.SameName.{sameDnsName}
 use mathlib.Core.Path.{sym, ap₂, _∙_}
 use borrow.Author.Needs.{needs}
 use Rattle.table_whole.proofs.alike.are_contexts_alike.Statement.{statement}
@@ -38,15 +39,15 @@ text-in-requires c κs = search needs
 text-in-requires-2 : tie.Need-text-in-requires-2
 text-in-requires-2 c κs = search needs
 
-alike-requires : tie.Need-alike-requires
-alike-requires c κs = search needs
+same-dns-name-requires : tie.Need-same-dns-name-requires
+same-dns-name-requires c κs = search needs
 
 returns-3 : tie.Need-returns-3
 unfolding contextOf
 returns-3 c =
     let a = c .before .before .before .before .before .before .before .before .before .before .before .args in
     let e = sym (c .before .before .before .before .before .before .same-octets .ensures ∙ ap₂ same (c .before .before .before .before .before .before .before .before .part .ensures) (c .before .before .before .before .before .before .before .part2 .ensures)) ∙ c .before .before .before .before .before .if1 .left in
-    c .alike .ensures ∙ ap₂ sameFolded (c .before .before .text-in .ensures) (c .before .text-in2 .ensures) ∙ alike-dns (contextOf (a .a .now)) (contextOf (a .b .now)) e (sym (c .before .before .before .before .same-sid .ensures) ∙ c .before .before .before .if2 .left)
+    c .same-dns-name .ensures ∙ ap₂ sameDnsName (c .before .before .text-in .ensures) (c .before .text-in2 .ensures) ∙ alike-dns (contextOf (a .a .now)) (contextOf (a .b .now)) e (sym (c .before .before .before .before .same-sid .ensures) ∙ c .before .before .before .if2 .left)
 
 pub are-contexts-alike-spec : {M : Type 1} → statement M
 are-contexts-alike-spec =
@@ -60,5 +61,5 @@ are-contexts-alike-spec =
     returns-2
     text-in-requires
     text-in-requires-2
-    alike-requires
+    same-dns-name-requires
     returns-3)

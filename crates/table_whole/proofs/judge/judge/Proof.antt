@@ -1,4 +1,4 @@
-use Rattle.table.proofs.Laws.Judgement.{length-bounds, refused-length, refused-check, refused-layout, refused-whole, passed}
+use Rattle.table_whole.proofs.Laws.Judgement.{length-bounds, refused-length, refused-check, refused-layout, refused-whole, passed}
 use borrow.Author.Tests.{not-true, not-false}
 use mathlib.Core.Path.{sym, _∙_}
 use native.Mathlib.Omega.{arith}

@@ -1,7 +1,7 @@
 use Rattle.table_whole.specs.Internal.Mark.{sameNumber}
 use Rattle.table_whole.specs.Internal.Half.{ContextMarks}
-use Rattle.table.specs.Whole.{hasContext}
-use Rattle.table.specs.Table.{blocksOf, tableOf}
+use Rattle.table_whole.specs.Whole.{hasContext}
+use Rattle.table.specs.Table.{tableFrom}
 use Rattle.octets.specs.Lists.{apart}
 use mathlib.Core.Bool.{true}
 use mathlib.Core.Path.{_≡_}
@@ -23,7 +23,7 @@ mark-numbers-requires : tie.Need-mark-numbers-requires
 mark-numbers-requires c κs = (length-replicate 65536 false, marked-none (c .before .before .before .args .image .now) 504)
 
 -- the marks, once no number came twice
-marked : (c : tie.Else1) → ContextMarks (c .before .before .mark-numbers .last .1 .1 .1 .0) (tableOf (blocksOf (c .before .before .before .before .before .before .args .image .now)))
+marked : (c : tie.Else1) → ContextMarks (c .before .before .mark-numbers .last .1 .1 .1 .0) (tableFrom (c .before .before .before .before .before .before .args .image .now))
 marked c =
     let s = c .before .before .before .before .before .before in
     let m = c .before .before .mark-numbers in
@@ -33,7 +33,7 @@ unique : (c : tie.Else1) → apart (sameNumber (c .before .before .before .befor
 unique c = sym (c .before .before .mark-numbers .ensures .0) ∙ not-false _ (c .if1 .left)
 
 -- the server's own number, looked up
-default : (c : tie.After-has-context) → let t = tableOf (blocksOf (c .before .before .before .before .before .before .before .before .before .before .before .args .image .now)) in hasContext t (t .server .defaultContext) ≡ c .has-context .result
+default : (c : tie.After-has-context) → let t = tableFrom (c .before .before .before .before .before .before .before .before .before .before .before .args .image .now) in hasContext t (t .server .defaultContext) ≡ c .has-context .result
 default c =
     let m = c .before .before .before .before .before .before .before .mark-numbers .last .1 .1 .1 .0 in
     sym (c .has-context .ensures ∙ ap (λ (k : ℕ). getD m k false) (c .before .server-number .ensures) ∙ default-marked m (c .before .before .before .before .before .before .before .before .before .before .before .args .image .now) (marked (c .before .before .before .before .before)))

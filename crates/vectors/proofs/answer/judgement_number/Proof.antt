@@ -1,4 +1,4 @@
-use Rattle.table.specs.Judgement.{numberOf}
+use Rattle.table_whole.specs.Judgement.{numberOf}
 use mathlib.Core.Path.{_∙_, ap, sym}
 use borrow.Author.Needs.{needs}
 use Rattle.vectors.proofs.answer.judgement_number.Statement.{statement}

@@ -1,4 +1,4 @@
-use Rattle.filter.specs.Write.{numberOf}
+use Rattle.filter_write.specs.Write.{numberOf}
 use mathlib.Core.Path.{_∙_, ap, sym}
 use borrow.Author.Needs.{needs}
 use Rattle.vectors.proofs.write.written_number.Statement.{statement}

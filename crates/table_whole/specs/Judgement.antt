@@ -9,12 +9,12 @@ use Rattle.answers.specs.Refusal.{number}
 use Rattle.answers.specs.Try.{Try, refused, good, refusedIf}
 use Rattle.octets.specs.Lists.{all}
 use Rattle.octets.specs.Text.{within}
-use Rattle.table.specs.declared.Judgement.{Judgement}
-use Rattle.table.specs.declared.Judgement.the-variants.{Passed, Refused}
+use Rattle.table_whole.specs.declared.judge.Judgement.{Judgement}
+use Rattle.table_whole.specs.declared.judge.Judgement.the-variants.{Passed, Refused}
 use Rattle.table.specs.Check.{goodCheck}
 use Rattle.table.specs.Layout.{layoutsFrom}
 use Rattle.table.specs.Table.{Table, blocksOf, tableOf}
-use Rattle.table.specs.Whole.{goodWhole}
+use Rattle.table_whole.specs.Whole.{goodWhole}
 
 -- a multiple of 512 from 1,024 to 65,536
 unfoldable pub goodLength : List ℕ → Bool

@@ -6,19 +6,12 @@ use Prim.Native.Nat.{ℕ}
 use lib.Dec.{leb}
 use lib.ListN.{length}
 use Rattle.octets.specs.Lists.{all, any, apart, holds}
-use Rattle.octets.specs.Text.{same, sameFolded, within}
+use Rattle.octets.specs.Text.{same, within}
 use Rattle.table.specs.declared.ContextNumber.{ContextNumber}
 use Rattle.table.specs.declared.SiteNumber.{SiteNumber}
 use Rattle.table.specs.Records.{Context, Account, Site, sameContext, sameSite}
+use Rattle.table.specs.SameName.{sameDnsName, sameAccountName}
 use Rattle.table.specs.Table.{Table}
-
--- the same DNS name: ASCII case ignored
-abbrev pub sameDnsName : List ℕ → List ℕ → Bool
-sameDnsName = sameFolded
-
--- the same account name: ASCII case ignored
-unfoldable pub sameAccountName : List ℕ → List ℕ → Bool
-sameAccountName = sameFolded
 
 -- a context without SID has the SID of no other
 abbrev pub sameSid : Option (List ℕ) → Option (List ℕ) → Bool

@@ -5,7 +5,7 @@ use Prim.Native.Nat.{ℕ, _/_, _%_, _≤_, _<_}
 use native.Mathlib.Omega.{arith}
 use borrow.Author.Tests.{lt-ltb, le-ltb}
 use Rattle.octets.specs.Number.{littleOctets, bigOctets}
-use Rattle.filter.specs.Write.{lengthOctets}
+use Rattle.filter_write.specs.Write.{lengthOctets}
 
 -- the shortest length: one octet, or 81h and one, or 82h and two
 pub octets-one : (n : ℕ) → n < 0x80 → lengthOctets n ≡ n ∷ []

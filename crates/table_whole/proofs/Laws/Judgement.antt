@@ -18,14 +18,14 @@ use Rattle.octets.specs.Text.{allZero, within}
 use Rattle.octets.proofs.Laws.Text.{within-low}
 use Rattle.octets.specs.Number.{u16At, u32At}
 use Rattle.octets.proofs.Laws.Utf16.{Spoken}
 use Rattle.table.specs.Check.{goodCheck}
 use Rattle.table.specs.Field.{zeros, textAt, textField}
-use Rattle.table.specs.Judgement.{goodLength, tableIn, judgedAs}
+use Rattle.table_whole.specs.Judgement.{goodLength, tableIn, judgedAs}
 use Rattle.table.specs.Layout.{given, serverLayout, forestLayout, sidRoom, isEmpty, contextNetbios, contextLayout, recordLayout, siteLayout, bodyLayout, body, blockLayout, blockPlace, layoutsFrom}
 use Rattle.table.specs.Records.{Server, Context, Site, serverOf, contextOf, siteOf}
-use Rattle.table.specs.Table.{Table, blocksOf, bodies, recordsOf, tableOf}
-use Rattle.table.specs.Whole.{goodWhole}
-use Rattle.table.specs.declared.Judgement.the-variants.{Passed, Refused}
+use Rattle.table.specs.Table.{Table, blocksOf, bodies, recordsOf, tableOf, tableFrom}
+use Rattle.table_whole.specs.Whole.{goodWhole}
+use Rattle.table_whole.specs.declared.judge.Judgement.the-variants.{Passed, Refused}
 
 pub record GoodServer (s : Server) : Type 0 where
   pub address : length (s .address) ≡ 4
@@ -291,10 +291,10 @@ module _ (image : List ℕ) where
       refused-layout e = rw (l, c, e)
 
       module _ (y : layoutsFrom 0 (blocksOf image) ≡ true) where
-        pub refused-whole : goodWhole (tableOf (blocksOf image)) ≡ false → Refused TableWhole ≡ judgedAs (tableIn image)
+        pub refused-whole : goodWhole (tableFrom image) ≡ false → Refused TableWhole ≡ judgedAs (tableIn image)
         unfolding tableIn
         refused-whole e = rw (l, c, y, e)
 
-        pub passed : goodWhole (tableOf (blocksOf image)) ≡ true → Passed ≡ judgedAs (tableIn image)
+        pub passed : goodWhole (tableFrom image) ≡ true → Passed ≡ judgedAs (tableIn image)
         unfolding tableIn
         passed e = rw (l, c, y, e)

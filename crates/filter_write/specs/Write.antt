@@ -10,11 +10,11 @@ use Rattle.answers.specs.Refusal.{number}
 use Rattle.answers.specs.Try.{Try, refused, good, refusedIf}
 use Rattle.octets.specs.Lists.{any}
 use Rattle.octets.specs.Number.{bigOctets}
 use Rattle.filter.specs.declared.Name.{Name}
 use Rattle.filter.specs.declared.Request.{Request}
-use Rattle.filter.specs.declared.Written.{Written}
-use Rattle.filter.specs.declared.Written.the-variants as written
+use Rattle.filter_write.specs.declared.Written.{Written}
+use Rattle.filter_write.specs.declared.Written.the-variants as written
 use Rattle.filter.specs.Request.{names, spelling, clause, isPresent, octetsOf}
 
 -- the shortest length
 unfoldable pub lengthOctets : ℕ → List ℕ
