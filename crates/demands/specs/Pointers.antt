@@ -11,7 +11,7 @@ use Rattle.answers.specs.declared.Form.{Form}
 use Rattle.answers.specs.Try.{good}
 use Rattle.locator.specs.Answer.{Outcome, answerTo}
 use Rattle.names.specs.Name.{Tail, namesAt}
-use Rattle.octets.specs.Lists.{all, apart, first}
+use Rattle.octets.specs.Lists.{all, unique, first}
 use Rattle.octets.specs.Text.{same}
 use Rattle.reply.specs.Reply.{Reply}
 use Rattle.demands.specs.Demand3.{headOf, namesOf}
@@ -24,7 +24,7 @@ tailsBefore form r k = namesAt [] (length (headOf form r)) (take k (namesOf form
 
 pub record Fit (tails : List Tail) : Type 0 where
   pub low : all (λ t. ltb (t .offset) 0x4000) tails ≡ true
-  pub once : apart (λ t u. same (t .text) (u .text)) tails ≡ true
+  pub once : unique (λ t u. same (t .text) (u .text)) tails ≡ true
   pub lowest : (text : List ℕ) (t : Tail)
       → first (λ u. same (u .text) text) tails ≡ some t → all (λ u. not (same (u .text) text) || leb (t .offset) (u .offset)) tails ≡ true
 

@@ -25,7 +25,7 @@ pub enum Clause {
 }
 
 // The clause names, in document 01's order.
-pub enum Name {
+pub enum ClauseName {
     DnsDomain,
     Host,
     DnsHostName,
@@ -111,7 +111,7 @@ pub enum Step {
 // What octets say as a clause's name.
 pub enum Named {
     Other,
-    Is(Name),
+    Is(ClauseName),
 }
 
 // The clauses read so far: the first of each name, whether one was of another name, and whether one was there before.
@@ -266,28 +266,28 @@ fn name_of(s: &[u8]) -> Named
     ensures { λ r. ⌜ r ≡ namedAs (nameIn (now (s .entry))) ⌝ }
 {
     if text::same_folded(s, b"DnsDomain") {
-        return Named::Is(Name::DnsDomain);
+        return Named::Is(ClauseName::DnsDomain);
     }
     if text::same_folded(s, b"Host") {
-        return Named::Is(Name::Host);
+        return Named::Is(ClauseName::Host);
     }
     if text::same_folded(s, b"DnsHostName") {
-        return Named::Is(Name::DnsHostName);
+        return Named::Is(ClauseName::DnsHostName);
     }
     if text::same_folded(s, b"User") {
-        return Named::Is(Name::User);
+        return Named::Is(ClauseName::User);
     }
     if text::same_folded(s, b"AAC") {
-        return Named::Is(Name::Aac);
+        return Named::Is(ClauseName::Aac);
     }
     if text::same_folded(s, b"DomainSid") {
-        return Named::Is(Name::DomainSid);
+        return Named::Is(ClauseName::DomainSid);
     }
     if text::same_folded(s, b"DomainGuid") {
-        return Named::Is(Name::DomainGuid);
+        return Named::Is(ClauseName::DomainGuid);
     }
     if text::same_folded(s, b"NtVer") {
-        return Named::Is(Name::NtVer);
+        return Named::Is(ClauseName::NtVer);
     }
     Named::Other
 }
@@ -305,23 +305,23 @@ impl Clause {
 
 impl Request {
     // The clause of one name.
-    pub fn clause(self, name: Name) -> Clause
+    pub fn clause(self, name: ClauseName) -> Clause
         ensures { λ r. ⌜ r ≡ clause self name ⌝ }
     {
         match name {
-            Name::DnsDomain => self.dns_domain,
-            Name::Host => self.host,
-            Name::DnsHostName => self.dns_host_name,
-            Name::User => self.user,
-            Name::Aac => self.aac,
-            Name::DomainSid => self.domain_sid,
-            Name::DomainGuid => self.domain_guid,
-            Name::NtVer => self.nt_ver,
+            ClauseName::DnsDomain => self.dns_domain,
+            ClauseName::Host => self.host,
+            ClauseName::DnsHostName => self.dns_host_name,
+            ClauseName::User => self.user,
+            ClauseName::Aac => self.aac,
+            ClauseName::DomainSid => self.domain_sid,
+            ClauseName::DomainGuid => self.domain_guid,
+            ClauseName::NtVer => self.nt_ver,
         }
     }
 
     // The request with its clause of one name set.
-    fn with(self, name: Name, clause: Clause) -> Request
+    fn with(self, name: ClauseName, clause: Clause) -> Request
         ensures { λ r. ⌜ r ≡ stored self name clause ⌝ }
     {
         let mut dns_domain = self.dns_domain;
@@ -333,14 +333,14 @@ impl Request {
         let mut domain_guid = self.domain_guid;
         let mut nt_ver = self.nt_ver;
         match name {
-            Name::DnsDomain => dns_domain = clause,
-            Name::Host => host = clause,
-            Name::DnsHostName => dns_host_name = clause,
-            Name::User => user = clause,
-            Name::Aac => aac = clause,
-            Name::DomainSid => domain_sid = clause,
-            Name::DomainGuid => domain_guid = clause,
-            Name::NtVer => nt_ver = clause,
+            ClauseName::DnsDomain => dns_domain = clause,
+            ClauseName::Host => host = clause,
+            ClauseName::DnsHostName => dns_host_name = clause,
+            ClauseName::User => user = clause,
+            ClauseName::Aac => aac = clause,
+            ClauseName::DomainSid => domain_sid = clause,
+            ClauseName::DomainGuid => domain_guid = clause,
+            ClauseName::NtVer => nt_ver = clause,
         }
         Request {
             dns_domain,
@@ -465,10 +465,10 @@ pub fn take_apart(s: &[u8]) -> Taken
         return Taken::Refused(Refusal::FilterShape);
     };
     if gathered.strange {
-        return Taken::Refused(Refusal::ClauseName);
+        return Taken::Refused(Refusal::UnknownClause);
     }
     if gathered.twice {
-        return Taken::Refused(Refusal::ClauseTwice);
+        return Taken::Refused(Refusal::DuplicateClause);
     }
     let request = gathered.request;
     Taken::Request(request)

@@ -5,7 +5,7 @@ use Prim.Native.Nat.{ℕ}
 use lib.ListN.{length, take}
 use Rattle.answers.specs.Try.{good}
 use Rattle.octets.specs.Buffer.{over}
-use Rattle.filter.specs.declared.Name.{Name}
+use Rattle.filter.specs.declared.ClauseName.{ClauseName}
 use Rattle.filter.specs.declared.Request.{Request}
 use Rattle.filter.specs.declared.Taken.{Taken}
 use Rattle.filter.specs.declared.Taken.the-variants as taken
@@ -17,7 +17,7 @@ use Rattle.filter_write.specs.Write.{filterFor, writtenAs, writtenOctets
 
 -- the same clauses: for each name both are absent, or both are present with the same octets
 abbrev pub SameClauses : List ℕ → Request → List ℕ → Request → Type 0
-SameClauses s q source r = (name : Name) → octetsOf s (clause q name) ≡ octetsOf source (clause r name)
+SameClauses s q source r = (name : ClauseName) → octetsOf s (clause q name) ≡ octetsOf source (clause r name)
 
 -- of the definitions: for all clauses and rooms where the writer refuses nothing, its octets are taken apart to the same clauses
 abbrev pub RoundTrip : Type 0

@@ -10,7 +10,7 @@ use Rattle.answers.specs.Refusal.{number}
 use Rattle.answers.specs.Try.{Try, refused, good, refusedIf}
 use Rattle.octets.specs.Lists.{any}
 use Rattle.octets.specs.Number.{bigOctets}
-use Rattle.filter.specs.declared.Name.{Name}
+use Rattle.filter.specs.declared.ClauseName.{ClauseName}
 use Rattle.filter.specs.declared.Request.{Request}
 use Rattle.filter_write.specs.declared.Written.{Written}
 use Rattle.filter_write.specs.declared.Written.the-variants as written
@@ -24,7 +24,7 @@ unfoldable pub element : ℕ → List ℕ → List ℕ
 element tag contents = (tag ∷ lengthOctets (length contents)) ++ contents
 
 -- the equality of a clause that is present
-abbrev pub equalityFor : Name → Option (List ℕ) → List ℕ
+abbrev pub equalityFor : ClauseName → Option (List ℕ) → List ℕ
 equalityFor name none = []
 equalityFor name (some value) = element 0xA3 (element 0x04 (spelling name) ++ element 0x04 value)
 

@@ -1,7 +1,7 @@
 // Writes a filter of a request's clauses: document 01, "The filter".
 use answers::Refusal;
 use filter::Clause;
-use filter::Name;
+use filter::ClauseName;
 use filter::Request;
 use octets::part;
 ghost use mathlib.Core.Path.{_≡_};
@@ -11,7 +11,7 @@ ghost use Prim.Native.Nat.{_+_, _^_, _≤_, _<_, min};
 ghost use lib.ListN.{length, getD};
 ghost use Rattle.octets.specs.Buffer.{over};
 ghost use Rattle.octets.specs.Lists.{any};
-ghost use Rattle.filter.specs.declared.Name.the-variants.{NtVer};
+ghost use Rattle.filter.specs.declared.ClauseName.the-variants.{NtVer};
 ghost use Rattle.filter.specs.Request.{names, spelling, clause, isPresent, octetsOf};
 ghost use Rattle.filter_write.specs.Write.{lengthOctets, element, equalityFor, filterOctets, filterFor, writtenAs, writtenOctets};
 ghost use Rattle.filter_write.specs.Internal.Size.{headSize, elementSize, contents};
@@ -29,36 +29,36 @@ const LENGTH_OF_ONE: usize = 0x80;
 const LENGTH_OF_TWO: usize = 0x100;
 
 // The clause names by their place in document 01's order.
-fn name_at(i: usize) -> Name
+fn name_at(i: usize) -> ClauseName
     requires { ⌜ i < 8 ⌝ }
     ensures { λ r. ⌜ r ≡ getD names i NtVer ⌝ }
 {
     match i {
-        0 => Name::DnsDomain,
-        1 => Name::Host,
-        2 => Name::DnsHostName,
-        3 => Name::User,
-        4 => Name::Aac,
-        5 => Name::DomainSid,
-        6 => Name::DomainGuid,
-        _ => Name::NtVer,
+        0 => ClauseName::DnsDomain,
+        1 => ClauseName::Host,
+        2 => ClauseName::DnsHostName,
+        3 => ClauseName::User,
+        4 => ClauseName::Aac,
+        5 => ClauseName::DomainSid,
+        6 => ClauseName::DomainGuid,
+        _ => ClauseName::NtVer,
     }
 }
 
 // How many octets a clause name takes.
-fn name_size(name: Name) -> usize
+fn name_size(name: ClauseName) -> usize
     ensures { λ r. ⌜ r ≡ length (spelling name) ⌝ }
     ensures { λ r. ⌜ r ≤ 11 ⌝ }
 {
     match name {
-        Name::DnsDomain => 9,
-        Name::Host => 4,
-        Name::DnsHostName => 11,
-        Name::User => 4,
-        Name::Aac => 3,
-        Name::DomainSid => 9,
-        Name::DomainGuid => 10,
-        Name::NtVer => 5,
+        ClauseName::DnsDomain => 9,
+        ClauseName::Host => 4,
+        ClauseName::DnsHostName => 11,
+        ClauseName::User => 4,
+        ClauseName::Aac => 3,
+        ClauseName::DomainSid => 9,
+        ClauseName::DomainGuid => 10,
+        ClauseName::NtVer => 5,
     }
 }
 
@@ -86,7 +86,7 @@ fn element_size(n: usize) -> usize
 }
 
 // How many octets the equality of a clause takes.
-fn equality_size(source: &[u8], name: Name, clause: Clause) -> usize
+fn equality_size(source: &[u8], name: ClauseName, clause: Clause) -> usize
     ensures { λ r. ⌜ r ≡ length (equalityFor name (octetsOf (now (source .entry)) clause)) ⌝ }
 {
     let Clause::Present { start, len } = clause else {
@@ -182,25 +182,25 @@ fn put_string(out: &mut [u8], s: &[u8]) -> usize
 }
 
 // A clause name as an octet string.
-fn put_name(out: &mut [u8], name: Name) -> usize
+fn put_name(out: &mut [u8], name: ClauseName) -> usize
     requires { ⌜ elementSize (length (spelling name)) ≤ length (now out) ⌝ }
     ensures { λ r. ⌜ r ≡ elementSize (length (spelling name)) ⌝ }
     ensures { λ _. ⌜ now (out .exit) ≡ over (element 0x04 (spelling name)) (now (out .entry)) ⌝ }
 {
     match name {
-        Name::DnsDomain => put_string(out, b"DnsDomain"),
-        Name::Host => put_string(out, b"Host"),
-        Name::DnsHostName => put_string(out, b"DnsHostName"),
-        Name::User => put_string(out, b"User"),
-        Name::Aac => put_string(out, b"AAC"),
-        Name::DomainSid => put_string(out, b"DomainSid"),
-        Name::DomainGuid => put_string(out, b"DomainGuid"),
-        Name::NtVer => put_string(out, b"NtVer"),
+        ClauseName::DnsDomain => put_string(out, b"DnsDomain"),
+        ClauseName::Host => put_string(out, b"Host"),
+        ClauseName::DnsHostName => put_string(out, b"DnsHostName"),
+        ClauseName::User => put_string(out, b"User"),
+        ClauseName::Aac => put_string(out, b"AAC"),
+        ClauseName::DomainSid => put_string(out, b"DomainSid"),
+        ClauseName::DomainGuid => put_string(out, b"DomainGuid"),
+        ClauseName::NtVer => put_string(out, b"NtVer"),
     }
 }
 
 // The equality of a name and a value, whose contents are `size` octets.
-fn put_pair(out: &mut [u8], name: Name, value: &[u8], size: usize) -> usize
+fn put_pair(out: &mut [u8], name: ClauseName, value: &[u8], size: usize) -> usize
     requires { ⌜ size ≡ elementSize (length (spelling name)) + elementSize (length (now value)) ⌝ }
     requires { ⌜ (elementSize size ≤ length (now out)) × (elementSize size ≤ 2048) ⌝ }
     ensures { λ r. ⌜ r ≡ elementSize size ⌝ }
@@ -212,7 +212,7 @@ fn put_pair(out: &mut [u8], name: Name, value: &[u8], size: usize) -> usize
 }
 
 // The equality of a clause, where it is present.
-fn put_equality(out: &mut [u8], source: &[u8], name: Name, clause: Clause) -> usize
+fn put_equality(out: &mut [u8], source: &[u8], name: ClauseName, clause: Clause) -> usize
     requires { ⌜ length (equalityFor name (octetsOf (now source) clause)) ≤ length (now out) ⌝ }
     requires { ⌜ length (equalityFor name (octetsOf (now source) clause)) ≤ 2048 ⌝ }
     ensures { λ r. ⌜ r ≡ length (equalityFor name (octetsOf (now (source .entry)) clause)) ⌝ }

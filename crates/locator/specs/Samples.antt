@@ -7,8 +7,8 @@ use lib.ListN.{length, take, replicate}
 use Rattle.answers.specs.declared.Form.{Form}
 use Rattle.answers.specs.declared.Form.the-variants.{Nt40, Response, Ex}
 use Rattle.answers.specs.Try.{Try, refused, good}
-use Rattle.filter.specs.declared.Name.{Name}
-use Rattle.filter.specs.declared.Name.the-variants.{User, Aac, DomainGuid, NtVer}
+use Rattle.filter.specs.declared.ClauseName.{ClauseName}
+use Rattle.filter.specs.declared.ClauseName.the-variants.{User, Aac, DomainGuid, NtVer}
 use Rattle.filter.specs.Shape.{elementAt, equality, one, siblings, andOf, clausesOf}
 use Rattle.filter.specs.Taken.{isNamed, strange, twice, requestOf, requestIn}
 use Rattle.filter.specs.Value.{wrongValue, versionAsked, pingIn}
@@ -17,7 +17,7 @@ use Rattle.names.specs.Name.{pointer, label, labelsAt, nameAt, namesAt}
 use Rattle.names.specs.Walk.{lookAt, walkFrom, walk}
 use Rattle.names.specs.Walk as walking
 use Rattle.octets.specs.Label.{parts, labels, joined}
-use Rattle.octets.specs.Lists.{all, any, first, keep, apart, cut, pieces}
+use Rattle.octets.specs.Lists.{all, any, first, keep, unique, cut, pieces}
 use Rattle.octets.specs.NameRule.{isDnsName, isPlainName, isAccountName}
 use Rattle.octets.specs.Number.{little, big, littleOctets, bigOctets, has}
 use Rattle.octets.specs.Sid.{isSid}
@@ -38,7 +38,7 @@ use Rattle.table.specs.Records.{serverOf, contextOf, accountOf, siteOf, subnetO
 use Rattle.table.specs.SameName.{sameAccountName}
 use Rattle.table.specs.declared.Caller.{Caller}
 use Rattle.table.specs.Table.{blocksOf, bodies, recordsOf, tableOf}
-use Rattle.table_whole.specs.Whole.{contextsApart, accountsApart, sitesApart, hasContext, hasSite, refersRightly, goodWhole}
+use Rattle.table_whole.specs.Whole.{contextsUnique, accountsUnique, sitesUnique, hasContext, hasSite, refersRightly, goodWhole}
 use Rattle.locator.specs.Answer.{answerTo, answerAs, octetsWritten, numberOf, lengthOf, wrongUser, replyTo}
 use Rattle.locator.specs.Answer as answers
 use Rattle.locator.specs.Choose.{isKnown, userUnknown, formOf, isHeldBack, opcodeOf, namesApplication, exFlags, responseFlags, nextSite, replyFor}
@@ -103,7 +103,7 @@ image roles =
 -- pings
 
 pub record Value : Type 0 where
-  pub name : Name
+  pub name : ClauseName
   pub octets : List ℕ
 
 -- a filter of clauses inside one AND
@@ -209,5 +209,5 @@ samples =
     ∷ []
 
 pub samples-hold : map (λ r. r .got) samples ≡ map (λ r. r .due) samples
-unfolding samples checked block example corp CORP DC1 dc1 HQ ann guid ipv4 image filter version six caller pings summary refusal P1 asks named elementAt equality one siblings andOf clausesOf isNamed strange twice requestOf requestIn wrongValue versionAsked pingIn lengthOctets element pointer label labelsAt nameAt namesAt lookAt walkFrom walk parts labels joined all any first keep apart pieces isDnsName isPlainName isAccountName little big littleOctets bigOctets has isSid same lower pointOctets pointsOctets utf16 lead follow pointsFrom isUtf8 octetsAt fixedAt reading.nameFrom reading.nameAt reader.namesAt opcodeIn numberAt tokensAt addressAt hasNextSite lastAt readEx text16 ending opening nt40Octets responseHead responseOctets exHead exOctets grown checkOf goodCheck zeros textField goodLength tableIn serverLayout forestLayout contextLayout accountLayout siteLayout subnetLayout bodyLayout blockLayout layoutsFrom serverOf contextOf accountOf siteOf subnetOf blocksOf bodies recordsOf tableOf sameAccountName contextsApart accountsApart sitesApart hasContext hasSite refersRightly goodWhole answerTo wrongUser replyTo mayLogOn isKnown userUnknown formOf isHeldBack opcodeOf namesApplication exFlags responseFlags nextSite replyFor contextsSearched contextByGuid isNamedBy contextByDnsName holdsSid contextBySid contextByNumber defaultContext accountByName siteByNumber addressNumber isPrefixOnly sharePrefix subnetFor clientSite contextUsed contextIn flatMap
+unfolding samples checked block example corp CORP DC1 dc1 HQ ann guid ipv4 image filter version six caller pings summary refusal P1 asks named elementAt equality one siblings andOf clausesOf isNamed strange twice requestOf requestIn wrongValue versionAsked pingIn lengthOctets element pointer label labelsAt nameAt namesAt lookAt walkFrom walk parts labels joined all any first keep unique pieces isDnsName isPlainName isAccountName little big littleOctets bigOctets has isSid same lower pointOctets pointsOctets utf16 lead follow pointsFrom isUtf8 octetsAt fixedAt reading.nameFrom reading.nameAt reader.namesAt opcodeIn numberAt tokensAt addressAt hasNextSite lastAt readEx text16 ending opening nt40Octets responseHead responseOctets exHead exOctets grown checkOf goodCheck zeros textField goodLength tableIn serverLayout forestLayout contextLayout accountLayout siteLayout subnetLayout bodyLayout blockLayout layoutsFrom serverOf contextOf accountOf siteOf subnetOf blocksOf bodies recordsOf tableOf sameAccountName contextsUnique accountsUnique sitesUnique hasContext hasSite refersRightly goodWhole answerTo wrongUser replyTo mayLogOn isKnown userUnknown formOf isHeldBack opcodeOf namesApplication exFlags responseFlags nextSite replyFor contextsSearched contextByGuid isNamedBy contextByDnsName holdsSid contextBySid contextByNumber defaultContext accountByName siteByNumber addressNumber isPrefixOnly sharePrefix subnetFor clientSite contextUsed contextIn flatMap
 samples-hold = refl

@@ -35,9 +35,9 @@ module _ {A : Type 0} where
   keep p (x ∷ xs) = keepIf (p x) x (keep p xs)
 
   -- no two elements are alike
-  unfoldable pub apart : (A → A → Bool) → List A → Bool
-  apart alike [] = true
-  apart alike (x ∷ xs) = not (any (alike x) xs) && apart alike xs
+  unfoldable pub unique : (A → A → Bool) → List A → Bool
+  unique alike [] = true
+  unique alike (x ∷ xs) = not (any (alike x) xs) && unique alike xs
 
   abbrev pub isSome : Option A → Bool
   isSome none = false

@@ -4,7 +4,7 @@ ghost use mathlib.Core.Bool.{true};
 ghost use Prim.Native.Nat.{_≤_};
 ghost use lib.ListN.{length};
 ghost use Rattle.table.specs.Table.{tableFrom};
-ghost use Rattle.table_whole.specs.Whole.{sitesApart};
+ghost use Rattle.table_whole.specs.Whole.{sitesUnique};
 ghost use Rattle.table_find.specs.Find.{contextByNumber, contextByGuid, contextByDnsName, contextBySid, defaultContext};
 ghost use Rattle.table_find.specs.Find.{accountByName, siteByNumber, siteIfAny, subnetFor, siteOfSubnet, clientSite};
 ghost use Rattle.table_find.specs.Internal.Found.{LiesIn, contextAt, accountAt, siteAt, subnetAt};
@@ -126,7 +126,7 @@ fn site_by_subnet(image: &[u8], caller: Caller) -> Found
 // The client's site: the only one, or that of the subnet that decides.
 pub fn client_site(image: &[u8], caller: Caller) -> Found
     requires { ⌜ length (now image) ≤ 65536 ⌝ }
-    requires { ⌜ sitesApart (tableFrom (now image) .sites) ≡ true ⌝ }
+    requires { ⌜ sitesUnique (tableFrom (now image) .sites) ≡ true ⌝ }
     ensures { λ r. ⌜ siteAt (now (image .entry)) r ≡ clientSite (tableFrom (now (image .entry))) caller ⌝ }
     ensures { λ r. ⌜ LiesIn (now (image .entry)) 72 r ⌝ }
 {

@@ -5,7 +5,7 @@ use mathlib.Core.Option.{Option, none, some}
 use Prim.Native.Nat.{ℕ}
 use lib.Dec.{leb}
 use lib.ListN.{length}
-use Rattle.octets.specs.Lists.{all, any, apart, holds}
+use Rattle.octets.specs.Lists.{all, any, unique, holds}
 use Rattle.octets.specs.Text.{same, within}
 use Rattle.table.specs.declared.ContextNumber.{ContextNumber}
 use Rattle.table.specs.declared.SiteNumber.{SiteNumber}
@@ -20,19 +20,19 @@ sameSid (some s) none = false
 sameSid (some s) (some t) = same s t
 
 -- context numbers, GUIDs, SIDs and DNS names are unique
-unfoldable pub contextsApart : List Context → Bool
-contextsApart cs =
-    apart (λ c d. sameContext (c .number) (d .number)) cs
-    && apart (λ c d. same (c .guid) (d .guid)) cs
-    && apart (λ c d. sameSid (c .sid) (d .sid)) cs
-    && apart (λ c d. sameDnsName (c .dns) (d .dns)) cs
+unfoldable pub contextsUnique : List Context → Bool
+contextsUnique cs =
+    unique (λ c d. sameContext (c .number) (d .number)) cs
+    && unique (λ c d. same (c .guid) (d .guid)) cs
+    && unique (λ c d. sameSid (c .sid) (d .sid)) cs
+    && unique (λ c d. sameDnsName (c .dns) (d .dns)) cs
 
 -- account names are unique within their context
-unfoldable pub accountsApart : List Account → Bool
-accountsApart = apart (λ a b. sameContext (a .context) (b .context) && sameAccountName (a .name) (b .name))
+unfoldable pub accountsUnique : List Account → Bool
+accountsUnique = unique (λ a b. sameContext (a .context) (b .context) && sameAccountName (a .name) (b .name))
 
-unfoldable pub sitesApart : List Site → Bool
-sitesApart = apart (λ s t. sameSite (s .number) (t .number))
+unfoldable pub sitesUnique : List Site → Bool
+sitesUnique = unique (λ s t. sameSite (s .number) (t .number))
 
 -- the context, or the site, of a number exists
 unfoldable pub hasContext : Table → ContextNumber → Bool
@@ -59,8 +59,8 @@ unfoldable pub goodWhole : Table → Bool
 goodWhole t =
     within 1 16 (length (t .contexts))
     && leb 1 (length (t .sites))
-    && contextsApart (t .contexts)
-    && sitesApart (t .sites)
-    && accountsApart (t .accounts)
+    && contextsUnique (t .contexts)
+    && sitesUnique (t .sites)
+    && accountsUnique (t .accounts)
     && refersRightly t
     && all (λ s. not (holds (sameSite (s .number)) (s .next))) (t .sites)

@@ -1,7 +1,7 @@
 // Records of which no two may be alike, compared in pairs: contexts are few, and accounts differ in context or length first.
 ghost use mathlib.Core.Path.{_≡_};
 ghost use mathlib.Core.Bool.{Bool};
-ghost use Rattle.octets.specs.Lists.{any, apart};
+ghost use Rattle.octets.specs.Lists.{any, unique};
 ghost use Rattle.table.specs.Records.{contextOf, accountOf};
 ghost use Rattle.table_whole.specs.Whole.{sameSid};
 ghost use Rattle.table_whole.specs.Internal.Alike.{contextsAlike, accountsAlike, alikeBy, likeAt, alikeAt};
@@ -78,8 +78,8 @@ fn any_alike(image: &[u8], piece: &[u8], places: &[usize], w: usize, likeness: L
 }
 
 // Whether no two records are alike.
-pub fn all_apart(image: &[u8], places: &[usize], w: usize, likeness: Likeness) -> bool
-    ensures { λ r. ⌜ r ≡ apart (alikeAt likeness (now (image .entry)) w) (now (places .entry)) ⌝ }
+pub fn all_unique(image: &[u8], places: &[usize], w: usize, likeness: Likeness) -> bool
+    ensures { λ r. ⌜ r ≡ unique (alikeAt likeness (now (image .entry)) w) (now (places .entry)) ⌝ }
 {
     let mut i = 0;
     while i < places.len() {

@@ -4,7 +4,7 @@ ghost use mathlib.Core.Bool.{Bool, true, false};
 ghost use mathlib.Core.List.{[]};
 ghost use Prim.Native.Nat.{_≤_};
 ghost use lib.ListN.{length, getD};
-ghost use Rattle.octets.specs.Lists.{apart};
+ghost use Rattle.octets.specs.Lists.{unique};
 ghost use Rattle.table_whole.specs.Internal.Mark.{sameNumber, Marked};
 use octets::part::part;
 use table::ContextNumber;
@@ -14,7 +14,7 @@ use table::record::number_in;
 // Marks the number that each record starts with, from the last record on: a number is held against those behind it.
 pub fn mark_numbers(image: &[u8], places: &[usize], w: usize, marks: &mut [bool]) -> bool
     requires { ⌜ (length (now marks) ≡ 65536) × Marked (now marks) (now image) w [] ⌝ }
-    ensures { λ r. ⌜ r ≡ apart (sameNumber (now (image .entry)) w) (now (places .entry)) ⌝ }
+    ensures { λ r. ⌜ r ≡ unique (sameNumber (now (image .entry)) w) (now (places .entry)) ⌝ }
     ensures { λ r. ⌜ (r ≡ true → Marked (now (marks .exit)) (now (image .entry)) w (now (places .entry))) ⌝ }
 {
     let mut left = places.len();

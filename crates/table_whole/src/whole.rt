@@ -7,7 +7,7 @@ ghost use Rattle.table_whole.specs.Whole.{goodWhole};
 ghost use Rattle.table_whole.specs.Internal.Place.{recordsAt};
 ghost use Rattle.table_whole.specs.Internal.Half.{ContextMarks, SiteMarks, serverNumber, goodAccounts, goodContexts, goodSubnets, goodSites, contextHalf, siteHalf};
 use crate::alike::Likeness;
-use crate::alike::all_apart;
+use crate::alike::all_unique;
 use crate::mark::has_context;
 use crate::mark::has_site;
 use crate::mark::mark_numbers;
@@ -37,7 +37,7 @@ fn are_accounts_good(image: &[u8], accounts: &[usize], marks: &[bool]) -> bool
     if !all_refer(image, accounts, 84, Reference::AccountContext, marks) {
         return false;
     }
-    all_apart(image, accounts, 84, Likeness::Accounts)
+    all_unique(image, accounts, 84, Likeness::Accounts)
 }
 
 fn good_accounts_of(image: &[u8], marks: &[bool]) -> bool
@@ -60,7 +60,7 @@ fn are_contexts_good(image: &[u8], contexts: &[usize]) -> bool
     if !mark_numbers(image, contexts, 504, &mut marks) {
         return false;
     }
-    if !all_apart(image, contexts, 504, Likeness::Contexts) {
+    if !all_unique(image, contexts, 504, Likeness::Contexts) {
         return false;
     }
     if !has_context(&marks, ContextNumber(server_number(image, 14))) {

@@ -15,7 +15,7 @@ use Rattle.names.proofs.Laws.Name.{alike, written-once, first-lowest, sizes, si
 use Rattle.octets.specs.Label.{labels}
 use Rattle.octets.proofs.Laws.Label.{Plain, size}
 use Rattle.octets.specs.Lists.{all, first}
-use Rattle.octets.proofs.Laws.Lists.{Every, Apart, all-every, apart-tested, every-take, every-weaken}
+use Rattle.octets.proofs.Laws.Lists.{Every, Unique, all-every, unique-tested, every-take, every-weaken}
 use Rattle.octets.specs.Text.{same}
 use Rattle.reply.specs.Reply.{Reply, responseHead, responseNames, exHead, exNames}
 use Rattle.demands.specs.Made.{said}
@@ -24,8 +24,8 @@ use Rattle.demands.proofs.Laws.Made.Forms.{tails-low, response-plain, r
 use Rattle.demands.specs.Pointers.{tailsBefore, Fit, PointersFit}
 
 -- tails that start low and of which no two are alike
-fit : (tails : List Tail) → Every (λ t. ltb (t .offset) 0x4000 ≡ true) tails → Apart alike tails → Fit tails
-fit tails low once = record { low = all-every (λ t. ltb (t .offset) 0x4000) tails low; once = apart-tested alike tails once; lowest = lowest }
+fit : (tails : List Tail) → Every (λ t. ltb (t .offset) 0x4000 ≡ true) tails → Unique alike tails → Fit tails
+fit tails low once = record { low = all-every (λ t. ltb (t .offset) 0x4000) tails low; once = unique-tested alike tails once; lowest = lowest }
   where
     tested : (text : List ℕ) (t u : Tail) → (same (u .text) text ≡ true → t .offset ≤ u .offset) → not (same (u .text) text) || leb (t .offset) (u .offset) ≡ true
     tested text t u h = go (same (u .text) text) refl

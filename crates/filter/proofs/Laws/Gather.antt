@@ -8,7 +8,7 @@ use native.Mathlib.Omega.{arith}
 use borrow.Author.Tests.{eqb-true, eqb-false, eq-eqb, ne-eqb, not-false}
 use lib.Dec.{eqb}
 use lib.ListN.{length, getD}
-use Rattle.octets.specs.Lists.{all, any, first, firstOr, apart, isSome}
+use Rattle.octets.specs.Lists.{all, any, first, firstOr, unique, isSome}
 use Rattle.octets.proofs.Laws.Lists.{first-any, first-holds, any-ext, any-either, any-never, any-false, all-true, neither-left, neither-right}
 use Rattle.octets.specs.Text.{same, lower, sameFolded}
 use Rattle.octets.proofs.Laws.Text.{folded-left, folded-sym}
@@ -17,8 +17,8 @@ use Rattle.filter.specs.declared.Clause.the-variants.{Absent, Present}
 use Rattle.filter.specs.declared.Found.{Found}
 use Rattle.filter.specs.declared.Gathered.{Gathered}
 use Rattle.filter.specs.declared.Gathering.the-variants as gathering
-use Rattle.filter.specs.declared.Name.{Name}
-use Rattle.filter.specs.declared.Name.the-variants.{DnsDomain, Host, DnsHostName, User, Aac, DomainSid, DomainGuid, NtVer}
+use Rattle.filter.specs.declared.ClauseName.{ClauseName}
+use Rattle.filter.specs.declared.ClauseName.the-variants.{DnsDomain, Host, DnsHostName, User, Aac, DomainSid, DomainGuid, NtVer}
 use Rattle.filter.specs.declared.Named.the-variants as named
 use Rattle.filter.specs.declared.Request.{Request}
 use Rattle.filter.specs.Request.{names, spelling, clause, requestBy, isPresent}
@@ -26,11 +26,11 @@ use Rattle.filter.specs.Taken.{nameOf, isNamed, strange, twice, asClause
 use Rattle.filter.specs.Internal.Gather.{namedAs, nameIn, place, stored, addedTo, addedAs, added, allAdded, gatheredFrom, nothing, answerOf}
 
 -- a clause name, or none
-pub named-none : (o : Option Name) → namedAs o ≡ named.Other → o ≡ none
+pub named-none : (o : Option ClauseName) → namedAs o ≡ named.Other → o ≡ none
 named-none none e = refl
 named-none (some n) e = let z : _≡_ {A = ℕ} 0 1 = cc in absurd (omega arith)
 
-pub named-some : (o : Option Name) (n : Name) → namedAs o ≡ named.Is n → o ≡ some n
+pub named-some : (o : Option ClauseName) (n : ClauseName) → namedAs o ≡ named.Is n → o ≡ some n
 named-some none n e = let z : _≡_ {A = ℕ} 0 1 = cc in absurd (omega arith)
 named-some (some m) n e = cc
 
@@ -49,10 +49,10 @@ eqb-sym a b = by (eqb a b) refl
 
 -- names
 
-abbrev nameAt : ℕ → Name
+abbrev nameAt : ℕ → ClauseName
 nameAt i = getD names i NtVer
 
-place-back : (n : Name) → nameAt (place n) ≡ n
+place-back : (n : ClauseName) → nameAt (place n) ≡ n
 place-back DnsDomain = refl
 place-back Host = refl
 place-back DnsHostName = refl
@@ -62,7 +62,7 @@ place-back DomainSid = refl
 place-back DomainGuid = refl
 place-back NtVer = refl
 
-place-below : (n : Name) → place n < length names
+place-below : (n : ClauseName) → place n < length names
 place-below DnsDomain = omega arith
 place-below Host = omega arith
 place-below DnsHostName = omega arith
@@ -72,11 +72,11 @@ place-below DomainSid = omega arith
 place-below DomainGuid = omega arith
 place-below NtVer = omega arith
 
-pub place-eq : (m n : Name) → eqb (place m) (place n) ≡ true → m ≡ n
+pub place-eq : (m n : ClauseName) → eqb (place m) (place n) ≡ true → m ≡ n
 place-eq m n e = sym (place-back m) ∙ ap nameAt (eqb-true (place m) (place n) e) ∙ place-back n
 
 -- a test that holds of a name holds of some name
-pub names-any : (p : Name → Bool) (n : Name) → p n ≡ true → any p names ≡ true
+pub names-any : (p : ClauseName → Bool) (n : ClauseName) → p n ≡ true → any p names ≡ true
 names-any p n e = by (any p names) refl
   where
     by : (b : Bool) → any p names ≡ b → any p names ≡ true
@@ -86,7 +86,7 @@ names-any p n e = by (any p names) refl
         let z : _≡_ {A = ℕ} 0 1 = cc in
         absurd (omega arith)
 
-pub clause-by : (f : Name → Clause) (n : Name) → clause (requestBy f) n ≡ f n
+pub clause-by : (f : ClauseName → Clause) (n : ClauseName) → clause (requestBy f) n ≡ f n
 clause-by f DnsDomain = refl
 clause-by f Host = refl
 clause-by f DnsHostName = refl
@@ -103,35 +103,35 @@ agrees false true e = e
 agrees false false e = refl
 
 -- no two names are spelled alike: one test over all pairs
-abbrev alike : Name → Name → Bool
+abbrev alike : ClauseName → ClauseName → Bool
 alike m n = Bool·beq (sameFolded (spelling m) (spelling n)) (eqb (place m) (place n))
 
-apart-spelled : all (λ m. all (alike m) names) names ≡ true
+unique-spelled : all (λ m. all (alike m) names) names ≡ true
 unfolding all same lower
-apart-spelled = refl
+unique-spelled = refl
 
-pub spelled : (m n : Name) → sameFolded (spelling m) (spelling n) ≡ eqb (place m) (place n)
+pub spelled : (m n : ClauseName) → sameFolded (spelling m) (spelling n) ≡ eqb (place m) (place n)
 spelled m n =
-    let row = all-true (λ m. all (alike m) names) names (place m) NtVer (place-below m) apart-spelled in
+    let row = all-true (λ m. all (alike m) names) names (place m) NtVer (place-below m) unique-spelled in
     let cell = all-true (alike (nameAt (place m))) names (place n) NtVer (place-below n) row in
     agrees _ _ (rw (place-back m, place-back n) at cell)
 
 -- the name that octets spell is the only one
 module _ (x : List ℕ) where
-  pub named-one : (m n : Name) → nameIn x ≡ some m → sameFolded x (spelling n) ≡ eqb (place m) (place n)
+  pub named-one : (m n : ClauseName) → nameIn x ≡ some m → sameFolded x (spelling n) ≡ eqb (place m) (place n)
   unfolding nameIn
   named-one m n e = folded-left x (spelling m) (spelling n) (first-holds (λ name. sameFolded x (spelling name)) names m e) ∙ spelled m n
 
-  pub named-not : (n : Name) → nameIn x ≡ none → sameFolded x (spelling n) ≡ false
+  pub named-not : (n : ClauseName) → nameIn x ≡ none → sameFolded x (spelling n) ≡ false
   unfolding nameIn
   named-not n e =
       let a : any (λ name. sameFolded x (spelling name)) names ≡ false = sym (first-any (λ name. sameFolded x (spelling name)) names) ∙ ap isSome e in
-      ap (λ (k : Name). sameFolded x (spelling k)) (sym (place-back n)) ∙ any-false (λ name. sameFolded x (spelling name)) names (place n) NtVer (place-below n) a
+      ap (λ (k : ClauseName). sameFolded x (spelling k)) (sym (place-back n)) ∙ any-false (λ name. sameFolded x (spelling name)) names (place n) NtVer (place-below n) a
 
 -- 7: one of the clauses is of another name
 
 module _ (s : List ℕ) where
-  abbrev nameFound : Found → Option Name
+  abbrev nameFound : Found → Option ClauseName
   nameFound f = nameIn (nameOf s f)
 
   abbrev unknown : Found → Bool
@@ -145,11 +145,11 @@ module _ (s : List ℕ) where
   unfolding added
   strange-one g f = by (nameFound f) ∙ ap (λ (b : Bool). g .strange || b) (sym (unknown-named f))
     where
-      placed : (n : Name) (b : Bool) → addedTo g n f b .strange ≡ (g .strange || false)
+      placed : (n : ClauseName) (b : Bool) → addedTo g n f b .strange ≡ (g .strange || false)
       placed n true = sym (or-false (g .strange))
       placed n false = sym (or-false (g .strange))
 
-      by : (o : Option Name) → addedAs g f o .strange ≡ (g .strange || not (isSome o))
+      by : (o : Option ClauseName) → addedAs g f o .strange ≡ (g .strange || not (isSome o))
       by none = sym (or-true (g .strange))
       by (some n) = placed n (isPresent (clause (g .request) n))
 
@@ -175,7 +175,7 @@ present-is : (c d : Clause) → isPresent c ≡ true → orElse c d ≡ c
 present-is Absent d e = let z : _≡_ {A = ℕ} 0 1 = cc in absurd (omega arith)
 present-is (Present start len) d e = refl
 
-module _ (s : List ℕ) (n : Name) where
+module _ (s : List ℕ) (n : ClauseName) where
   abbrev firstOne : List Found → Clause
   firstOne fs = asClause (first (isNamed s n) fs)
 
@@ -186,26 +186,26 @@ module _ (s : List ℕ) (n : Name) where
       rest : Bool → Clause
       rest b = asClause (firstOr b f (first (isNamed s n) fs))
 
-      again : (m : Name) (b : Bool) → eqb (place m) (place n) ≡ b → isPresent (clause (g .request) m) ≡ true → orElse (clause (g .request) n) (firstOne fs) ≡ orElse (clause (g .request) n) (rest b)
+      again : (m : ClauseName) (b : Bool) → eqb (place m) (place n) ≡ b → isPresent (clause (g .request) m) ≡ true → orElse (clause (g .request) n) (firstOne fs) ≡ orElse (clause (g .request) n) (rest b)
       again m true e i =
-          let j : isPresent (clause (g .request) n) ≡ true = ap (λ (k : Name). isPresent (clause (g .request) k)) (sym (place-eq m n e)) ∙ i in
+          let j : isPresent (clause (g .request) n) ≡ true = ap (λ (k : ClauseName). isPresent (clause (g .request) k)) (sym (place-eq m n e)) ∙ i in
           present-is (clause (g .request) n) (firstOne fs) j ∙ sym (present-is (clause (g .request) n) (rest true) j)
       again m false e i = refl
 
-      fresh : (m : Name) (b : Bool) → eqb (place m) (place n) ≡ b → isPresent (clause (g .request) m) ≡ false
+      fresh : (m : ClauseName) (b : Bool) → eqb (place m) (place n) ≡ b → isPresent (clause (g .request) m) ≡ false
           → orElse (cond b (Present (f .start) (f .len)) (clause (g .request) n)) (firstOne fs) ≡ orElse (clause (g .request) n) (rest b)
       fresh m true e i =
-          let j : isPresent (clause (g .request) n) ≡ false = ap (λ (k : Name). isPresent (clause (g .request) k)) (sym (place-eq m n e)) ∙ i in
+          let j : isPresent (clause (g .request) n) ≡ false = ap (λ (k : ClauseName). isPresent (clause (g .request) k)) (sym (place-eq m n e)) ∙ i in
           sym (absent-not (clause (g .request) n) (rest true) j)
       fresh m false e i = refl
 
-      here : (m : Name) (b : Bool) → isPresent (clause (g .request) m) ≡ b → orElse (clause (addedTo g m f b .request) n) (firstOne fs) ≡ orElse (clause (g .request) n) (rest (eqb (place m) (place n)))
+      here : (m : ClauseName) (b : Bool) → isPresent (clause (g .request) m) ≡ b → orElse (clause (addedTo g m f b .request) n) (firstOne fs) ≡ orElse (clause (g .request) n) (rest (eqb (place m) (place n)))
       here m true i = again m (eqb (place m) (place n)) refl i
       here m false i =
           ap (λ (c : Clause). orElse c (firstOne fs)) (clause-by (λ other. cond (eqb (place m) (place other)) (Present (f .start) (f .len)) (clause (g .request) other)) n)
           ∙ fresh m (eqb (place m) (place n)) refl i
 
-      by : (o : Option Name) → nameIn (nameOf s f) ≡ o → orElse (clause (addedAs g f o .request) n) (firstOne fs) ≡ orElse (clause (g .request) n) (rest (sameFolded (nameOf s f) (spelling n)))
+      by : (o : Option ClauseName) → nameIn (nameOf s f) ≡ o → orElse (clause (addedAs g f o .request) n) (firstOne fs) ≡ orElse (clause (g .request) n) (rest (sameFolded (nameOf s f) (spelling n)))
       by none e = ap (λ (b : Bool). orElse (clause (g .request) n) (rest b)) (sym (named-not (nameOf s f) n e))
       by (some m) e = here m (isPresent (clause (g .request) m)) refl ∙ ap (λ (b : Bool). orElse (clause (g .request) n) (rest b)) (sym (named-one (nameOf s f) m n e))
 
@@ -221,7 +221,7 @@ module _ (s : List ℕ) (n : Name) where
 -- 8: a clause whose name is there already, where each clause is of a name
 
 module _ (s : List ℕ) where
-  abbrev thereIn : Request → Option Name → Bool
+  abbrev thereIn : Request → Option ClauseName → Bool
   thereIn r none = false
   thereIn r (some n) = isPresent (clause r n)
 
@@ -232,18 +232,18 @@ module _ (s : List ℕ) where
   sameName f h = sameFolded (nameOf s f) (nameOf s h)
 
   -- after a clause of name m is stored, the names there are those before and m
-  stored-there : (r : Request) (m : Name) (start len : ℕ) (f h : Found) → nameIn (nameOf s f) ≡ some m → there (stored r m (Present start len)) h ≡ (there r h || sameName f h)
+  stored-there : (r : Request) (m : ClauseName) (start len : ℕ) (f h : Found) → nameIn (nameOf s f) ≡ some m → there (stored r m (Present start len)) h ≡ (there r h || sameName f h)
   unfolding nameIn
   stored-there r m start len f h e = by (nameIn (nameOf s h)) refl ∙ ap (λ (b : Bool). there r h || b) (sym like)
     where
       like : sameName f h ≡ sameFolded (nameOf s h) (spelling m)
       like = folded-left (nameOf s f) (spelling m) (nameOf s h) (first-holds (λ name. sameFolded (nameOf s f) (spelling name)) names m e) ∙ folded-sym (spelling m) (nameOf s h)
 
-      set : (n : Name) (b : Bool) → isPresent (cond b (Present start len) (clause r n)) ≡ (isPresent (clause r n) || b)
+      set : (n : ClauseName) (b : Bool) → isPresent (cond b (Present start len) (clause r n)) ≡ (isPresent (clause r n) || b)
       set n true = sym (or-true (isPresent (clause r n)))
       set n false = sym (or-false (isPresent (clause r n)))
 
-      by : (o : Option Name) → nameIn (nameOf s h) ≡ o → thereIn (stored r m (Present start len)) o ≡ (thereIn r o || sameFolded (nameOf s h) (spelling m))
+      by : (o : Option ClauseName) → nameIn (nameOf s h) ≡ o → thereIn (stored r m (Present start len)) o ≡ (thereIn r o || sameFolded (nameOf s h) (spelling m))
       by none q = sym (named-not (nameOf s h) m q)
       by (some n) q =
           ap isPresent (clause-by (λ other. cond (eqb (place m) (place other)) (Present start len) (clause r other)) n)
@@ -251,15 +251,15 @@ module _ (s : List ℕ) where
           ∙ ap (λ (b : Bool). isPresent (clause r n) || b) (eqb-sym (place m) (place n) ∙ sym (named-one (nameOf s h) n m q))
 
   twice-more : (f : Found) (fs : List Found) → twice s (f ∷ fs) ≡ (any (sameName f) fs || twice s fs)
-  unfolding twice apart
-  twice-more f fs = by (any (sameName f) fs) (apart sameName fs)
+  unfolding twice unique
+  twice-more f fs = by (any (sameName f) fs) (unique sameName fs)
     where
       by : (a b : Bool) → not (not a && b) ≡ (a || not b)
       by true b = refl
       by false b = refl
 
   -- one clause more, of name m
-  twice-one : (g : Gathered) (f : Found) (fs : List Found) (m : Name) → nameIn (nameOf s f) ≡ some m → (b : Bool) → isPresent (clause (g .request) m) ≡ b
+  twice-one : (g : Gathered) (f : Found) (fs : List Found) (m : ClauseName) → nameIn (nameOf s f) ≡ some m → (b : Bool) → isPresent (clause (g .request) m) ≡ b
       → (addedTo g m f b .twice || (any (there (addedTo g m f b .request)) fs || twice s fs)) ≡ (g .twice || ((b || any (there (g .request)) fs) || (any (sameName f) fs || twice s fs)))
   twice-one g f fs m q true i = sym (or-true (g .twice))
   twice-one g f fs m q false i =
@@ -269,23 +269,23 @@ module _ (s : List ℕ) where
       ap (λ (x : Bool). g .twice || (x || twice s fs)) a ∙ ap (λ (x : Bool). g .twice || x) (or-assoc (any (there (g .request)) fs) (any (sameName f) fs) (twice s fs))
 
   pub all-twice : (g : Gathered) (fs : List Found) → strange s fs ≡ false → allAdded s g fs .twice ≡ (g .twice || (any (there (g .request)) fs || twice s fs))
-  unfolding allAdded added strange twice any apart
+  unfolding allAdded added strange twice any unique
   all-twice g [] e = sym (or-false (g .twice))
   all-twice g (f ∷ fs) e = by (nameIn (nameOf s f)) refl (all-twice (added s g f) fs (neither-right (unknown s f) (strange s fs) e))
     where
       known : isSome (nameIn (nameOf s f)) ≡ true
       known = not-false (isSome (nameIn (nameOf s f))) (sym (unknown-named s f) ∙ neither-left (unknown s f) (strange s fs) e)
 
-      by : (o : Option Name) → nameIn (nameOf s f) ≡ o
+      by : (o : Option ClauseName) → nameIn (nameOf s f) ≡ o
           → allAdded s (added s g f) fs .twice ≡ (added s g f .twice || (any (there (added s g f .request)) fs || twice s fs))
           → allAdded s (added s g f) fs .twice ≡ (g .twice || ((there (g .request) f || any (there (g .request)) fs) || twice s (f ∷ fs)))
       by none q ih = let z : false ≡ true = ap isSome (sym q) ∙ known in let y : _≡_ {A = ℕ} 0 1 = cc in absurd (omega arith)
       by (some m) q ih =
           ih
-          ∙ ap (λ (o : Option Name). addedAs g f o .twice || (any (there (addedAs g f o .request)) fs || twice s fs)) q
+          ∙ ap (λ (o : Option ClauseName). addedAs g f o .twice || (any (there (addedAs g f o .request)) fs || twice s fs)) q
           ∙ twice-one g f fs m q (isPresent (clause (g .request) m)) refl
           ∙ ap (λ (b : Bool). g .twice || ((thereIn (g .request) (some m) || any (there (g .request)) fs) || b)) (sym (twice-more f fs))
-          ∙ ap (λ (o : Option Name). g .twice || ((thereIn (g .request) o || any (there (g .request)) fs) || twice s (f ∷ fs))) (sym q)
+          ∙ ap (λ (o : Option ClauseName). g .twice || ((thereIn (g .request) o || any (there (g .request)) fs) || twice s (f ∷ fs))) (sym q)
 
 -- gathered from nothing, clauses make what document 01 says of them
 pub gathers : (s : List ℕ) (fs : List Found) → answerOf (allAdded s nothing fs) ≡ judged s (some fs)
@@ -295,7 +295,7 @@ gathers s fs = by-strange (strange s fs) refl
     none-there : any (there s (nothing .request)) fs ≡ false
     none-there = any-ext (there s (nothing .request)) (λ f. false) fs (λ f. absent-all (nameIn (nameOf s f))) ∙ any-never fs
       where
-        absent-all : (o : Option Name) → thereIn s (nothing .request) o ≡ false
+        absent-all : (o : Option ClauseName) → thereIn s (nothing .request) o ≡ false
         absent-all none = refl
         absent-all (some n) = ap isPresent (clause-by (λ name. Absent) n)
 

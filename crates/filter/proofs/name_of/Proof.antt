@@ -3,7 +3,7 @@ use mathlib.Core.Bool.{true, false}
 use borrow.Author.Needs.{needs}
 use Rattle.octets.specs.Lists.{first}
 use Rattle.octets.specs.Text.{sameFolded}
-use Rattle.filter.specs.declared.Name.the-variants.{DnsDomain, Host, DnsHostName, User, Aac, DomainSid, DomainGuid, NtVer}
+use Rattle.filter.specs.declared.ClauseName.the-variants.{DnsDomain, Host, DnsHostName, User, Aac, DomainSid, DomainGuid, NtVer}
 use Rattle.filter.specs.Request.{spelling}
 use Rattle.filter.specs.Internal.Gather.{nameIn}
 use Rattle.filter.proofs.name_of.Statement.{statement}

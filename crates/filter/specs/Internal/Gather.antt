@@ -4,7 +4,7 @@ use mathlib.Core.List.{List, [], _∷_}
 use mathlib.Core.Option.{Option, none, some}
 use Prim.Native.Nat.{ℕ}
 use lib.Dec.{eqb}
-use Rattle.answers.specs.declared.Refusal.the-variants.{ClauseName, ClauseTwice}
+use Rattle.answers.specs.declared.Refusal.the-variants.{UnknownClause, DuplicateClause}
 use Rattle.answers.specs.Try.{Try, good, refusedIf}
 use Rattle.octets.specs.Lists.{first}
 use Rattle.octets.specs.Text.{sameFolded}
@@ -14,8 +14,8 @@ use Rattle.filter.specs.declared.Found.{Found}
 use Rattle.filter.specs.declared.Gathered.{Gathered}
 use Rattle.filter.specs.declared.Gathering.{Gathering}
 use Rattle.filter.specs.declared.Gathering.the-variants as gathering
-use Rattle.filter.specs.declared.Name.{Name}
-use Rattle.filter.specs.declared.Name.the-variants.{DnsDomain, Host, DnsHostName, User, Aac, DomainSid, DomainGuid, NtVer}
+use Rattle.filter.specs.declared.ClauseName.{ClauseName}
+use Rattle.filter.specs.declared.ClauseName.the-variants.{DnsDomain, Host, DnsHostName, User, Aac, DomainSid, DomainGuid, NtVer}
 use Rattle.filter.specs.declared.Named.{Named}
 use Rattle.filter.specs.declared.Named.the-variants as named
 use Rattle.filter.specs.declared.Request.{Request}
@@ -24,15 +24,15 @@ use Rattle.filter.specs.Taken.{nameOf}
 
 -- the clause name that octets spell
 
-abbrev pub namedAs : Option Name → Named
+abbrev pub namedAs : Option ClauseName → Named
 namedAs none = named.Other
 namedAs (some n) = named.Is n
 
-unfoldable pub nameIn : List ℕ → Option Name
+unfoldable pub nameIn : List ℕ → Option ClauseName
 nameIn x = first (λ name. sameFolded x (spelling name)) names
 
 -- a name's place in document 01's order
-abbrev pub place : Name → ℕ
+abbrev pub place : ClauseName → ℕ
 place DnsDomain = 0
 place Host = 1
 place DnsHostName = 2
@@ -43,7 +43,7 @@ place DomainGuid = 6
 place NtVer = 7
 
 -- a request with its clause of one name set
-abbrev pub stored : Request → Name → Clause → Request
+abbrev pub stored : Request → ClauseName → Clause → Request
 stored r name c = requestBy (λ other. cond (eqb (place name) (place other)) c (clause r other))
 
 -- one more clause: of another name, of a name that is there already, or the first of its name
@@ -51,11 +51,11 @@ stored r name c = requestBy (λ other. cond (eqb (place name) (place other)) c (
 abbrev pub asStrange : Gathered → Gathered
 asStrange g = record { request = g .request; strange = true; twice = g .twice }
 
-abbrev pub addedTo : Gathered → Name → Found → Bool → Gathered
+abbrev pub addedTo : Gathered → ClauseName → Found → Bool → Gathered
 addedTo g name f true = record { request = g .request; strange = g .strange; twice = true }
 addedTo g name f false = record { request = stored (g .request) name (Present (f .start) (f .len)); strange = g .strange; twice = g .twice }
 
-abbrev pub addedAs : Gathered → Found → Option Name → Gathered
+abbrev pub addedAs : Gathered → Found → Option ClauseName → Gathered
 addedAs g f none = asStrange g
 addedAs g f (some name) = addedTo g name f (isPresent (clause (g .request) name))
 
@@ -75,4 +75,4 @@ nothing = record { request = requestBy (λ name. Absent); strange = false; twice
 
 -- the answer that they make
 abbrev pub answerOf : Gathered → Try Request
-answerOf g = refusedIf (g .strange) ClauseName (refusedIf (g .twice) ClauseTwice (good (g .request)))
+answerOf g = refusedIf (g .strange) UnknownClause (refusedIf (g .twice) DuplicateClause (good (g .request)))

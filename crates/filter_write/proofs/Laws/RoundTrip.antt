@@ -14,10 +14,10 @@ use Rattle.answers.specs.declared.Refusal.the-variants.{FilterShape, FilterLeng
 use Rattle.answers.specs.Try.{Try, refused, good, refusedIf}
 use Rattle.octets.specs.Buffer.{over}
 use Rattle.octets.proofs.Laws.Buffer.{over-front}
-use Rattle.octets.specs.Lists.{any, first, apart, cut}
+use Rattle.octets.specs.Lists.{any, first, unique, cut}
 use Rattle.filter.specs.declared.Clause.{Clause}
 use Rattle.filter.specs.declared.Clause.the-variants.{Absent, Present}
-use Rattle.filter.specs.declared.Name.{Name}
+use Rattle.filter.specs.declared.ClauseName.{ClauseName}
 use Rattle.filter.specs.declared.Request.{Request}
 use Rattle.filter.specs.declared.Taken.the-variants as taken
 use Rattle.filter_write.specs.declared.Written.the-variants as written
@@ -34,11 +34,11 @@ use Rattle.filter_write.specs.Internal.Size.{headSize, elementSize, cont
 use Rattle.filter_write.proofs.Laws.Size.{head-bounds, element-length}
 
 module _ (source : List ℕ) (r : Request) where
-  abbrev value : Name → Option (List ℕ)
+  abbrev value : ClauseName → Option (List ℕ)
   value name = octetsOf source (clause r name)
 
   -- a clause that is present takes octets
-  present-length : (ns : List Name) → any (λ name. isPresent (clause r name)) ns ≡ true → 0 < length (contents source r ns)
+  present-length : (ns : List ClauseName) → any (λ name. isPresent (clause r name)) ns ≡ true → 0 < length (contents source r ns)
   unfolding any flatMap
   present-length [] e = let z : _≡_ {A = ℕ} 0 1 = cc in absurd (omega arith)
   present-length (n ∷ ns) e = by (clause r n) e (present-length ns)
@@ -89,19 +89,19 @@ module _ (source : List ℕ) (r : Request) where
         let f : start + length inside ≡ length s = omega arith in
         rw (clausesOf, e, eq-eqb (start + length inside) (length s) f) (again .reads)
 
-    apart-names : distinct s value names ≡ true
-    unfolding apart any
-    apart-names = refl
+    unique-names : distinct s value names ≡ true
+    unfolding unique any
+    unique-names = refl
 
     taken-apart : requestIn s ≡ good (requestOf s (again .clauses))
     unfolding requestIn
-    taken-apart = rw (requestIn, le-ltb 2048 (length s) short, read, not-strange s value (again .tells), not-twice s value (again .tells) apart-names)
+    taken-apart = rw (requestIn, le-ltb 2048 (length s) short, read, not-strange s value (again .tells), not-twice s value (again .tells) unique-names)
 
     same-clauses : SameClauses s (requestOf s (again .clauses)) source r
     unfolding requestOf
     same-clauses name =
         ap (octetsOf s) (clause-by (λ n. asClause (first (isNamed s n) (again .clauses))) name)
-        ∙ octets-back s value name (again .tells) apart-names (names-any (λ n. eqb (place n) (place name)) name (eq-eqb (place name) (place name) refl))
+        ∙ octets-back s value name (again .tells) unique-names (names-any (λ n. eqb (place n) (place name)) name (eq-eqb (place name) (place name) refl))
 
 -- an answer that refuses nothing: a clause is present, and the octets are those written, 2,048 at most
 answered : (a b c : Bool) (o octets : List ℕ) → refusedIf (not a) FilterShape (refusedIf b FilterLength (refusedIf c NoRoom (good o))) ≡ good octets → (a ≡ true) × (b ≡ false) × (o ≡ octets)

@@ -13,8 +13,8 @@ use lib.Seq.{drop-cons}
 use Rattle.answers.specs.declared.Refusal.the-variants.{FilterShape, FilterLength, NoRoom}
 use Rattle.answers.specs.Try.{refused, good}
 use Rattle.octets.specs.Lists.{any}
-use Rattle.filter.specs.declared.Name.{Name}
-use Rattle.filter.specs.declared.Name.the-variants.{NtVer}
+use Rattle.filter.specs.declared.ClauseName.{ClauseName}
+use Rattle.filter.specs.declared.ClauseName.the-variants.{NtVer}
 use Rattle.filter.specs.declared.Request.{Request}
 use Rattle.filter.specs.Request.{names, spelling, clause, isPresent, octetsOf}
 use Rattle.filter_write.specs.Write.{lengthOctets, element, equalityFor, filterOctets, filterFor}
@@ -62,7 +62,7 @@ pub element-length : (tag : ℕ) (xs : List ℕ) → length (element tag xs) ≡
 unfolding element
 element-length tag xs = length-append (tag ∷ lengthOctets (length xs)) xs ∙ ap (λ (k : ℕ). k + length xs) (head-length tag (length xs))
 
-pub equality-length : (name : Name) (value : List ℕ) → length (equalityFor name (some value)) ≡ elementSize (elementSize (length (spelling name)) + elementSize (length value))
+pub equality-length : (name : ClauseName) (value : List ℕ) → length (equalityFor name (some value)) ≡ elementSize (elementSize (length (spelling name)) + elementSize (length value))
 equality-length name value =
     element-length 0xA3 (element 0x04 (spelling name) ++ element 0x04 value)
     ∙ ap elementSize (length-append (element 0x04 (spelling name)) (element 0x04 value) ∙ λ i. element-length 0x04 (spelling name) i + element-length 0x04 value i)
@@ -81,7 +81,7 @@ module _ (source : List ℕ) (r : Request) where
 
   pub contents-end : (i : ℕ) → 8 ≤ i → length (contents source r (drop i names)) ≡ 0
   unfolding flatMap
-  contents-end i h = ap (λ (l : List Name). length (contents source r l)) (drop-of-length-le names h)
+  contents-end i h = ap (λ (l : List ClauseName). length (contents source r l)) (drop-of-length-le names h)
 
   -- contents written as far as the i-th name, and that name's equality behind them
   abbrev part-of : ℕ → List ℕ
@@ -104,7 +104,7 @@ module _ (source : List ℕ) (r : Request) where
 
     pub written-all : 8 ≤ i → w ≡ contents source r names
     unfolding flatMap
-    written-all h = sym (append-nil w) ∙ ap (λ (l : List Name). w ++ contents source r l) (sym (drop-of-length-le names h)) ∙ e
+    written-all h = sym (append-nil w) ∙ ap (λ (l : List ClauseName). w ++ contents source r l) (sym (drop-of-length-le names h)) ∙ e
 
 -- a size that stops at 4,096 tells what is over 2,048 and what is not
 pub capped-long : (n m : ℕ) → m ≡ min n 4096 → 2048 < elementSize m → 2048 < elementSize n

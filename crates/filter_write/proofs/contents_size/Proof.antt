@@ -2,9 +2,9 @@ use mathlib.Core.Path.{_≡_, ap, _∙_}
 use Prim.Native.Nat.{_+_, _-_, _≤_, min}
 use native.Mathlib.Omega.{arith}
 use lib.ListN.{length, drop, getD}
-use Rattle.filter.specs.declared.Name.{Name}
+use Rattle.filter.specs.declared.ClauseName.{ClauseName}
 use Rattle.filter.specs.declared.Clause.{Clause}
-use Rattle.filter.specs.declared.Name.the-variants.{NtVer}
+use Rattle.filter.specs.declared.ClauseName.the-variants.{NtVer}
 use Rattle.filter.specs.Request.{names, clause, octetsOf}
 use Rattle.filter_write.specs.Write.{equalityFor}
 use Rattle.filter_write.specs.Internal.Size.{contents}
@@ -47,7 +47,7 @@ loop-again c =
     let e : c .before .equality-size .result ≡ length (equalityFor (getD names (l .i) NtVer) (octetsOf (p .source .now) (clause (p .request) (getD names (l .i) NtVer)))) =
     c .before .equality-size .ensures
     ∙ ap (λ (x : Clause). length (equalityFor (c .before .before .before .name-at .result) (octetsOf (p .source .now) x))) (c .before .before .clause .ensures)
-    ∙ ap (λ (n : Name). length (equalityFor n (octetsOf (p .source .now) (clause (p .request) n)))) (c .before .before .before .name-at .ensures) in
+    ∙ ap (λ (n : ClauseName). length (equalityFor n (octetsOf (p .source .now) (clause (p .request) n)))) (c .before .before .before .name-at .ensures) in
     let n = contents-size-next (p .source .now) (p .request) (l .i) (c .before .before .before .before .loop-test .taken) in
     let s = c .capped-sum .ensures in
     let i = l .inv .2 in

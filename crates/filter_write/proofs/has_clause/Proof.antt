@@ -5,8 +5,8 @@ use native.Mathlib.Omega.{arith}
 use lib.ListN.{drop, getD}
 use Rattle.octets.specs.Lists.{any}
 use Rattle.octets.proofs.Laws.Lists.{any-holds, any-next, any-end}
-use Rattle.filter.specs.declared.Name.{Name}
-use Rattle.filter.specs.declared.Name.the-variants.{NtVer}
+use Rattle.filter.specs.declared.ClauseName.{ClauseName}
+use Rattle.filter.specs.declared.ClauseName.the-variants.{NtVer}
 use Rattle.filter.specs.Request.{names, clause, isPresent}
 use Rattle.filter_write.proofs.has_clause.Statement.{statement}
 use Rattle.filter_write.proofs.has_clause.Tie as tie
@@ -35,7 +35,7 @@ returns c =
     let p = c .before .before .before .before .before .before .args in
     let l = c .before .before .before .before .before .loop in
     let e : isPresent (clause (p .request) (getD names (l .i) NtVer)) ≡ true =
-    ap (λ (n : Name). isPresent (clause (p .request) n)) (sym (c .before .before .before .name-at .ensures)) ∙ ap isPresent (sym (c .before .before .clause .ensures)) ∙ sym (c .before .is-present .ensures) ∙ c .if1 .taken in
+    ap (λ (n : ClauseName). isPresent (clause (p .request) n)) (sym (c .before .before .before .name-at .ensures)) ∙ ap isPresent (sym (c .before .before .clause .ensures)) ∙ sym (c .before .is-present .ensures) ∙ c .if1 .taken in
     any-holds (λ name. isPresent (clause (p .request) name)) names (l .i) NtVer (c .before .before .before .before .loop-test .taken) e ∙ l .inv .1
 
 add-i : tie.Need-add-i Inv-loop μ-loop
@@ -49,7 +49,7 @@ loop-again c =
     let p = c .before .before .before .before .before .before .args in
     let l = c .before .before .before .before .before .loop in
     let e : isPresent (clause (p .request) (getD names (l .i) NtVer)) ≡ false =
-    ap (λ (n : Name). isPresent (clause (p .request) n)) (sym (c .before .before .before .name-at .ensures)) ∙ ap isPresent (sym (c .before .before .clause .ensures)) ∙ sym (c .before .is-present .ensures) ∙ c .if1 .left in
+    ap (λ (n : ClauseName). isPresent (clause (p .request) n)) (sym (c .before .before .before .name-at .ensures)) ∙ ap isPresent (sym (c .before .before .clause .ensures)) ∙ sym (c .before .is-present .ensures) ∙ c .if1 .left in
     (omega arith, any-next (λ name. isPresent (clause (p .request) name)) names (l .i) NtVer (c .before .before .before .before .loop-test .taken) e ∙ l .inv .1)
 
 returns-2 : tie.Need-returns-2 Inv-loop μ-loop

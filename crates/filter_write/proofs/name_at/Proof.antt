@@ -3,7 +3,7 @@ use Prim.Native.Nat.{ℕ, _+_, _≤_, _<_, zero-le}
 use native.Mathlib.Omega.{arith}
 use borrow.Author.Needs.{needs}
 use lib.ListN.{getD}
-use Rattle.filter.specs.declared.Name.the-variants.{NtVer}
+use Rattle.filter.specs.declared.ClauseName.the-variants.{NtVer}
 use Rattle.filter.specs.Request.{names}
 use Rattle.filter_write.proofs.name_at.Statement.{statement}
 use Rattle.filter_write.proofs.name_at.Tie as tie

@@ -7,8 +7,8 @@ use lib.ListN.{length, drop, take, getD, length-take, length-drop, length-append
 use Rattle.octets.specs.Buffer.{over}
 use Rattle.octets.proofs.Laws.Buffer.{over-none, over-lent, over-length}
 use Rattle.filter.specs.declared.Clause.{Clause}
-use Rattle.filter.specs.declared.Name.{Name}
-use Rattle.filter.specs.declared.Name.the-variants.{NtVer}
+use Rattle.filter.specs.declared.ClauseName.{ClauseName}
+use Rattle.filter.specs.declared.ClauseName.the-variants.{NtVer}
 use Rattle.filter.specs.Request.{names, clause, octetsOf}
 use Rattle.filter_write.specs.Write.{equalityFor}
 use Rattle.filter_write.specs.Internal.Size.{contents}
@@ -63,7 +63,7 @@ module _ (c : tie.After-clause Inv-loop μ-loop) where
   as-meant : written ≡ meant
   as-meant =
       ap (λ (x : Clause). equalityFor (c .before .before .name-at .result) (octetsOf (c .before .before .before .before .before .before .before .args .source .now) x)) (c .clause .ensures)
-      ∙ ap (λ (n : Name). equalityFor n (octetsOf (c .before .before .before .before .before .before .before .args .source .now) (clause (c .before .before .before .before .before .before .before .args .request) n))) (c .before .before .name-at .ensures)
+      ∙ ap (λ (n : ClauseName). equalityFor n (octetsOf (c .before .before .before .before .before .before .before .args .source .now) (clause (c .before .before .before .before .before .before .before .args .request) n))) (c .before .before .name-at .ensures)
 
   fits : c .before .before .before .before .loop .at + length written ≤ length (contents (c .before .before .before .before .before .before .before .args .source .now) (c .before .before .before .before .before .before .before .args .request) names)
   fits =

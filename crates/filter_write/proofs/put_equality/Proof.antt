@@ -7,7 +7,7 @@ use borrow.Author.Needs.{needs}
 use lib.ListN.{length}
 use Rattle.octets.specs.Buffer.{over}
 use Rattle.octets.proofs.Laws.Buffer.{over-none}
-use Rattle.filter.specs.declared.Name.{Name}
+use Rattle.filter.specs.declared.ClauseName.{ClauseName}
 use Rattle.filter.specs.Request.{spelling, octetsOf}
 use Rattle.filter_write.specs.Write.{equalityFor}
 use Rattle.filter_write.specs.Internal.Size.{elementSize}
@@ -46,7 +46,7 @@ module _ (c : tie.After-element-size2) where
   abbrev octets : List ℕ
   octets = c .before .before .before .part .result .now
 
-  abbrev name : Name
+  abbrev name : ClauseName
   name = c .before .before .before .before .before .before .before .before .before .args .name
 
   pair-size : c .before .element-size .result + c .element-size2 .result ≡ elementSize (length (spelling name)) + elementSize (length octets)

@@ -3,7 +3,7 @@ use mathlib.Core.Bool.{cond}
 use mathlib.Core.List.{List, flatMap}
 use Prim.Native.Nat.{ℕ, _+_}
 use lib.Dec.{ltb}
-use Rattle.filter.specs.declared.Name.{Name}
+use Rattle.filter.specs.declared.ClauseName.{ClauseName}
 use Rattle.filter.specs.declared.Request.{Request}
 use Rattle.filter.specs.Request.{clause, octetsOf}
 use Rattle.filter_write.specs.Write.{equalityFor}
@@ -17,5 +17,5 @@ abbrev pub elementSize : ℕ → ℕ
 elementSize n = headSize n + n
 
 -- the equalities of the clauses that are present, by their names
-abbrev pub contents : List ℕ → Request → List Name → List ℕ
+abbrev pub contents : List ℕ → Request → List ClauseName → List ℕ
 contents source r ns = flatMap (λ name. equalityFor name (octetsOf source (clause r name))) ns

@@ -10,7 +10,7 @@ use lib.Seq.{getD-append-seam, drop-append-seam, drop-append-add, take-append-se
 use Rattle.octets.specs.Label.{labels, joined}
 use Rattle.octets.proofs.Laws.Label.{Plain, size, size-positive, labels-joined, joined-shorter}
 use Rattle.octets.specs.Lists.{first, cut}
-use Rattle.octets.proofs.Laws.Lists.{Every, true-not-false, every-append, every-weaken, found, not-found, Apart, apart-append}
+use Rattle.octets.proofs.Laws.Lists.{Every, true-not-false, every-append, every-weaken, found, not-found, Unique, unique-append}
 use Rattle.octets.specs.Number.{big, bigOctets, littleOctets}
 use Rattle.octets.proofs.Laws.Number.{big-back}
 use Rattle.octets.specs.Text.{same}
@@ -270,7 +270,7 @@ alike t u = same (t .text) (u .text)
 
 -- tails that a name adds: none like an earlier one, none like another of its own
 abbrev Fresh : List Tail → List (List ℕ) → List Tail → Type 0
-Fresh earlier ls ts = Every (λ u. (length (u .text) ≤ length (joined ls)) × Every (λ t. alike t u ≡ false) earlier) ts × Apart alike ts
+Fresh earlier ls ts = Every (λ u. (length (u .text) ≤ length (joined ls)) × Every (λ t. alike t u ≡ false) earlier) ts × Unique alike ts
 
 labels-fresh : (earlier : List Tail) (at : ℕ) (ls : List (List ℕ)) → Plain ls → Fresh earlier ls (labelsAt earlier at ls .tails)
 unfolding labelsAt
@@ -298,22 +298,22 @@ labels-fresh earlier at (l ∷ ls) plain =
         every-weaken P (λ u. same (joined (l ∷ ls)) (u .text) ≡ false) (λ u h. same-lengths (joined (l ∷ ls)) (u .text) (λ e. omega arith)) (rest .tails) (r .0) in
         (((omega arith, not-found (λ t. same (t .text) (joined (l ∷ ls))) earlier q), a), (b, r .1))
 
-names-apart : (texts : List (List ℕ)) (earlier : List Tail) (at : ℕ) → Every (λ text. Plain (labels text)) texts → Apart alike earlier
-    → Apart alike (earlier ++ namesAt earlier at texts .tails)
+names-unique : (texts : List (List ℕ)) (earlier : List Tail) (at : ℕ) → Every (λ text. Plain (labels text)) texts → Unique alike earlier
+    → Unique alike (earlier ++ namesAt earlier at texts .tails)
 unfolding namesAt nameAt
-names-apart [] earlier at plain old = rw (append-nil earlier) old
-names-apart (text ∷ texts) earlier at plain old =
+names-unique [] earlier at plain old = rw (append-nil earlier) old
+names-unique (text ∷ texts) earlier at plain old =
     let one : Writing = nameAt earlier at text in
     let new : Fresh earlier (labels text) (one .tails) = labels-fresh earlier at (labels text) (plain .0) in
     let none-like : Every (λ u. Every (λ t. alike t u ≡ false) earlier) (one .tails) =
     every-weaken (λ u. (length (u .text) ≤ length (joined (labels text))) × Every (λ t. alike t u ≡ false) earlier) (λ u. Every (λ t. alike t u ≡ false) earlier) (λ u h. h .1) (one .tails) (new .0) in
-    rw append-assoc at (names-apart texts (earlier ++ one .tails) (at + length (one .octets)) (plain .1) (apart-append alike earlier (one .tails) old (new .1) none-like))
+    rw append-assoc at (names-unique texts (earlier ++ one .tails) (at + length (one .octets)) (plain .1) (unique-append alike earlier (one .tails) old (new .1) none-like))
 
-pub written-once : (texts : List (List ℕ)) (at : ℕ) → Every (λ text. Plain (labels text)) texts → Apart alike (namesAt [] at texts .tails)
-written-once texts at plain = names-apart texts [] at plain tt
+pub written-once : (texts : List (List ℕ)) (at : ℕ) → Every (λ text. Plain (labels text)) texts → Unique alike (namesAt [] at texts .tails)
+written-once texts at plain = names-unique texts [] at plain tt
 
 -- where no two tails are alike, the first that fits is the only one, and so the lowest
-pub first-lowest : (tails : List Tail) (text : List ℕ) (t : Tail) → Apart alike tails → first (λ u. same (u .text) text) tails ≡ some t
+pub first-lowest : (tails : List Tail) (text : List ℕ) (t : Tail) → Unique alike tails → first (λ u. same (u .text) text) tails ≡ some t
     → Every (λ u. same (u .text) text ≡ true → t .offset ≤ u .offset) tails
 unfolding first
 first-lowest [] text t h e = tt

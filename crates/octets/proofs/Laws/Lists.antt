@@ -9,7 +9,7 @@ use native.Mathlib.Omega.{arith}
 use native.Mathlib.Numerals.{add-one}
 use lib.ListN.{length, getD, take, drop, length-take, length-drop, drop-of-length-le}
 use lib.Seq.{drop-cons, getD-take, getD-drop, take-take, drop-drop, take-nil, drop-nil, take-all, take-append-seam, drop-append-seam, take-append-le, drop-append-le, length-take-le}
-use Rattle.octets.specs.Lists.{all, any, first, firstOr, keep, keepIf, cut, pieces, apart, isSome}
+use Rattle.octets.specs.Lists.{all, any, first, firstOr, keep, keepIf, cut, pieces, unique, isSome}
 
 module _ {A : Type 0} where
   module _ (p : A → Bool) (s : List A) (i : ℕ) (d : A) (h : i < length s) where
@@ -230,21 +230,21 @@ none-any p (x ∷ xs) h = rw (h .0, none-any p xs (h .1))
 
 -- no two alike, one list behind the other: each by itself, and none of the one like any of the other
 module _ {A : Type 0} (alike : A → A → Bool) where
-  abbrev pub Apart : List A → Type 0
-  Apart [] = Unit {0}
-  Apart (x ∷ xs) = Every (λ y. alike x y ≡ false) xs × Apart xs
+  abbrev pub Unique : List A → Type 0
+  Unique [] = Unit {0}
+  Unique (x ∷ xs) = Every (λ y. alike x y ≡ false) xs × Unique xs
 
-  pub apart-append : (xs ys : List A) → Apart xs → Apart ys → Every (λ y. Every (λ x. alike x y ≡ false) xs) ys → Apart (xs ++ ys)
-  apart-append [] ys h k c = k
-  apart-append (x ∷ xs) ys h k c = (
+  pub unique-append : (xs ys : List A) → Unique xs → Unique ys → Every (λ y. Every (λ x. alike x y ≡ false) xs) ys → Unique (xs ++ ys)
+  unique-append [] ys h k c = k
+  unique-append (x ∷ xs) ys h k c = (
     every-append (λ y. alike x y ≡ false) xs ys (h .0) (every-weaken (λ y. Every (λ z. alike z y ≡ false) (x ∷ xs)) (λ y. alike x y ≡ false) (λ y q. q .0) ys c),
-    apart-append xs ys (h .1) k (every-weaken (λ y. Every (λ z. alike z y ≡ false) (x ∷ xs)) (λ y. Every (λ z. alike z y ≡ false) xs) (λ y q. q .1) ys c),
+    unique-append xs ys (h .1) k (every-weaken (λ y. Every (λ z. alike z y ≡ false) (x ∷ xs)) (λ y. Every (λ z. alike z y ≡ false) xs) (λ y q. q .1) ys c),
   )
 
-  pub apart-tested : (xs : List A) → Apart xs → apart alike xs ≡ true
-  unfolding apart
-  apart-tested [] h = refl
-  apart-tested (x ∷ xs) h = rw (none-any (alike x) xs (h .0), apart-tested xs (h .1))
+  pub unique-tested : (xs : List A) → Unique xs → unique alike xs ≡ true
+  unfolding unique
+  unique-tested [] h = refl
+  unique-tested (x ∷ xs) h = rw (none-any (alike x) xs (h .0), unique-tested xs (h .1))
 
 pub every-map : {A B : Type 0} (f : B → A) (P : B → Type 0) (Q : A → Type 0) → ((x : B) → P x → Q (f x)) → (xs : List B) → Every P xs → Every Q (map f xs)
 every-map f P Q g [] h = tt
@@ -392,28 +392,28 @@ module _ {A : Type 0} where
   any-end p s i h = rw (drop-of-length-le s)
 
   module _ (alike : A → A → Bool) (s : List A) (i : ℕ) (d : A) (h : i < length s) where
-    apart-step : apart alike (drop i s) ≡ (not (any (alike (getD s i d)) (drop (i + 1) s)) && apart alike (drop (i + 1) s))
-    unfolding apart
-    apart-step = rw (add-one, drop-cons s i d)
+    unique-step : unique alike (drop i s) ≡ (not (any (alike (getD s i d)) (drop (i + 1) s)) && unique alike (drop (i + 1) s))
+    unfolding unique
+    unique-step = rw (add-one, drop-cons s i d)
 
     -- what is left at i: one behind the element there is like it
-    pub apart-fails : any (alike (getD s i d)) (drop (i + 1) s) ≡ true → false ≡ apart alike (drop i s)
-    apart-fails e = sym (apart-step ∙ ap (λ b. not b && apart alike (drop (i + 1) s)) e)
+    pub unique-fails : any (alike (getD s i d)) (drop (i + 1) s) ≡ true → false ≡ unique alike (drop i s)
+    unique-fails e = sym (unique-step ∙ ap (λ b. not b && unique alike (drop (i + 1) s)) e)
 
     -- none is, and what is left behind it decides
-    pub apart-next : any (alike (getD s i d)) (drop (i + 1) s) ≡ false → apart alike (drop (i + 1) s) ≡ apart alike (drop i s)
-    apart-next e = sym (apart-step ∙ ap (λ b. not b && apart alike (drop (i + 1) s)) e)
+    pub unique-next : any (alike (getD s i d)) (drop (i + 1) s) ≡ false → unique alike (drop (i + 1) s) ≡ unique alike (drop i s)
+    unique-next e = sym (unique-step ∙ ap (λ b. not b && unique alike (drop (i + 1) s)) e)
 
-  pub apart-end : (alike : A → A → Bool) (s : List A) (i : ℕ) → length s ≤ i → true ≡ apart alike (drop i s)
-  unfolding apart
-  apart-end alike s i h = rw (drop-of-length-le s)
+  pub unique-end : (alike : A → A → Bool) (s : List A) (i : ℕ) → length s ≤ i → true ≡ unique alike (drop i s)
+  unfolding unique
+  unique-end alike s i h = rw (drop-of-length-le s)
 
   -- two alike in what is left are two alike
-  pub apart-part : (alike : A → A → Bool) (s : List A) (i : ℕ) → false ≡ apart alike (drop i s) → false ≡ apart alike s
-  unfolding apart
-  apart-part alike s zero e = e
-  apart-part alike [] (suc i) e = e
-  apart-part alike (x ∷ s) (suc i) e = sym (ap (λ b. not (any (alike x) s) && b) (sym (apart-part alike s i e)) ∙ and-false (not (any (alike x) s)))
+  pub unique-part : (alike : A → A → Bool) (s : List A) (i : ℕ) → false ≡ unique alike (drop i s) → false ≡ unique alike s
+  unfolding unique
+  unique-part alike s zero e = e
+  unique-part alike [] (suc i) e = e
+  unique-part alike (x ∷ s) (suc i) e = sym (ap (λ b. not (any (alike x) s) && b) (sym (unique-part alike s i e)) ∙ and-false (not (any (alike x) s)))
 
   -- two tests of each element, or of some, are one
   pub all-both : (p q : A → Bool) (s : List A) → (all p s && all q s) ≡ all (λ x. p x && q x) s
@@ -439,12 +439,12 @@ module _ {A : Type 0} where
       swap false false c e = refl
 
   -- two ways of being alike are one
-  pub apart-either : (a b : A → A → Bool) (s : List A) → (apart a s && apart b s) ≡ apart (λ x y. a x y || b x y) s
-  unfolding apart
-  apart-either a b [] = refl
-  apart-either a b (x ∷ s) =
-      swap (any (a x) s) (apart a s) (any (b x) s) (apart b s)
-      ∙ ap₂ (λ t u. not t && u) (any-either (a x) (b x) s) (apart-either a b s)
+  pub unique-either : (a b : A → A → Bool) (s : List A) → (unique a s && unique b s) ≡ unique (λ x y. a x y || b x y) s
+  unfolding unique
+  unique-either a b [] = refl
+  unique-either a b (x ∷ s) =
+      swap (any (a x) s) (unique a s) (any (b x) s) (unique b s)
+      ∙ ap₂ (λ t u. not t && u) (any-either (a x) (b x) s) (unique-either a b s)
     where
       swap : (t u v w : Bool) → ((not t && u) && (not v && w)) ≡ (not (t || v) && (u && w))
       swap true u v w = refl
@@ -464,7 +464,7 @@ module _ {A B : Type 0} (f : A → B) where
   any-map p [] = refl
   any-map p (x ∷ s) = ap (λ b. p (f x) || b) (any-map p s)
 
-  pub apart-map : (alike : B → B → Bool) (s : List A) → apart alike (map f s) ≡ apart (λ x y. alike (f x) (f y)) s
-  unfolding apart
-  apart-map alike [] = refl
-  apart-map alike (x ∷ s) = ap₂ (λ t u. not t && u) (any-map (alike (f x)) s) (apart-map alike s)
+  pub unique-map : (alike : B → B → Bool) (s : List A) → unique alike (map f s) ≡ unique (λ x y. alike (f x) (f y)) s
+  unfolding unique
+  unique-map alike [] = refl
+  unique-map alike (x ∷ s) = ap₂ (λ t u. not t && u) (any-map (alike (f x)) s) (unique-map alike s)

@@ -17,7 +17,7 @@ use Rattle.octets.specs.Utf8.{Inside, Step, bad, point, more, lead, clos
 pub record Scalar (c : ℕ) : Type 0 where
   pub some : 1 ≤ c
   pub below : c < 0x110000
-  pub apart : 0xD800 ≤ c → 0xE000 ≤ c
+  pub unique : 0xD800 ≤ c → 0xE000 ≤ c
 
 -- the units that a code point takes in UTF-16
 abbrev pub units : ℕ → ℕ

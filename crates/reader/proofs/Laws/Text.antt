@@ -32,7 +32,7 @@ plain-unit c f = split (ltb c 0xD800) refl
         rw (ne-eqb c 0 nonzero, lt-leb 0xD800 c h, lt-leb 0xDC00 c (omega arith))
     split false e =
         let h : 0xD800 ≤ c = ltb-false c 0xD800 e in
-        let g : 0xE000 ≤ c = f .apart h in
+        let g : 0xE000 ≤ c = f .unique h in
         rw (ne-eqb c 0 nonzero, le-leb 0xD800 c h, lt-leb c 0xDBFF (omega arith), le-leb 0xDC00 c (omega arith), lt-leb c 0xDFFF (omega arith))
 
 high-unit : (u : ℕ) → 0xD800 ≤ u → u ≤ 0xDBFF → unitOf u ≡ high

@@ -8,7 +8,7 @@ use native.Mathlib.Omega.{arith}
 use lib.Dec.{eqb}
 use lib.ListN.{length, getD, length-take}
 use borrow.Author.Tests.{eq-eqb, ne-eqb, eqb-false}
-use Rattle.octets.specs.Lists.{first, keep, any, apart, pieces}
+use Rattle.octets.specs.Lists.{first, keep, any, unique, pieces}
 use Rattle.octets.proofs.Laws.Lists.{first-map, first-keep, pieces-one}
 use Rattle.octets.specs.Text.{allZero}
 use Rattle.table.specs.declared.ContextNumber.{ContextNumber}
@@ -17,7 +17,7 @@ use Rattle.table.specs.Layout.{body}
 use Rattle.table.specs.Records.{Site, sameContext, sameSite, contextOf, accountOf, siteOf, subnetOf}
 use Rattle.table.specs.Table.{Table, bodies, recordsOf, tableOf}
 use Rattle.table.specs.SameName.{sameAccountName}
-use Rattle.table_whole.specs.Whole.{sitesApart}
+use Rattle.table_whole.specs.Whole.{sitesUnique}
 use Rattle.table_find.specs.declared.search.ContextKey.{ContextKey}
 use Rattle.table_find.specs.declared.search.SiteKey.{SiteKey}
 use Rattle.table_find.specs.declared.search.SiteKey.the-variants.{Any, OtherThan}
@@ -73,8 +73,8 @@ skip-own q s rest e =
     let same : q ≡ s = cc in
     rw (eq-eqb (q .number .0) (s .number .0) (ap (λ (x : Site). x .number .0) same))
 
-numbers-differ : (r q : Site) (rest : List Site) → sitesApart (r ∷ q ∷ rest) ≡ true → sameSite (r .number) (q .number) ≡ false
-unfolding sitesApart apart any
+numbers-differ : (r q : Site) (rest : List Site) → sitesUnique (r ∷ q ∷ rest) ≡ true → sameSite (r .number) (q .number) ≡ false
+unfolding sitesUnique unique any
 numbers-differ r q rest h = go (sameSite (r .number) (q .number)) refl
   where
     go : (b : Bool) → sameSite (r .number) (q .number) ≡ b → b ≡ false
@@ -89,17 +89,17 @@ no-site t caller (s ∷ rest) e = absurd (let z : _≡_ {A = ℕ} 0 1 = cc in om
 
 -- no other site is there: the first is the only one
 pub lone-site : (t : Table) (caller : Caller) (sites : List Site) (s : Site)
-    → sitesApart sites ≡ true
+    → sitesUnique sites ≡ true
     → some s ≡ first (isSite Any) sites
     → none ≡ first (isSite (OtherThan (s .number))) sites
     → some s ≡ siteFor t caller sites
 unfolding first
-lone-site t caller [] s apart e f = absurd (let z : _≡_ {A = ℕ} 0 1 = cc in omega arith)
-lone-site t caller (r ∷ []) s apart e f = e
-lone-site t caller (r ∷ q ∷ rest) s apart e f =
+lone-site t caller [] s unique e f = absurd (let z : _≡_ {A = ℕ} 0 1 = cc in omega arith)
+lone-site t caller (r ∷ []) s unique e f = e
+lone-site t caller (r ∷ q ∷ rest) s unique e f =
     let same : r ≡ s = cc in
     let differ : sameSite (q .number) (s .number) ≡ false =
-    ne-eqb (q .number .0) (s .number .0) (λ z. eqb-false (r .number .0) (q .number .0) (numbers-differ r q rest apart) (ap (λ (x : Site). x .number .0) same ∙ sym z)) in
+    ne-eqb (q .number .0) (s .number .0) (λ z. eqb-false (r .number .0) (q .number .0) (numbers-differ r q rest unique) (ap (λ (x : Site). x .number .0) same ∙ sym z)) in
     let other : none ≡ some q = f ∙ skip-own r s (q ∷ rest) e ∙ rw differ in
     absurd (let z : _≡_ {A = ℕ} 0 1 = cc in omega arith)
 

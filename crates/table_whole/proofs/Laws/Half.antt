@@ -8,8 +8,8 @@ use native.Mathlib.Omega.{arith}
 use lib.Dec.{eqb, leb}
 use lib.ListN.{length, getD, length-map}
 use borrow.Author.Tests.{le-leb, lt-leb}
-use Rattle.octets.specs.Lists.{all, any, apart, cut, holds}
-use Rattle.octets.proofs.Laws.Lists.{all-map, any-map, apart-map, all-both, apart-either}
+use Rattle.octets.specs.Lists.{all, any, unique, cut, holds}
+use Rattle.octets.proofs.Laws.Lists.{all-map, any-map, unique-map, all-both, unique-either}
 use Rattle.octets.specs.Number.{u16At}
 use Rattle.octets.specs.Text.{same, within}
 use Rattle.table.specs.SameName.{sameDnsName}
@@ -17,7 +17,7 @@ use Rattle.table.specs.Layout.{body}
 use Rattle.table.specs.Records.{contextOf, accountOf, siteOf, subnetOf, serverOf, contextNumber, siteNumber, siteOrNone, sameContext, sameSite}
 use Rattle.table.specs.Table.{Table, blockAt, blocksOf, bodies, recordsOf, tableOf, tableFrom}
 use Rattle.table.proofs.Laws.Table.{block-there}
-use Rattle.table_whole.specs.Whole.{sameSid, contextsApart, accountsApart, sitesApart, hasContext, hasSite, noneOr, refersRightly, goodWhole}
+use Rattle.table_whole.specs.Whole.{sameSid, contextsUnique, accountsUnique, sitesUnique, hasContext, hasSite, noneOr, refersRightly, goodWhole}
 use Rattle.table_whole.specs.declared.alike.Likeness.the-variants.{Contexts, Accounts}
 use Rattle.table_whole.specs.declared.refer.Reference.the-variants.{AccountContext, NextSite, SubnetSite}
 use Rattle.table_whole.specs.Internal.Alike.{alikeAt, contextsAlike}
@@ -34,8 +34,8 @@ module _ {A : Type 0} (f : List ℕ → A) (image : List ℕ) (w : ℕ) (places 
   any-at : (p : A → Bool) → any (λ q. p (f (cut image q w))) places ≡ any p (map f records)
   any-at p = sym (ap (λ (rs : List (List ℕ)). any p (map f rs)) (sym e) ∙ any-map f p (recordsAt image w places) ∙ any-map (λ q. cut image q w) (λ r. p (f r)) places)
 
-  apart-at : (alike : A → A → Bool) → apart (λ p q. alike (f (cut image p w)) (f (cut image q w))) places ≡ apart alike (map f records)
-  apart-at alike = sym (ap (λ (rs : List (List ℕ)). apart alike (map f rs)) (sym e) ∙ apart-map f alike (recordsAt image w places) ∙ apart-map (λ q. cut image q w) (λ r s. alike (f r) (f s)) places)
+  unique-at : (alike : A → A → Bool) → unique (λ p q. alike (f (cut image p w)) (f (cut image q w))) places ≡ unique alike (map f records)
+  unique-at alike = sym (ap (λ (rs : List (List ℕ)). unique alike (map f rs)) (sym e) ∙ unique-map f alike (recordsAt image w places) ∙ unique-map (λ q. cut image q w) (λ r s. alike (f r) (f s)) places)
 
 pub server-number : (image : List ℕ) (at : ℕ) → 512 ≤ length image → u16At (body (blockAt image 0)) at ≡ serverNumber (blocksOf image) at
 unfolding serverNumber
@@ -51,17 +51,17 @@ module _ (marks : List Bool) (image : List ℕ) (places : List ℕ) (e : records
       ap (λ (p : ℕ → Bool). all p places) (fun-ext (λ q. m .say (contextNumber (u16At (cut image q 84) 0))))
       ∙ all-at accountOf image 84 places (recordsOf 4 6 84 (blocksOf image)) e (λ a. hasContext (tableFrom image) (a .context))
 
-  accounts-apart : apart (alikeAt Accounts image 84) places ≡ accountsApart (tableFrom image .accounts)
-  unfolding tableOf accountsApart
-  accounts-apart = apart-at accountOf image 84 places (recordsOf 4 6 84 (blocksOf image)) e _
+  accounts-unique : unique (alikeAt Accounts image 84) places ≡ accountsUnique (tableFrom image .accounts)
+  unfolding tableOf accountsUnique
+  accounts-unique = unique-at accountOf image 84 places (recordsOf 4 6 84 (blocksOf image)) e _
 
   pub lost-account : ContextMarks marks (tableFrom image) → all (refersAt AccountContext marks image 84) places ≡ false → false ≡ goodAccounts (tableFrom image)
   unfolding goodAccounts
-  lost-account m f = sym (ap (λ (b : Bool). b && accountsApart (tableFrom image .accounts)) (sym (accounts-refer m) ∙ f))
+  lost-account m f = sym (ap (λ (b : Bool). b && accountsUnique (tableFrom image .accounts)) (sym (accounts-refer m) ∙ f))
 
-  pub accounts-left : ContextMarks marks (tableFrom image) → all (refersAt AccountContext marks image 84) places ≡ true → apart (alikeAt Accounts image 84) places ≡ goodAccounts (tableFrom image)
+  pub accounts-left : ContextMarks marks (tableFrom image) → all (refersAt AccountContext marks image 84) places ≡ true → unique (alikeAt Accounts image 84) places ≡ goodAccounts (tableFrom image)
   unfolding goodAccounts
-  accounts-left m f = accounts-apart ∙ sym (ap (λ (b : Bool). b && accountsApart (tableFrom image .accounts)) (sym (accounts-refer m) ∙ f))
+  accounts-left m f = accounts-unique ∙ sym (ap (λ (b : Bool). b && accountsUnique (tableFrom image .accounts)) (sym (accounts-refer m) ∙ f))
 
 -- marks of context numbers, and of site numbers
 module _ (marks : List Bool) (image : List ℕ) (places : List ℕ) (size : length marks ≡ 65536) where
@@ -83,38 +83,38 @@ module _ (marks : List Bool) (image : List ℕ) (places : List ℕ) (size : leng
 
 -- contexts, test by test
 module _ (image : List ℕ) (places : List ℕ) (e : recordsAt image 504 places ≡ bodies 3 (blocksOf image)) where
-  contexts-apart : contextsApart (tableFrom image .contexts) ≡ (apart (sameNumber image 504) places && apart (alikeAt Contexts image 504) places)
-  unfolding tableOf contextOf contextsApart
-  contexts-apart =
+  contexts-unique : contextsUnique (tableFrom image .contexts) ≡ (unique (sameNumber image 504) places && unique (alikeAt Contexts image 504) places)
+  unfolding tableOf contextOf contextsUnique
+  contexts-unique =
       let cs = tableFrom image .contexts in
-      let number = apart (λ c d. sameContext (c .number) (d .number)) cs in
-      let guid = apart (λ c d. same (c .guid) (d .guid)) cs in
-      let sid = apart (λ c d. sameSid (c .sid) (d .sid)) cs in
-      let dns = apart (λ c d. sameDnsName (c .dns) (d .dns)) cs in
+      let number = unique (λ c d. sameContext (c .number) (d .number)) cs in
+      let guid = unique (λ c d. same (c .guid) (d .guid)) cs in
+      let sid = unique (λ c d. sameSid (c .sid) (d .sid)) cs in
+      let dns = unique (λ c d. sameDnsName (c .dns) (d .dns)) cs in
       shift number guid sid dns
       ∙ ap₂ (λ (m n : Bool). m && n)
-      (sym (apart-at contextOf image 504 places (bodies 3 (blocksOf image)) e (λ c d. sameContext (c .number) (d .number))))
-      (ap (λ (b : Bool). b && dns) (apart-either (λ c d. same (c .guid) (d .guid)) (λ c d. sameSid (c .sid) (d .sid)) cs)
-      ∙ apart-either (λ c d. same (c .guid) (d .guid) || sameSid (c .sid) (d .sid)) (λ c d. sameDnsName (c .dns) (d .dns)) cs
-      ∙ sym (apart-at contextOf image 504 places (bodies 3 (blocksOf image)) e contextsAlike))
+      (sym (unique-at contextOf image 504 places (bodies 3 (blocksOf image)) e (λ c d. sameContext (c .number) (d .number))))
+      (ap (λ (b : Bool). b && dns) (unique-either (λ c d. same (c .guid) (d .guid)) (λ c d. sameSid (c .sid) (d .sid)) cs)
+      ∙ unique-either (λ c d. same (c .guid) (d .guid) || sameSid (c .sid) (d .sid)) (λ c d. sameDnsName (c .dns) (d .dns)) cs
+      ∙ sym (unique-at contextOf image 504 places (bodies 3 (blocksOf image)) e contextsAlike))
     where
       shift : (a b c d : Bool) → (((a && b) && c) && d) ≡ (a && ((b && c) && d))
       shift true b c d = refl
       shift false b c d = refl
 
   contexts-tests : goodContexts (tableFrom image)
-      ≡ (((apart (sameNumber image 504) places && apart (alikeAt Contexts image 504) places) && hasContext (tableFrom image) (tableFrom image .server .defaultContext)) && goodAccounts (tableFrom image))
+      ≡ (((unique (sameNumber image 504) places && unique (alikeAt Contexts image 504) places) && hasContext (tableFrom image) (tableFrom image .server .defaultContext)) && goodAccounts (tableFrom image))
   unfolding goodContexts
-  contexts-tests = ap (λ (b : Bool). (b && hasContext (tableFrom image) (tableFrom image .server .defaultContext)) && goodAccounts (tableFrom image)) contexts-apart
+  contexts-tests = ap (λ (b : Bool). (b && hasContext (tableFrom image) (tableFrom image .server .defaultContext)) && goodAccounts (tableFrom image)) contexts-unique
 
-  pub contexts-number : apart (sameNumber image 504) places ≡ false → false ≡ goodContexts (tableFrom image)
+  pub contexts-number : unique (sameNumber image 504) places ≡ false → false ≡ goodContexts (tableFrom image)
   contexts-number a = rw (contexts-tests, a)
 
-  module _ (a : apart (sameNumber image 504) places ≡ true) where
-    pub contexts-alike : apart (alikeAt Contexts image 504) places ≡ false → false ≡ goodContexts (tableFrom image)
+  module _ (a : unique (sameNumber image 504) places ≡ true) where
+    pub contexts-alike : unique (alikeAt Contexts image 504) places ≡ false → false ≡ goodContexts (tableFrom image)
     contexts-alike b = rw (contexts-tests, a, b)
 
-    module _ (b : apart (alikeAt Contexts image 504) places ≡ true) where
+    module _ (b : unique (alikeAt Contexts image 504) places ≡ true) where
       pub contexts-default : hasContext (tableFrom image) (tableFrom image .server .defaultContext) ≡ false → false ≡ goodContexts (tableFrom image)
       contexts-default d = rw (contexts-tests, a, b, d)
 
@@ -176,9 +176,9 @@ subnets-refer marks image places e m =
 
 -- sites, test by test
 module _ (image : List ℕ) (places : List ℕ) (e : recordsAt image 72 places ≡ recordsOf 5 7 72 (blocksOf image)) where
-  sites-apart : sitesApart (tableFrom image .sites) ≡ apart (sameNumber image 72) places
-  unfolding tableOf siteOf sitesApart
-  sites-apart = sym (apart-at siteOf image 72 places (recordsOf 5 7 72 (blocksOf image)) e (λ s t. sameSite (s .number) (t .number)))
+  sites-unique : sitesUnique (tableFrom image .sites) ≡ unique (sameNumber image 72) places
+  unfolding tableOf siteOf sitesUnique
+  sites-unique = sym (unique-at siteOf image 72 places (recordsOf 5 7 72 (blocksOf image)) e (λ s t. sameSite (s .number) (t .number)))
 
   pub next-refer : (marks : List Bool) → SiteMarks marks (tableFrom image) → all (refersAt NextSite marks image 72) places ≡ goodNext (tableFrom image)
   unfolding tableOf siteOf goodNext
@@ -189,14 +189,14 @@ module _ (image : List ℕ) (places : List ℕ) (e : recordsAt image 72 places �
       ∙ sym (all-both (λ s. noneOr (hasSite t) (s .next)) (λ s. not (holds (sameSite (s .number)) (s .next))) (t .sites))
 
   sites-tests : goodSites (tableFrom image)
-      ≡ (((apart (sameNumber image 72) places && hasSite (tableFrom image) (tableFrom image .server .site)) && goodNext (tableFrom image)) && goodSubnets (tableFrom image))
+      ≡ (((unique (sameNumber image 72) places && hasSite (tableFrom image) (tableFrom image .server .site)) && goodNext (tableFrom image)) && goodSubnets (tableFrom image))
   unfolding goodSites
-  sites-tests = ap (λ (b : Bool). ((b && hasSite (tableFrom image) (tableFrom image .server .site)) && goodNext (tableFrom image)) && goodSubnets (tableFrom image)) sites-apart
+  sites-tests = ap (λ (b : Bool). ((b && hasSite (tableFrom image) (tableFrom image .server .site)) && goodNext (tableFrom image)) && goodSubnets (tableFrom image)) sites-unique
 
-  pub sites-number : apart (sameNumber image 72) places ≡ false → false ≡ goodSites (tableFrom image)
+  pub sites-number : unique (sameNumber image 72) places ≡ false → false ≡ goodSites (tableFrom image)
   sites-number a = rw (sites-tests, a)
 
-  module _ (a : apart (sameNumber image 72) places ≡ true) where
+  module _ (a : unique (sameNumber image 72) places ≡ true) where
     pub sites-own : hasSite (tableFrom image) (tableFrom image .server .site) ≡ false → false ≡ goodSites (tableFrom image)
     sites-own b = rw (sites-tests, a, b)
 
@@ -226,9 +226,9 @@ halves t =
     go
     (within 1 16 (length (t .contexts)))
     (leb 1 (length (t .sites)))
-    (contextsApart (t .contexts))
-    (sitesApart (t .sites))
-    (accountsApart (t .accounts))
+    (contextsUnique (t .contexts))
+    (sitesUnique (t .sites))
+    (accountsUnique (t .accounts))
     (hasSite t (t .server .site))
     (hasContext t (t .server .defaultContext))
     (all (λ a. hasContext t (a .context)) (t .accounts))

@@ -8,8 +8,8 @@ use lib.Dec.{eqb}
 use lib.ListN.{length, getD, drop, set, replicate}
 use lib.Seq.{drop-cons, drop-length, getD-set-same, getD-set-other}
 use borrow.Author.Tests.{eqb-true, eqb-false, eq-eqb, ne-eqb}
-use Rattle.octets.specs.Lists.{any, apart}
-use Rattle.octets.proofs.Laws.Lists.{apart-fails, apart-next, apart-part}
+use Rattle.octets.specs.Lists.{any, unique}
+use Rattle.octets.proofs.Laws.Lists.{unique-fails, unique-next, unique-part}
 use Rattle.table_whole.specs.Internal.Mark.{numberAt, sameNumber, Marked, Seen}
 
 eqb-comm : (m n : ℕ) → eqb m n ≡ eqb n m
@@ -29,11 +29,11 @@ unfolding any
 marked-none image w k = none-marked 65536 k
 
 pub seen-none : (marks : List Bool) (image : List ℕ) (w : ℕ) (places : List ℕ) → Marked marks image w [] → Seen marks image w places (length places)
-unfolding apart
+unfolding unique
 seen-none marks image w places none =
     record {
       marked = subst (Marked marks image w) (sym (drop-length places)) none;
-      unique = ap (apart (sameNumber image w)) (drop-length places);
+      unique = ap (unique (sameNumber image w)) (drop-length places);
     }
 
 -- one number more: the record before those seen
@@ -44,8 +44,8 @@ module _ (marks : List Bool) (image : List ℕ) (w : ℕ) (places : List ℕ) (i
       seen .marked n
       ∙ ap (λ (p : ℕ → Bool). any p (drop (i + 1) places)) (fun-ext (λ p. eqb-comm (numberAt image w p) n ∙ ap (λ (k : ℕ). eqb k (numberAt image w p)) e))
 
-  pub seen-twice : getD marks n false ≡ true → false ≡ apart (sameNumber image w) places
-  seen-twice t = apart-part (sameNumber image w) places i (apart-fails (sameNumber image w) places i 0 h (sym mark-behind ∙ t))
+  pub seen-twice : getD marks n false ≡ true → false ≡ unique (sameNumber image w) places
+  seen-twice t = unique-part (sameNumber image w) places i (unique-fails (sameNumber image w) places i 0 h (sym mark-behind ∙ t))
 
   mark-one : n < length marks → Marked (set marks n true) image w (drop i places)
   unfolding any
@@ -63,5 +63,5 @@ module _ (marks : List Bool) (image : List ℕ) (w : ℕ) (places : List ℕ) (i
   seen-once t fits =
       record {
         marked = mark-one fits;
-        unique = sym (apart-next (sameNumber image w) places i 0 h (sym mark-behind ∙ t)) ∙ seen .unique;
+        unique = sym (unique-next (sameNumber image w) places i 0 h (sym mark-behind ∙ t)) ∙ seen .unique;
       }

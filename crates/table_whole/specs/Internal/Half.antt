@@ -13,7 +13,7 @@ use Rattle.table.specs.declared.SiteNumber.{SiteNumber}
 use Rattle.table.specs.Layout.{body}
 use Rattle.table.specs.Records.{sameSite}
 use Rattle.table.specs.Table.{Table}
-use Rattle.table_whole.specs.Whole.{contextsApart, accountsApart, sitesApart, hasContext, hasSite, noneOr}
+use Rattle.table_whole.specs.Whole.{contextsUnique, accountsUnique, sitesUnique, hasContext, hasSite, noneOr}
 
 -- marks that say of each number whether the table has such a context, or such a site
 pub record ContextMarks (marks : List Bool) (t : Table) : Type 0 where
@@ -29,10 +29,10 @@ unfoldable pub serverNumber : List (List ℕ) → ℕ → ℕ
 serverNumber blocks at = u16At (body (getD blocks 0 [])) at
 
 unfoldable pub goodAccounts : Table → Bool
-goodAccounts t = all (λ a. hasContext t (a .context)) (t .accounts) && accountsApart (t .accounts)
+goodAccounts t = all (λ a. hasContext t (a .context)) (t .accounts) && accountsUnique (t .accounts)
 
 unfoldable pub goodContexts : Table → Bool
-goodContexts t = contextsApart (t .contexts) && hasContext t (t .server .defaultContext) && goodAccounts t
+goodContexts t = contextsUnique (t .contexts) && hasContext t (t .server .defaultContext) && goodAccounts t
 
 unfoldable pub contextHalf : Table → Bool
 contextHalf t = within 1 16 (length (t .contexts)) && goodContexts t
@@ -44,7 +44,7 @@ unfoldable pub goodSubnets : Table → Bool
 goodSubnets t = all (λ n. noneOr (hasSite t) (n .site)) (t .subnets)
 
 unfoldable pub goodSites : Table → Bool
-goodSites t = sitesApart (t .sites) && hasSite t (t .server .site) && goodNext t && goodSubnets t
+goodSites t = sitesUnique (t .sites) && hasSite t (t .server .site) && goodNext t && goodSubnets t
 
 unfoldable pub siteHalf : Table → Bool
 siteHalf t = leb 1 (length (t .sites)) && goodSites t

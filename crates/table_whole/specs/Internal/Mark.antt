@@ -5,7 +5,7 @@ use mathlib.Core.List.{List}
 use Prim.Native.Nat.{ℕ}
 use lib.Dec.{eqb}
 use lib.ListN.{getD, drop}
-use Rattle.octets.specs.Lists.{any, apart, cut}
+use Rattle.octets.specs.Lists.{any, unique, cut}
 use Rattle.octets.specs.Number.{u16At}
 
 -- the number that the record at a place starts with
@@ -22,4 +22,4 @@ Marked marks image w places = (k : ℕ) → getD marks k false ≡ any (λ p. eq
 -- from a place on, all numbers are marked, and no two are the same
 pub record Seen (marks : List Bool) (image : List ℕ) (w : ℕ) (places : List ℕ) (left : ℕ) : Type 0 where
   pub marked : Marked marks image w (drop left places)
-  pub unique : apart (sameNumber image w) (drop left places) ≡ true
+  pub unique : unique (sameNumber image w) (drop left places) ≡ true

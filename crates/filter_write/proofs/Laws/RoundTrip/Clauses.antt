@@ -10,12 +10,12 @@ use native.Mathlib.Omega.{arith}
 use borrow.Author.Tests.{eq-eqb, ne-eqb, not-true}
 use lib.Dec.{eqb}
 use lib.ListN.{length, drop, length-append}
-use Rattle.octets.specs.Lists.{any, first, firstOr, apart, isSome, cut}
+use Rattle.octets.specs.Lists.{any, first, firstOr, unique, isSome, cut}
 use Rattle.octets.proofs.Laws.Lists.{first-any, any-ext, both-left, both-right, neither-left, neither-right}
 use Rattle.octets.specs.Text.{sameFolded}
 use Rattle.octets.proofs.Laws.Text.{folded-sym}
 use Rattle.filter.specs.declared.Found.{Found}
-use Rattle.filter.specs.declared.Name.{Name}
+use Rattle.filter.specs.declared.ClauseName.{ClauseName}
 use Rattle.filter.specs.Internal.Gather.{place}
 use Rattle.filter.proofs.Laws.Gather.{place-eq, spelled, names-any}
 use Rattle.filter.specs.Request.{names, spelling, octetsOf}
@@ -25,25 +25,25 @@ use Rattle.filter_write.specs.Write.{equalityFor}
 use Rattle.filter_write.proofs.Laws.Size.{equality-length, head-bounds}
 use Rattle.filter_write.proofs.Laws.RoundTrip.Elements.{Again, equality-back, behind}
 
-module _ (s : List ℕ) (value : Name → Option (List ℕ)) where
-  abbrev pub written : List Name → List ℕ
+module _ (s : List ℕ) (value : ClauseName → Option (List ℕ)) where
+  abbrev pub written : List ClauseName → List ℕ
   written ns = flatMap (λ name. equalityFor name (value name)) ns
 
   -- clauses that were found tell the names that have a value, in order
-  pub data Tells : List Name → List Found → Type 0 where
+  pub data Tells : List ClauseName → List Found → Type 0 where
     nothing : Tells [] []
-    skips : {n : Name} {ns : List Name} {fs : List Found} → value n ≡ none → Tells ns fs → Tells (n ∷ ns) fs
-    finds : {n : Name} {ns : List Name} {fs : List Found} (f : Found) (v : List ℕ) → value n ≡ some v → nameOf s f ≡ spelling n → cut s (f .start) (f .len) ≡ v → Tells ns fs → Tells (n ∷ ns) (f ∷ fs)
+    skips : {n : ClauseName} {ns : List ClauseName} {fs : List Found} → value n ≡ none → Tells ns fs → Tells (n ∷ ns) fs
+    finds : {n : ClauseName} {ns : List ClauseName} {fs : List Found} (f : Found) (v : List ℕ) → value n ≡ some v → nameOf s f ≡ spelling n → cut s (f .start) (f .len) ≡ v → Tells ns fs → Tells (n ∷ ns) (f ∷ fs)
 
   -- an equality takes octets
-  pub some-length : (n : Name) (v : List ℕ) → 0 < length (equalityFor n (some v))
+  pub some-length : (n : ClauseName) (v : List ℕ) → 0 < length (equalityFor n (some v))
   some-length n v =
       let l = equality-length n v in
       let b = head-bounds (length (spelling n)) in
       let c = head-bounds (length v) in
       omega arith
 
-  none-left : (ns : List Name) → length (written ns) ≡ 0 → Tells ns []
+  none-left : (ns : List ClauseName) → length (written ns) ≡ 0 → Tells ns []
   unfolding flatMap
   none-left [] e = nothing
   none-left (n ∷ ns) e = by (value n) refl e (none-left ns)
@@ -56,21 +56,21 @@ module _ (s : List ℕ) (value : Name → Option (List ℕ)) where
           absurd (omega arith)
 
   -- what is found of the equalities from `at` to the end of the octets
-  pub record Found-again (d k at end : ℕ) (ns : List Name) : Type 0 where
+  pub record Found-again (d k at end : ℕ) (ns : List ClauseName) : Type 0 where
     pub clauses : List Found
     pub reads : siblings (andOf d) k s at end ≡ some clauses
     pub tells : Tells ns clauses
 
-  one-again : (d at end : ℕ) (n : Name) (v : List ℕ) (a : Again s at end n v) → one (andOf d) s (a .element) ≡ some (a .found ∷ [])
+  one-again : (d at end : ℕ) (n : ClauseName) (v : List ℕ) (a : Again s at end n v) → one (andOf d) s (a .element) ≡ some (a .found ∷ [])
   unfolding one
   one-again d at end n v a = rw (one, eq-eqb (a .element .tag) 0xA3 (a .tagged), a .reads)
 
-  abbrev Back : ℕ → List Name → Type 0
+  abbrev Back : ℕ → List ClauseName → Type 0
   Back d ns =
       (k at end : ℕ) → drop at s ≡ written ns → at + length (written ns) ≡ end → end < 65536 → 0 < length (written ns) → length (written ns) ≤ k → Found-again d k at end ns
 
   -- one equality, and those behind it
-  module _ (d : ℕ) (n : Name) (ns : List Name) (v : List ℕ) (q : value n ≡ some v) where
+  module _ (d : ℕ) (n : ClauseName) (ns : List ClauseName) (v : List ℕ) (q : value n ≡ some v) where
     abbrev eq : List ℕ
     eq = equalityFor n (some v)
 
@@ -109,7 +109,7 @@ module _ (s : List ℕ) (value : Name → Option (List ℕ)) where
               tells = finds (again .found) v q (again .named) (again .valued) (r .tells);
             }
 
-  pub siblings-back : (d : ℕ) (ns : List Name) → Back d ns
+  pub siblings-back : (d : ℕ) (ns : List ClauseName) → Back d ns
   unfolding flatMap
   siblings-back d [] k at end here filled below some-there fuel = absurd (not-suc-le-zero some-there)
   siblings-back d (n ∷ ns) k at end here filled below some-there fuel = by (value n) refl here filled some-there fuel (siblings-back d ns)
@@ -121,11 +121,11 @@ module _ (s : List ℕ) (value : Name → Option (List ℕ)) where
 
   -- what such clauses make: none strange, none twice, and each name's own octets
 
-  same-name : (m n : Name) (f : Found) → nameOf s f ≡ spelling n → isNamed s m f ≡ eqb (place n) (place m)
+  same-name : (m n : ClauseName) (f : Found) → nameOf s f ≡ spelling n → isNamed s m f ≡ eqb (place n) (place m)
   unfolding isNamed
   same-name m n f e = ap (λ (x : List ℕ). sameFolded x (spelling m)) e ∙ spelled n m
 
-  pub not-strange : {ns : List Name} {fs : List Found} → Tells ns fs → strange s fs ≡ false
+  pub not-strange : {ns : List ClauseName} {fs : List Found} → Tells ns fs → strange s fs ≡ false
   unfolding strange any
   not-strange nothing = refl
   not-strange (skips q t) = not-strange t
@@ -134,15 +134,15 @@ module _ (s : List ℕ) (value : Name → Option (List ℕ)) where
       known : any (λ name. isNamed s name f) names ≡ true
       known = names-any (λ name. isNamed s name f) n (same-name n n f e ∙ eq-eqb (place n) (place n) refl)
 
-  named-is : (n : Name) (f : Found) → sameFolded (nameOf s f) (spelling n) ≡ isNamed s n f
+  named-is : (n : ClauseName) (f : Found) → sameFolded (nameOf s f) (spelling n) ≡ isNamed s n f
   unfolding isNamed
   named-is n f = refl
 
   -- a name that is not among those told is not found
-  abbrev among : Name → List Name → Bool
+  abbrev among : ClauseName → List ClauseName → Bool
   among m ns = any (λ n. eqb (place n) (place m)) ns
 
-  absent : (m : Name) {ns : List Name} {fs : List Found} → Tells ns fs → among m ns ≡ false → first (isNamed s m) fs ≡ none
+  absent : (m : ClauseName) {ns : List ClauseName} {fs : List Found} → Tells ns fs → among m ns ≡ false → first (isNamed s m) fs ≡ none
   unfolding first any
   absent m nothing e = refl
   absent m (skips {n = n} {ns = ns} q t) e = absent m t (neither-right (eqb (place n) (place m)) (among m ns) e)
@@ -151,25 +151,25 @@ module _ (s : List ℕ) (value : Name → Option (List ℕ)) where
       rw h (absent m t (neither-right (eqb (place n) (place m)) (among m ns) e))
 
   -- each name's octets, where no name stands twice
-  abbrev pub distinct : List Name → Bool
-  distinct ns = apart (λ n m. eqb (place m) (place n)) ns
+  abbrev pub distinct : List ClauseName → Bool
+  distinct ns = unique (λ n m. eqb (place m) (place n)) ns
 
-  module _ (n : Name) (ns : List Name) (a : (not (among n ns) && distinct ns) ≡ true) where
+  module _ (n : ClauseName) (ns : List ClauseName) (a : (not (among n ns) && distinct ns) ≡ true) where
     not-again : among n ns ≡ false
     not-again = not-true (among n ns) (both-left (not (among n ns)) (distinct ns) a)
 
     rest-distinct : distinct ns ≡ true
     rest-distinct = both-right (not (among n ns)) (distinct ns) a
 
-  pub octets-back : (m : Name) {ns : List Name} {fs : List Found} → Tells ns fs → distinct ns ≡ true → among m ns ≡ true → octetsOf s (asClause (first (isNamed s m) fs)) ≡ value m
-  unfolding first any apart
+  pub octets-back : (m : ClauseName) {ns : List ClauseName} {fs : List Found} → Tells ns fs → distinct ns ≡ true → among m ns ≡ true → octetsOf s (asClause (first (isNamed s m) fs)) ≡ value m
+  unfolding first any unique
   octets-back m nothing a e = let z : _≡_ {A = ℕ} 0 1 = cc in absurd (omega arith)
   octets-back m (skips {n = n} {ns = ns} {fs = fs} q t) a e = by (eqb (place n) (place m)) refl e (octets-back m t (rest-distinct n ns a))
     where
       by : (b : Bool) → eqb (place n) (place m) ≡ b → (b || among m ns) ≡ true → (among m ns ≡ true → octetsOf s (asClause (first (isNamed s m) fs)) ≡ value m) → octetsOf s (asClause (first (isNamed s m) fs)) ≡ value m
       by true h g rest =
           let i : n ≡ m = place-eq n m h in
-          let o : first (isNamed s m) fs ≡ none = absent m t (ap (λ (k : Name). among k ns) (sym i) ∙ not-again n ns a) in
+          let o : first (isNamed s m) fs ≡ none = absent m t (ap (λ (k : ClauseName). among k ns) (sym i) ∙ not-again n ns a) in
           ap (λ (x : Option Found). octetsOf s (asClause x)) o ∙ sym q ∙ ap value i
       by false h g rest = rest g
   octets-back m (finds {n = n} {ns = ns} {fs = fs} f v q p c t) a e = ap (λ (b : Bool). octetsOf s (asClause (firstOr b f (first (isNamed s m) fs)))) (same-name m n f p) ∙ by (eqb (place n) (place m)) refl e (octets-back m t (rest-distinct n ns a))
@@ -178,8 +178,8 @@ module _ (s : List ℕ) (value : Name → Option (List ℕ)) where
       by true h g rest = ap some c ∙ sym q ∙ ap value (place-eq n m h)
       by false h g rest = rest g
 
-  pub not-twice : {ns : List Name} {fs : List Found} → Tells ns fs → distinct ns ≡ true → twice s fs ≡ false
-  unfolding twice apart
+  pub not-twice : {ns : List ClauseName} {fs : List Found} → Tells ns fs → distinct ns ≡ true → twice s fs ≡ false
+  unfolding twice unique
   not-twice nothing a = refl
   not-twice (skips {n = n} {ns = ns} q t) a = not-twice t (rest-distinct n ns a)
   not-twice (finds {n = n} {ns = ns} {fs = fs} f v q p c t) a = rw alone-named (not-twice t (rest-distinct n ns a))

@@ -11,7 +11,7 @@ use lib.Seq.{getD-drop, drop-drop, drop-append-seam, take-append-seam}
 use Rattle.octets.specs.Lists.{cut}
 use Rattle.octets.specs.Number.{little, big}
 use Rattle.filter.specs.declared.Found.{Found}
-use Rattle.filter.specs.declared.Name.{Name}
+use Rattle.filter.specs.declared.ClauseName.{ClauseName}
 use Rattle.filter.specs.declared.Size.the-variants as size
 use Rattle.filter.specs.Request.{spelling}
 use Rattle.filter.specs.Shape.{Element, elementAt, equality, lengthWidth}
@@ -83,7 +83,7 @@ module _ (s : List ℕ) (at end tag : ℕ) (xs rest : List ℕ) (here : drop at 
   contents-back = behind s (tag ∷ lengthOctets n) (xs ++ rest) at (headSize n) opened (head-length tag n)
 
 -- a clause that was written, as it is found again: its element, its name and its value
-pub record Again (s : List ℕ) (at end : ℕ) (name : Name) (value : List ℕ) : Type 0 where
+pub record Again (s : List ℕ) (at end : ℕ) (name : ClauseName) (value : List ℕ) : Type 0 where
   pub element : Element
   pub found : Found
   pub there : elementAt s at end ≡ some element
@@ -93,7 +93,7 @@ pub record Again (s : List ℕ) (at end : ℕ) (name : Name) (value : List ℕ) 
   pub named : cut s (found .«name_start») (found .«name_len») ≡ spelling name
   pub valued : cut s (found .start) (found .len) ≡ value
 
-pub equality-back : (s : List ℕ) (at end : ℕ) (name : Name) (value rest : List ℕ) → drop at s ≡ equalityFor name (some value) ++ rest → at + length (equalityFor name (some value)) ≤ end → end < 65536 → Again s at end name value
+pub equality-back : (s : List ℕ) (at end : ℕ) (name : ClauseName) (value rest : List ℕ) → drop at s ≡ equalityFor name (some value) ++ rest → at + length (equalityFor name (some value)) ≤ end → end < 65536 → Again s at end name value
 unfolding equality
 equality-back s at end name value rest here fits below =
     let x : List ℕ = element 0x04 (spelling name) in

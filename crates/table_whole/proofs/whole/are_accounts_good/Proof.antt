@@ -13,14 +13,14 @@ returns c =
     let s = c .before .before .before .before .before in
     lost-account (s .args .marks .now) (s .args .image .now) (s .args .accounts .now) (s .pre .0) (s .pre .1) (sym (c .before .all-refer .ensures) ∙ not-true _ (c .if1 .taken))
 
-all-apart-requires : tie.Need-all-apart-requires
-all-apart-requires c κs = search needs
+all-unique-requires : tie.Need-all-unique-requires
+all-unique-requires c κs = search needs
 
 returns-2 : tie.Need-returns-2
 returns-2 c =
     let s = c .before .before .before .before .before .before in
-    c .all-apart .ensures ∙ accounts-left (s .args .marks .now) (s .args .image .now) (s .args .accounts .now) (s .pre .0) (s .pre .1) (sym (c .before .before .all-refer .ensures) ∙ not-false _ (c .before .if1 .left))
+    c .all-unique .ensures ∙ accounts-left (s .args .marks .now) (s .args .image .now) (s .args .accounts .now) (s .pre .0) (s .pre .1) (sym (c .before .before .all-refer .ensures) ∙ not-false _ (c .before .if1 .left))
 
 pub are-accounts-good-spec : {M : Type 1} → statement M
 are-accounts-good-spec =
-    tie.close (tie.spec all-refer-requires returns all-apart-requires returns-2)
+    tie.close (tie.spec all-refer-requires returns all-unique-requires returns-2)

@@ -2,7 +2,7 @@ use Rattle.table_whole.specs.Internal.Mark.{sameNumber}
 use Rattle.table_whole.specs.Internal.Half.{ContextMarks}
 use Rattle.table_whole.specs.Whole.{hasContext}
 use Rattle.table.specs.Table.{tableFrom}
-use Rattle.octets.specs.Lists.{apart}
+use Rattle.octets.specs.Lists.{unique}
 use mathlib.Core.Bool.{true}
 use mathlib.Core.Path.{_≡_}
 use Rattle.table_whole.proofs.Laws.Half.{context-marks, contexts-number, contexts-alike, contexts-default, contexts-accounts, default-marked}
@@ -29,8 +29,8 @@ marked c =
     let m = c .before .before .mark-numbers in
     context-marks (m .last .1 .1 .1 .0) (s .args .image .now) (s .args .contexts .now) (m .kept .1 .1 .1 .0 ∙ length-replicate 65536 false) (s .pre .1) (m .ensures .1 (not-false _ (c .if1 .left)))
 
-unique : (c : tie.Else1) → apart (sameNumber (c .before .before .before .before .before .before .args .image .now) 504) (c .before .before .before .before .before .before .args .contexts .now) ≡ true
-unique c = sym (c .before .before .mark-numbers .ensures .0) ∙ not-false _ (c .if1 .left)
+numbers-unique : (c : tie.Else1) → unique (sameNumber (c .before .before .before .before .before .before .args .image .now) 504) (c .before .before .before .before .before .before .args .contexts .now) ≡ true
+numbers-unique c = sym (c .before .before .mark-numbers .ensures .0) ∙ not-false _ (c .if1 .left)
 
 -- the server's own number, looked up
 default : (c : tie.After-has-context) → let t = tableFrom (c .before .before .before .before .before .before .before .before .before .before .before .args .image .now) in hasContext t (t .server .defaultContext) ≡ c .has-context .result
@@ -43,13 +43,13 @@ returns c =
     let s = c .before .before .before .before .before .before in
     contexts-number (s .args .image .now) (s .args .contexts .now) (s .pre .1) (sym (c .before .before .mark-numbers .ensures .0) ∙ not-true _ (c .if1 .taken))
 
-all-apart-requires : tie.Need-all-apart-requires
-all-apart-requires c κs = search needs
+all-unique-requires : tie.Need-all-unique-requires
+all-unique-requires c κs = search needs
 
 returns-2 : tie.Need-returns-2
 returns-2 c =
     let s = c .before .before .before .before .before .before .before .before in
-    contexts-alike (s .args .image .now) (s .args .contexts .now) (s .pre .1) (unique (c .before .before)) (sym (c .before .all-apart .ensures) ∙ not-true _ (c .if2 .taken))
+    contexts-alike (s .args .image .now) (s .args .contexts .now) (s .pre .1) (numbers-unique (c .before .before)) (sym (c .before .all-unique .ensures) ∙ not-true _ (c .if2 .taken))
 
 slice-aggregate-has-context : tie.Need-slice-aggregate-has-context
 slice-aggregate-has-context c = search needs
@@ -63,7 +63,7 @@ has-context-requires c κs = search needs
 returns-3 : tie.Need-returns-3
 returns-3 c =
     let s = c .before .before .before .before .before .before .before .before .before .before .before .before in
-    contexts-default (s .args .image .now) (s .args .contexts .now) (s .pre .1) (unique (c .before .before .before .before .before .before)) (sym (c .before .before .before .before .before .all-apart .ensures) ∙ not-false _ (c .before .before .before .before .if2 .left)) (default (c .before) ∙ not-true _ (c .if3 .taken))
+    contexts-default (s .args .image .now) (s .args .contexts .now) (s .pre .1) (numbers-unique (c .before .before .before .before .before .before)) (sym (c .before .before .before .before .before .all-unique .ensures) ∙ not-false _ (c .before .before .before .before .if2 .left)) (default (c .before) ∙ not-true _ (c .if3 .taken))
 
 slice-aggregate-good-accounts-of : tie.Need-slice-aggregate-good-accounts-of
 slice-aggregate-good-accounts-of c = search needs
@@ -74,7 +74,7 @@ good-accounts-of-requires c κs = (c .before .before .before .before .before .be
 returns-4 : tie.Need-returns-4
 returns-4 c =
     let s = c .before .before .before .before .before .before .before .before .before .before .before .before .before .before in
-    c .good-accounts-of .ensures ∙ contexts-accounts (s .args .image .now) (s .args .contexts .now) (s .pre .1) (unique (c .before .before .before .before .before .before .before .before)) (sym (c .before .before .before .before .before .before .before .all-apart .ensures) ∙ not-false _ (c .before .before .before .before .before .before .if2 .left)) (default (c .before .before .before) ∙ not-false _ (c .before .before .if3 .left))
+    c .good-accounts-of .ensures ∙ contexts-accounts (s .args .image .now) (s .args .contexts .now) (s .pre .1) (numbers-unique (c .before .before .before .before .before .before .before .before)) (sym (c .before .before .before .before .before .before .before .all-unique .ensures) ∙ not-false _ (c .before .before .before .before .before .before .if2 .left)) (default (c .before .before .before) ∙ not-false _ (c .before .before .if3 .left))
 
 pub are-contexts-good-spec : {M : Type 1} → statement M
 are-contexts-good-spec =
@@ -83,7 +83,7 @@ are-contexts-good-spec =
     slice-aggregate-mark-numbers
     mark-numbers-requires
     returns
-    all-apart-requires
+    all-unique-requires
     returns-2
     slice-aggregate-has-context
     server-number-requires

@@ -2,7 +2,7 @@ use Rattle.table_whole.specs.Internal.Mark.{sameNumber}
 use Rattle.table_whole.specs.Internal.Half.{SiteMarks}
 use Rattle.table_whole.specs.Whole.{hasSite}
 use Rattle.table.specs.Table.{tableFrom}
-use Rattle.octets.specs.Lists.{apart}
+use Rattle.octets.specs.Lists.{unique}
 use mathlib.Core.Bool.{true}
 use mathlib.Core.Path.{_≡_}
 use Rattle.table_whole.proofs.Laws.Half.{site-marks, sites-number, sites-own, sites-next, sites-subnets, own-marked, next-refer}
@@ -29,8 +29,8 @@ marked c =
     let m = c .before .before .mark-numbers in
     site-marks (m .last .1 .1 .1 .0) (s .args .image .now) (s .args .sites .now) (m .kept .1 .1 .1 .0 ∙ length-replicate 65536 false) (s .pre .1) (m .ensures .1 (not-false _ (c .if1 .left)))
 
-unique : (c : tie.Else1) → apart (sameNumber (c .before .before .before .before .before .before .args .image .now) 72) (c .before .before .before .before .before .before .args .sites .now) ≡ true
-unique c = sym (c .before .before .mark-numbers .ensures .0) ∙ not-false _ (c .if1 .left)
+numbers-unique : (c : tie.Else1) → unique (sameNumber (c .before .before .before .before .before .before .args .image .now) 72) (c .before .before .before .before .before .before .args .sites .now) ≡ true
+numbers-unique c = sym (c .before .before .mark-numbers .ensures .0) ∙ not-false _ (c .if1 .left)
 
 -- the server's own number, looked up
 own : (c : tie.After-has-site) → let t = tableFrom (c .before .before .before .before .before .before .before .before .before .args .image .now) in hasSite t (t .server .site) ≡ c .has-site .result
@@ -55,7 +55,7 @@ has-site-requires c κs = search needs
 returns-2 : tie.Need-returns-2
 returns-2 c =
     let s = c .before .before .before .before .before .before .before .before .before .before in
-    sites-own (s .args .image .now) (s .args .sites .now) (s .pre .1) (unique (c .before .before .before .before)) (own (c .before) ∙ not-true _ (c .if2 .taken))
+    sites-own (s .args .image .now) (s .args .sites .now) (s .pre .1) (numbers-unique (c .before .before .before .before)) (own (c .before) ∙ not-true _ (c .if2 .taken))
 
 slice-aggregate-all-refer : tie.Need-slice-aggregate-all-refer
 slice-aggregate-all-refer c = search needs
@@ -66,7 +66,7 @@ all-refer-requires c κs = search needs
 returns-3 : tie.Need-returns-3
 returns-3 c =
     let s = c .before .before .before .before .before .before .before .before .before .before .before .before .before in
-    sites-next (s .args .image .now) (s .args .sites .now) (s .pre .1) (unique (c .before .before .before .before .before .before .before)) (own (c .before .before .before .before) ∙ not-false _ (c .before .before .before .if2 .left)) (sym (c .before .all-refer .ensures ∙ next-refer (s .args .image .now) (s .args .sites .now) (s .pre .1) (c .before .before .before .before .before .before .before .before .before .mark-numbers .last .1 .1 .1 .0) (marked (c .before .before .before .before .before .before .before))) ∙ not-true _ (c .if3 .taken))
+    sites-next (s .args .image .now) (s .args .sites .now) (s .pre .1) (numbers-unique (c .before .before .before .before .before .before .before)) (own (c .before .before .before .before) ∙ not-false _ (c .before .before .before .if2 .left)) (sym (c .before .all-refer .ensures ∙ next-refer (s .args .image .now) (s .args .sites .now) (s .pre .1) (c .before .before .before .before .before .before .before .before .before .mark-numbers .last .1 .1 .1 .0) (marked (c .before .before .before .before .before .before .before))) ∙ not-true _ (c .if3 .taken))
 
 slice-aggregate-good-subnets-of : tie.Need-slice-aggregate-good-subnets-of
 slice-aggregate-good-subnets-of c = search needs
@@ -77,7 +77,7 @@ good-subnets-of-requires c κs = (c .before .before .before .before .before .bef
 returns-4 : tie.Need-returns-4
 returns-4 c =
     let s = c .before .before .before .before .before .before .before .before .before .before .before .before .before .before .before in
-    c .good-subnets-of .ensures ∙ sites-subnets (s .args .image .now) (s .args .sites .now) (s .pre .1) (unique (c .before .before .before .before .before .before .before .before .before)) (own (c .before .before .before .before .before .before) ∙ not-false _ (c .before .before .before .before .before .if2 .left)) (sym (c .before .before .before .all-refer .ensures ∙ next-refer (s .args .image .now) (s .args .sites .now) (s .pre .1) (c .before .before .before .before .before .before .before .before .before .before .before .mark-numbers .last .1 .1 .1 .0) (marked (c .before .before .before .before .before .before .before .before .before))) ∙ not-false _ (c .before .before .if3 .left))
+    c .good-subnets-of .ensures ∙ sites-subnets (s .args .image .now) (s .args .sites .now) (s .pre .1) (numbers-unique (c .before .before .before .before .before .before .before .before .before)) (own (c .before .before .before .before .before .before) ∙ not-false _ (c .before .before .before .before .before .if2 .left)) (sym (c .before .before .before .all-refer .ensures ∙ next-refer (s .args .image .now) (s .args .sites .now) (s .pre .1) (c .before .before .before .before .before .before .before .before .before .before .before .mark-numbers .last .1 .1 .1 .0) (marked (c .before .before .before .before .before .before .before .before .before))) ∙ not-false _ (c .before .before .if3 .left))
 
 pub are-sites-good-spec : {M : Type 1} → statement M
 are-sites-good-spec =

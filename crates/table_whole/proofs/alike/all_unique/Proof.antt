@@ -2,19 +2,19 @@ use lib.ListN.{getD}
 use Rattle.octets.proofs.Laws.Lists.{cut-rest}
 use mathlib.Core.Path.{ap₂}
 use Rattle.table_whole.specs.Internal.Alike.{likeAt, alikeAt}
-use Rattle.octets.proofs.Laws.Lists.{apart-fails, apart-next, apart-end}
-use Rattle.octets.specs.Lists.{any, apart}
+use Rattle.octets.proofs.Laws.Lists.{unique-fails, unique-next, unique-end}
+use Rattle.octets.specs.Lists.{any, unique}
 use native.Mathlib.Omega.{arith}
 use lib.ListN.{length, drop}
 use mathlib.Core.List.{List}
 use mathlib.Core.Path.{_≡_, refl, sym, _∙_}
 use Prim.Native.Nat.{ℕ, _+_, _-_, _≤_}
 use borrow.Author.Needs.{needs}
-use Rattle.table_whole.proofs.alike.all_apart.Statement.{statement}
-use Rattle.table_whole.proofs.alike.all_apart.Tie as tie
+use Rattle.table_whole.proofs.alike.all_unique.Statement.{statement}
+use Rattle.table_whole.proofs.alike.all_unique.Tie as tie
 
 abbrev Inv-loop : tie.InvT-loop
-Inv-loop image places w likeness i₀ i = let t = alikeAt likeness image w in (i ≤ length places) × (apart t (drop i places) ≡ apart t places)
+Inv-loop image places w likeness i₀ i = let t = alikeAt likeness image w in (i ≤ length places) × (unique t (drop i places) ≡ unique t places)
 
 abbrev μ-loop : tie.MeasureT-loop
 μ-loop image places w likeness i₀ i = length places - i
@@ -63,7 +63,7 @@ returns : tie.Need-returns Inv-loop μ-loop
 returns c =
     let a = c .before .before .before .before .before .before .before .before .before .args in
     let l = c .before .before .before .before .before .before .loop in
-    apart-fails (alikeAt (a .likeness) (a .image .now) (a .w)) (a .places .now) (l .i) 0 (omega arith) (behind (c .before) ∙ c .if1 .taken) ∙ l .inv .1
+    unique-fails (alikeAt (a .likeness) (a .image .now) (a .w)) (a .places .now) (l .i) 0 (omega arith) (behind (c .before) ∙ c .if1 .taken) ∙ l .inv .1
 
 loop-less : tie.Need-loop-less Inv-loop μ-loop
 loop-less c = search needs
@@ -72,16 +72,16 @@ loop-again : tie.Need-loop-again Inv-loop μ-loop
 loop-again c =
     let a = c .before .before .before .before .before .before .before .before .before .args in
     let l = c .before .before .before .before .before .before .loop in
-    (omega arith, apart-next (alikeAt (a .likeness) (a .image .now) (a .w)) (a .places .now) (l .i) 0 (omega arith) (behind (c .before) ∙ c .if1 .left) ∙ l .inv .1)
+    (omega arith, unique-next (alikeAt (a .likeness) (a .image .now) (a .w)) (a .places .now) (l .i) 0 (omega arith) (behind (c .before) ∙ c .if1 .left) ∙ l .inv .1)
 
 returns-2 : tie.Need-returns-2 Inv-loop μ-loop
 returns-2 c =
     let a = c .before .before .before .before .args in
     let l = c .before .loop in
-    apart-end (alikeAt (a .likeness) (a .image .now) (a .w)) (a .places .now) (l .i) (omega arith) ∙ l .inv .1
+    unique-end (alikeAt (a .likeness) (a .image .now) (a .w)) (a .places .now) (l .i) (omega arith) ∙ l .inv .1
 
-pub all-apart-spec : {M : Type 1} → statement M
-all-apart-spec =
+pub all-unique-spec : {M : Type 1} → statement M
+all-unique-spec =
     tie.close
     (tie.spec
     Inv-loop
