@@ -11,7 +11,7 @@ use Rattle.answers.specs.declared.Form.the-variants.{Nt40, Response, Ex}
 use Rattle.answers.specs.Try.{good}
 use Rattle.locator.specs.Answer.{Outcome, answerTo}
 use Rattle.octets.specs.Lists.{cut}
-use Rattle.octets.specs.Utf16.{utf16}
+use Rattle.unicode.specs.Utf16.{utf16}
 use Rattle.reader.specs.Reader.{Named, Nt40Fields, ResponseFields, ExFields, nt40, response, ex, readIn, readLength}
 use Rattle.reader.specs.Text.{Stretch}
 use Rattle.reply.specs.Reply.{Reply, responseNames, exNames}

@@ -1,17 +1,16 @@
 -- Document 01, "Answer numbers" 9 and 10: the values of a request's clauses, judged over the whole filter.
-use mathlib.Core.Bool.{Bool, not, _&&_, _||_}
+use mathlib.Core.Bool.{Bool, not, _||_}
 use mathlib.Core.List.{List}
 use mathlib.Core.Option.{Option, none, some}
 use Prim.Native.Nat.{ℕ}
-use lib.Dec.{eqb, leb}
+use lib.Dec.{eqb}
 use lib.ListN.{length}
 use Rattle.answers.specs.declared.Refusal.the-variants.{ClauseValue, NoVersion}
 use Rattle.answers.specs.Refusal.{number}
 use Rattle.answers.specs.Try.{Try, refused, good, refusedIf}
 use Rattle.octets.specs.Lists.{holds}
-use Rattle.octets.specs.NameRule.{without}
 use Rattle.octets.specs.Number.{little}
-use Rattle.octets.specs.Utf8.{isUtf8}
+use Rattle.unicode.specs.UserName.{isUserName}
 use Rattle.filter.specs.declared.Judged.{Judged}
 use Rattle.filter.specs.declared.Judged.the-variants as judged
 use Rattle.filter.specs.declared.Request.{Request}
@@ -30,16 +29,12 @@ pub record Ping : Type 0 where
 abbrev pub isNumber : List ℕ → Bool
 isNumber s = eqb (length s) 4
 
--- a User value: up to 63 octets of UTF-8, none zero
-abbrev pub isUser : List ℕ → Bool
-isUser s = leb (length s) 63 && isUtf8 s && without 0 s
-
 -- 9: NtVer or AAC not 4 octets; User over 63, not UTF-8, or holding a zero octet
 unfoldable pub wrongValue : List ℕ → Request → Bool
 wrongValue s r =
     holds (λ x. not (isNumber x)) (octetsOf s (r .«nt_ver»))
     || holds (λ x. not (isNumber x)) (octetsOf s (r .«aac»))
-    || holds (λ x. not (isUser x)) (octetsOf s (r .«user»))
+    || holds (λ x. not (isUserName x)) (octetsOf s (r .«user»))
 
 -- the version asked, where there is one
 abbrev pub versionFrom : Option (List ℕ) → Option ℕ

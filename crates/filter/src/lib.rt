@@ -3,15 +3,16 @@ use answers::Refusal;
 use octets::number;
 use octets::part;
 use octets::text;
-use octets::utf8;
+use unicode::user_name::is_user_name;
 ghost use mathlib.Core.Path.{_≡_};
 ghost use mathlib.Core.Bool.{not};
 ghost use Prim.Native.Nat.{_+_, _≤_, _<_};
 ghost use lib.ListN.{length};
 ghost use Rattle.octets.specs.Lists.{cut, holds};
 ghost use Rattle.octets.specs.Number.{big};
+ghost use Rattle.unicode.specs.UserName.{isUserName};
 ghost use Rattle.filter.specs.Request.{clause, isPresent, octetsOf};
-ghost use Rattle.filter.specs.Value.{isNumber, isUser, pingIn, judgedAs};
+ghost use Rattle.filter.specs.Value.{isNumber, pingIn, judgedAs};
 ghost use Rattle.filter.specs.Shape.{elementAt, equality, andOf, clausesOf};
 ghost use Rattle.filter.specs.Taken.{requestIn, takenAs};
 ghost use Rattle.filter.specs.Internal.Step.{sizeAt, SizeWithin, taggedAs, TaggedWithin, equalityAs, stepAt, StepWithin, Inside, FilterInside};
@@ -487,19 +488,13 @@ fn is_wrong_number(s: &[u8], clause: Clause) -> bool
 
 // A clause that is present and is no user's name: over 63 octets, not UTF-8, or holding a zero octet.
 fn is_wrong_user(s: &[u8], clause: Clause) -> bool
-    ensures { λ r. ⌜ r ≡ holds (λ x. not (isUser x)) (octetsOf (now (s .entry)) clause) ⌝ }
+    ensures { λ r. ⌜ r ≡ holds (λ x. not (isUserName x)) (octetsOf (now (s .entry)) clause) ⌝ }
 {
     let Clause::Present { start, len } = clause else {
         return false;
     };
     let value = part::part(s, start, len);
-    if 63 < value.len() {
-        return true;
-    }
-    if !utf8::is_utf8(value) {
-        return true;
-    }
-    !text::lacks(value, 0)
+    !is_user_name(value)
 }
 
 // The values of a request: 9 over the whole filter, then 10, else the version asked for.

@@ -18,12 +18,13 @@ use Rattle.names.specs.Walk.{lookAt, walkFrom, walk}
 use Rattle.names.specs.Walk as walking
 use Rattle.octets.specs.Label.{parts, labels, joined}
 use Rattle.octets.specs.Lists.{all, any, first, keep, unique, cut, pieces}
-use Rattle.octets.specs.NameRule.{isDnsName, isPlainName, isAccountName}
+use Rattle.octets.specs.NameRule.{isDnsName, isPlainName}
+use Rattle.unicode.specs.UserName.{isUserName, isAccountName}
 use Rattle.octets.specs.Number.{little, big, littleOctets, bigOctets, has}
 use Rattle.octets.specs.Sid.{isSid}
 use Rattle.octets.specs.Text.{same, lower}
-use Rattle.octets.specs.Utf16.{pointOctets, pointsOctets, utf16}
-use Rattle.octets.specs.Utf8.{lead, follow, pointsFrom, isUtf8}
+use Rattle.unicode.specs.Utf16.{pointOctets, pointsOctets, utf16}
+use Rattle.unicode.specs.Utf8.{lead, follow, pointsFrom, isUtf8}
 use Rattle.reader.specs.Field.{octetsAt, fixedAt}
 use Rattle.reader.specs.Name as reading
 use Rattle.reader.specs.Reader.{Fields, nt40, response, ex, opcodeIn, numberAt, tokensAt, addressAt, hasNextSite, lastAt, readEx, readIn}
@@ -209,5 +210,5 @@ samples =
     ∷ []
 
 pub samples-hold : map (λ r. r .got) samples ≡ map (λ r. r .due) samples
-unfolding samples checked block example corp CORP DC1 dc1 HQ ann guid ipv4 image filter version six caller pings summary refusal P1 asks named elementAt equality one siblings andOf clausesOf isNamed strange twice requestOf requestIn wrongValue versionAsked pingIn lengthOctets element pointer label labelsAt nameAt namesAt lookAt walkFrom walk parts labels joined all any first keep unique pieces isDnsName isPlainName isAccountName little big littleOctets bigOctets has isSid same lower pointOctets pointsOctets utf16 lead follow pointsFrom isUtf8 octetsAt fixedAt reading.nameFrom reading.nameAt reader.namesAt opcodeIn numberAt tokensAt addressAt hasNextSite lastAt readEx text16 ending opening nt40Octets responseHead responseOctets exHead exOctets grown checkOf goodCheck zeros textField goodLength tableIn serverLayout forestLayout contextLayout accountLayout siteLayout subnetLayout bodyLayout blockLayout layoutsFrom serverOf contextOf accountOf siteOf subnetOf blocksOf bodies recordsOf tableOf sameAccountName contextsUnique accountsUnique sitesUnique hasContext hasSite refersRightly goodWhole answerTo wrongUser replyTo mayLogOn isKnown userUnknown formOf isHeldBack opcodeOf namesApplication exFlags responseFlags nextSite replyFor contextsSearched contextByGuid isNamedBy contextByDnsName holdsSid contextBySid contextByNumber defaultContext accountByName siteByNumber addressNumber isPrefixOnly sharePrefix subnetFor clientSite contextUsed contextIn flatMap
+unfolding samples checked block example corp CORP DC1 dc1 HQ ann guid ipv4 image filter version six caller pings summary refusal P1 asks named elementAt equality one siblings andOf clausesOf isNamed strange twice requestOf requestIn wrongValue versionAsked pingIn lengthOctets element pointer label labelsAt nameAt namesAt lookAt walkFrom walk parts labels joined all any first keep unique pieces isDnsName isPlainName isUserName isAccountName little big littleOctets bigOctets has isSid same lower pointOctets pointsOctets utf16 lead follow pointsFrom isUtf8 octetsAt fixedAt reading.nameFrom reading.nameAt reader.namesAt opcodeIn numberAt tokensAt addressAt hasNextSite lastAt readEx text16 ending opening nt40Octets responseHead responseOctets exHead exOctets grown checkOf goodCheck zeros textField goodLength tableIn serverLayout forestLayout contextLayout accountLayout siteLayout subnetLayout bodyLayout blockLayout layoutsFrom serverOf contextOf accountOf siteOf subnetOf blocksOf bodies recordsOf tableOf sameAccountName contextsUnique accountsUnique sitesUnique hasContext hasSite refersRightly goodWhole answerTo wrongUser replyTo mayLogOn isKnown userUnknown formOf isHeldBack opcodeOf namesApplication exFlags responseFlags nextSite replyFor contextsSearched contextByGuid isNamedBy contextByDnsName holdsSid contextBySid contextByNumber defaultContext accountByName siteByNumber addressNumber isPrefixOnly sharePrefix subnetFor clientSite contextUsed contextIn flatMap
 samples-hold = refl

@@ -6,7 +6,7 @@ ghost use Prim.Native.Nat.{_+_, _≤_, _<_};
 ghost use lib.ListN.{length};
 ghost use Rattle.octets.specs.Internal.Class.{isOf};
 ghost use Rattle.octets.specs.Lists.{all};
-ghost use Rattle.octets.specs.NameRule.{printable, without, isDnsName, isNetbiosName, isSiteName, isAccountName};
+ghost use Rattle.octets.specs.NameRule.{printable, without};
 ghost use Rattle.octets.specs.Text.{same, lower, sameFolded, allZero, foldIf};
 
 // A class of octets that a text may be made of.

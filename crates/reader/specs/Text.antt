@@ -7,7 +7,7 @@ use lib.ListN.{length}
 use Rattle.answers.specs.declared.Refusal.the-variants.{ReplyCut, ReplyText}
 use Rattle.answers.specs.Try.{Try, refused, good, _>>=_}
 use Rattle.octets.specs.Number.{little}
-use Rattle.octets.specs.Utf16.{isHigh, isLow}
+use Rattle.unicode.specs.Utf16.{isHigh, isLow}
 use Rattle.reader.specs.Field.{Read, octetsAt}
 
 -- a stretch of the reply: where it starts, and how many octets it has

@@ -8,7 +8,7 @@ use Rattle.answers.specs.declared.Form.{Form}
 use Rattle.answers.specs.declared.Form.the-variants.{Nt40, Response, Ex}
 use Rattle.names.specs.Name.{Writing, nameAt, namesAt}
 use Rattle.octets.specs.Number.{littleOctets}
-use Rattle.octets.specs.Utf16.{utf16}
+use Rattle.unicode.specs.Utf16.{utf16}
 
 -- what a reply says, in any form; a text that is absent has no octets. The EX form alone writes the address and the next closest site
 pub record Reply : Type 0 where

@@ -5,7 +5,8 @@ use Prim.Native.Nat.{ℕ, _+_}
 use lib.Dec.{eqb, leb, ltb}
 use lib.ListN.{length, getD}
 use Rattle.octets.specs.Lists.{all, cut, pieces}
-use Rattle.octets.specs.NameRule.{isDnsName, isNetbiosName, isSiteName, isAccountName}
+use Rattle.octets.specs.NameRule.{isDnsName, isNetbiosName, isSiteName}
+use Rattle.unicode.specs.UserName.{isAccountName}
 use Rattle.octets.specs.Number.{u16At, u32At}
 use Rattle.octets.specs.Sid.{isSid}
 use Rattle.octets.specs.Text.{allZero}

@@ -4,13 +4,13 @@ ghost use Prim.Native.Nat.{_≤_, _<_};
 ghost use lib.ListN.{length};
 ghost use Rattle.table.specs.Field.{zeros, textField};
 ghost use Rattle.table.specs.Internal.Rule.{ruleOf};
-use octets::name_rule::is_account_name;
 use octets::name_rule::is_dns_name;
 use octets::name_rule::is_netbios_name;
 use octets::name_rule::is_site_name;
 use octets::number::wide;
 use octets::part::part;
 use octets::text::all_zero;
+use unicode::user_name::is_account_name;
 
 // Whether the octets from at up to end are zero; where end is not past at there are none.
 pub fn is_zero_room(s: &[u8], at: usize, end: usize) -> bool

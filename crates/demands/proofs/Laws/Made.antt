@@ -5,9 +5,9 @@ use mathlib.Core.List.{List, [], _∷_}
 use mathlib.Core.Option.{Option, none, some}
 use Prim.Native.Nat.{ℕ, _+_, _^_, _<_, _≤_}
 use native.Mathlib.Omega.{arith}
-use lib.Dec.{eqb, leb, ltb}
+use lib.Dec.{eqb, ltb}
 use lib.ListN.{length}
-use borrow.Author.Tests.{eqb-false, not-false, leb-true}
+use borrow.Author.Tests.{eqb-false, not-false}
 use Rattle.answers.specs.declared.Form.{Form}
 use Rattle.answers.specs.declared.Form.the-variants.{Nt40, Response, Ex}
 use Rattle.answers.specs.declared.Refusal.the-variants.{ClauseValue, GuidLength, GuidNotHeld, DnsNameEmpty, DnsNameNotHeld, SidShape, SidNotHeld, SidOfAnother, UserLabelEmpty, NoRoom, TableWhole, NoVersion}
@@ -16,20 +16,20 @@ use Rattle.answers.proofs.Laws.Try.{refusedIf-good, good-then, refused-not-good
 use Rattle.filter.specs.declared.Request.{Request}
 use Rattle.filter.specs.Request.{octetsOf}
 use Rattle.filter.specs.Taken.{requestIn}
-use Rattle.filter.specs.Value.{Ping, isNumber, isUser, wrongValue, pingOf, versionAsked, withVersion, pingIn}
+use Rattle.filter.specs.Value.{Ping, isNumber, wrongValue, pingOf, versionAsked, withVersion, pingIn}
 use Rattle.locator.specs.Answer.{Outcome, wrongUser, replyTo, answerTo}
 use Rattle.locator.specs.Choose.{PDC, catalog, KDC, timeService, readOnly, goodTime, webService, since2012, since2012R2, later2003R2, flag, opcodeOf, exFlags, responseFlags, flagsOf, orNone, nameOfSite, nextTo, onlyIf, nextSite, replyFor, formOf, level2008, isAt, namesApplication}
 use Rattle.table_find.specs.Find.{contextsSearched, contextByGuid, contextByDnsName, contextBySid, holdsSid, contextByNumber, defaultContext, siteByNumber, siteIfAny, siteOfSubnet, siteFor, clientSite, subnetFor}
 use Rattle.locator.specs.Judge.{contextFor, contextUsed, orWhole, contextIn}
 use Rattle.octets.specs.Label.{labels}
 use Rattle.octets.specs.Lists.{any, first, holds, isSome}
-use Rattle.octets.proofs.Laws.Lists.{Every, none-not-some, every-none, found, both-left, both-right, neither-right}
-use Rattle.octets.specs.NameRule.{without}
-use Rattle.octets.proofs.Laws.NameRule.{Writable, empty-writable, empty-spoken, utf8-spoken, short-writable}
+use Rattle.octets.proofs.Laws.Lists.{Every, none-not-some, every-none, found, both-left, neither-right}
+use Rattle.octets.proofs.Laws.NameRule.{Writable, empty-writable, short-writable}
 use Rattle.octets.specs.Number.{has}
 use Rattle.octets.specs.Sid.{isSid}
-use Rattle.octets.specs.Utf8.{isUtf8}
-use Rattle.octets.proofs.Laws.Utf16.{Spoken}
+use Rattle.unicode.specs.UserName.{isUserName}
+use Rattle.unicode.proofs.Laws.UserName.{user-name-short, user-name-spoken}
+use Rattle.unicode.proofs.Laws.Utf16.{Spoken, empty-spoken}
 use Rattle.reply.specs.Reply.{Reply, octetsIn}
 use Rattle.table.specs.declared.SiteNumber.{SiteNumber}
 use Rattle.table_whole.specs.Judgement.{tableIn}
@@ -99,21 +99,18 @@ user-good filter r p e =
     let asked : Option (List ℕ) = octetsOf filter (r .«user») in
     let v : Bool = holds (λ x. not (isNumber x)) (octetsOf filter (r .«nt_ver»)) || holds (λ x. not (isNumber x)) (octetsOf filter (r .«aac»)) in
     let a = refusedIf-good (wrongValue filter r) ClauseValue (withVersion filter r (versionAsked filter r)) p e in
-    let u : holds (λ x. not (isUser x)) asked ≡ false = neither-right v (holds (λ x. not (isUser x)) asked) (a .0) in
+    let u : holds (λ x. not (isUserName x)) asked ≡ false = neither-right v (holds (λ x. not (isUserName x)) asked) (a .0) in
     subst UserGood (same-user (versionAsked filter r) (a .1)) (go asked u)
   where
     same-user : (v : Option ℕ) → withVersion filter r v ≡ good p → octetsOf filter (r .«user») ≡ p .user
     same-user none q = absurd (refused-not-good NoVersion p q)
     same-user (some v) q = let k : pingOf filter r v ≡ p = cc in ap (λ (x : Ping). x .user) k
 
-    go : (o : Option (List ℕ)) → holds (λ x. not (isUser x)) o ≡ false → UserGood o
+    go : (o : Option (List ℕ)) → holds (λ x. not (isUserName x)) o ≡ false → UserGood o
     go none q = tt
     go (some x) q =
-        let t : isUser x ≡ true = not-false (isUser x) q in
-        let front : leb (length x) 63 && isUtf8 x ≡ true = both-left (leb (length x) 63 && isUtf8 x) (without 0 x) t in (
-          utf8-spoken x (both-right (leb (length x) 63) (isUtf8 x) front) (both-right (leb (length x) 63 && isUtf8 x) (without 0 x) t),
-          leb-true (length x) 63 (both-left (leb (length x) 63) (isUtf8 x) front),
-        )
+        let t : isUserName x ≡ true = not-false (isUserName x) q in
+        (user-name-spoken x t, user-name-short x t)
 
 user-spoken : (o : Option (List ℕ)) → UserGood o → Spoken (orNone o) × (length (orNone o) ≤ 63)
 user-spoken none u = (empty-spoken, omega arith)

@@ -21,7 +21,7 @@ module _ {A : Type 0} where
     pub all-fails : p (getD s i d) ≡ false → false ≡ all p (drop i s)
     all-fails e = sym (all-step ∙ ap (λ b. b && all p (drop (i + 1) s)) e)
 
-    -- it passes, and what is left behind it decides
+    -- it passes, and what is left after it decides
     pub all-next : p (getD s i d) ≡ true → all p (drop (i + 1) s) ≡ all p (drop i s)
     all-next e = sym (all-step ∙ ap (λ b. b && all p (drop (i + 1) s)) e)
 
@@ -68,7 +68,7 @@ module _ {A : Type 0} where
   getD-pieces (suc n) w s (suc i) h =
       getD-pieces n w (drop w s) i (le-of-suc-le-suc h) ∙ ap (take w) (drop-drop (w * i) w s ∙ ap (λ k. drop k s) (add-comm w (w * i) ∙ sym (mul-suc w i)))
 
-  -- tests and searches over two lists, one behind the other
+  -- tests and searches over two lists, one after the other
   pub all-append : (p : A → Bool) (s t : List A) → all p (s ++ t) ≡ (all p s && all p t)
   unfolding all
   all-append p [] t = refl
@@ -228,7 +228,7 @@ unfolding any
 none-any p [] h = refl
 none-any p (x ∷ xs) h = rw (h .0, none-any p xs (h .1))
 
--- no two alike, one list behind the other: each by itself, and none of the one like any of the other
+-- no two alike, one list after the other: each by itself, and none of the one like any of the other
 module _ {A : Type 0} (alike : A → A → Bool) where
   abbrev pub Unique : List A → Type 0
   Unique [] = Unit {0}
@@ -258,9 +258,9 @@ every-flat f P Q g (x ∷ xs) h = every-append Q (f x) (flatMap f xs) (g x (h .0
 -- ---- stretches
 
 module _ {A : Type 0} where
-  -- what stands behind a front
-  pub cut-behind : (p x q : List A) → cut (p ++ (x ++ q)) (length p) (length x) ≡ x
-  cut-behind p x q = rw (drop-append-seam p (x ++ q), take-append-seam x q)
+  -- what stands after a front
+  pub cut-after : (p x q : List A) → cut (p ++ (x ++ q)) (length p) (length x) ≡ x
+  cut-after p x q = rw (drop-append-seam p (x ++ q), take-append-seam x q)
 
   -- what is appended changes no stretch that was all there
   pub cut-longer : (s t : List A) (at n : ℕ) → at + n ≤ length s → cut (s ++ t) at n ≡ cut s at n
@@ -383,7 +383,7 @@ module _ {A : Type 0} where
     pub any-holds : p (getD s i d) ≡ true → true ≡ any p (drop i s)
     any-holds e = sym (any-step ∙ ap (λ b. b || any p (drop (i + 1) s)) e)
 
-    -- it fails, and what is left behind it decides
+    -- it fails, and what is left after it decides
     pub any-next : p (getD s i d) ≡ false → any p (drop (i + 1) s) ≡ any p (drop i s)
     any-next e = sym (any-step ∙ ap (λ b. b || any p (drop (i + 1) s)) e)
 
@@ -396,11 +396,11 @@ module _ {A : Type 0} where
     unfolding unique
     unique-step = rw (add-one, drop-cons s i d)
 
-    -- what is left at i: one behind the element there is like it
+    -- what is left at i: one after the element there is like it
     pub unique-fails : any (alike (getD s i d)) (drop (i + 1) s) ≡ true → false ≡ unique alike (drop i s)
     unique-fails e = sym (unique-step ∙ ap (λ b. not b && unique alike (drop (i + 1) s)) e)
 
-    -- none is, and what is left behind it decides
+    -- none is, and what is left after it decides
     pub unique-next : any (alike (getD s i d)) (drop (i + 1) s) ≡ false → unique alike (drop (i + 1) s) ≡ unique alike (drop i s)
     unique-next e = sym (unique-step ∙ ap (λ b. not b && unique alike (drop (i + 1) s)) e)
 

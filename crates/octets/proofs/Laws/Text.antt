@@ -34,7 +34,7 @@ module _ (f : ℕ → ℕ) where
     pub same-fails : (f (getD a i 0) ≡ f (getD b i 0) → ⊥) → false ≡ same (map f (drop i a)) (map f (drop i b))
     same-fails n = sym (same-step ∙ ap (λ t. t && same (map f (drop (i + 1) a)) (map f (drop (i + 1) b))) (ne-eqb (f (getD a i 0)) (f (getD b i 0)) n))
 
-    -- they agree, and what is left behind them decides
+    -- they agree, and what is left after them decides
     pub same-next : f (getD a i 0) ≡ f (getD b i 0) → same (map f (drop (i + 1) a)) (map f (drop (i + 1) b)) ≡ same (map f (drop i a)) (map f (drop i b))
     same-next e = sym (same-step ∙ ap (λ t. t && same (map f (drop (i + 1) a)) (map f (drop (i + 1) b))) (eq-eqb (f (getD a i 0)) (f (getD b i 0)) e))
 

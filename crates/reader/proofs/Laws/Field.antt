@@ -7,7 +7,7 @@ use lib.ListN.{length, length-append}
 use borrow.Author.Tests.{le-ltb}
 use Rattle.answers.specs.Try.{good}
 use Rattle.octets.specs.Lists.{cut}
-use Rattle.octets.proofs.Laws.Lists.{cut-behind}
+use Rattle.octets.proofs.Laws.Lists.{cut-after}
 use Rattle.octets.proofs.Laws.Text.{same-self}
 use Rattle.reader.specs.Field.{octetsAt, fixedAt}
 
@@ -30,7 +30,7 @@ module _ {s : List ℕ} {at : ℕ} where
   left-length rest l = ap length (l .whole) ∙ simp length-append (omega (arith, l .place))
 
   pub left-cut : (x rest : List ℕ) → Left s at (x ++ rest) → cut s at (length x) ≡ x
-  left-cut x rest l = rw (l .whole, ← (l .place)) (cut-behind (l .front) x rest)
+  left-cut x rest l = rw (l .whole, ← (l .place)) (cut-after (l .front) x rest)
 
   -- n octets that stand here
   pub octets-here : (x rest : List ℕ) (n : ℕ) → length x ≡ n → Left s at (x ++ rest) → octetsAt s at n ≡ good (record { value = x; next = at + n })

@@ -17,8 +17,8 @@ use Rattle.octets.specs.Lists.{cut}
 use Rattle.octets.proofs.Laws.Lists.{Every}
 use Rattle.octets.specs.Number.{littleOctets, has}
 use Rattle.octets.proofs.Laws.Number.{length-little, little-back}
-use Rattle.octets.specs.Utf16.{utf16, pointsOctets}
-use Rattle.octets.proofs.Laws.Utf16.{Spoken}
+use Rattle.unicode.specs.Utf16.{utf16, pointsOctets}
+use Rattle.unicode.proofs.Laws.Utf16.{Spoken}
 use Rattle.reader.proofs.Laws.Field.{Left, left-start, left-behind, left-next, left-length, left-cut, left-same, octets-here, fixed-here}
 use Rattle.reader.specs.Name.{nameAt}
 use Rattle.reader.proofs.Laws.Name.{name-here}

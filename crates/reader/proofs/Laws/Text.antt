@@ -10,9 +10,9 @@ use borrow.Author.Tests.{ne-eqb, le-leb, lt-leb, ltb-true, ltb-false}
 use Rattle.answers.specs.Try.{Try, good}
 use Rattle.octets.proofs.Laws.Lists.{Every}
 use Rattle.octets.specs.Number.{little, littleOctets}
-use Rattle.octets.proofs.Laws.Utf8.{Scalar}
-use Rattle.octets.specs.Utf16.{pointOctets, pointsOctets, isHigh, isLow}
-use Rattle.octets.proofs.Laws.Utf16.{highUnit, lowUnit, one-unit, two-units}
+use Rattle.unicode.proofs.Laws.Utf8.{Scalar}
+use Rattle.unicode.specs.Utf16.{pointOctets, pointsOctets, isHigh, isLow}
+use Rattle.unicode.proofs.Laws.Utf16.{highUnit, lowUnit, one-unit, two-units}
 use Rattle.reader.specs.Field.{Read}
 use Rattle.reader.proofs.Laws.Field.{Left, octets-here, left-behind, left-next, left-length}
 use Rattle.reader.specs.Text.{Stretch, ends, plain, high, low, unitOf, go, turn, textFrom, textAt}

@@ -2,7 +2,8 @@
 use mathlib.Core.Bool.{Bool, true, false}
 use mathlib.Core.List.{List}
 use Prim.Native.Nat.{ℕ}
-use Rattle.octets.specs.NameRule.{isDnsName, isNetbiosName, isSiteName, isAccountName}
+use Rattle.octets.specs.NameRule.{isDnsName, isNetbiosName, isSiteName}
+use Rattle.unicode.specs.UserName.{isAccountName}
 use Rattle.table.specs.declared.field.Rule.{Rule}
 use Rattle.table.specs.declared.field.Rule.the-variants.{Dns, Netbios, NetbiosOrEmpty, Site, Account}
 use Rattle.table.specs.Layout.{contextNetbios}

@@ -13,11 +13,11 @@ use Rattle.answers.proofs.Laws.Try.{refusedIf-good}
 use Rattle.octets.specs.Lists.{all, cut, keep, pieces}
 use Rattle.octets.proofs.Laws.Lists.{Every, every-all, every-map, every-flat, every-keep, both-left, both-right, other-right, cut-length, pieces-wide}
 use Rattle.octets.specs.NameRule.{isDnsName, isNetbiosName, isSiteName}
-use Rattle.octets.proofs.Laws.NameRule.{Writable, dns-writable, netbios-writable, netbios-spoken, site-writable, empty-writable, empty-spoken}
+use Rattle.octets.proofs.Laws.NameRule.{Writable, dns-writable, netbios-writable, site-writable, empty-writable}
 use Rattle.octets.specs.Text.{allZero, within}
 use Rattle.octets.proofs.Laws.Text.{within-low}
 use Rattle.octets.specs.Number.{u16At, u32At}
-use Rattle.octets.proofs.Laws.Utf16.{Spoken}
+use Rattle.unicode.proofs.Laws.Utf16.{Spoken, netbios-spoken, empty-spoken}
 use Rattle.table.specs.Check.{goodCheck}
 use Rattle.table.specs.Field.{zeros, textAt, textField}
 use Rattle.table_whole.specs.Judgement.{goodLength, tableIn, judgedAs}

@@ -1,10 +1,10 @@
 use native.Mathlib.Omega.{arith}
-use Rattle.octets.specs.Utf8.{lead}
+use Rattle.unicode.specs.Utf8.{lead}
 use borrow.Author.Tests.{lt-ltb, le-ltb, eq-eqb, ne-eqb}
 use mathlib.Core.Path.{_∙_}
 use borrow.Author.Needs.{needs}
-use Rattle.octets.proofs.utf8.first_octet.Statement.{statement}
-use Rattle.octets.proofs.utf8.first_octet.Tie as tie
+use Rattle.unicode.proofs.utf8.first_octet.Statement.{statement}
+use Rattle.unicode.proofs.utf8.first_octet.Tie as tie
 
 returns : tie.Need-returns
 unfolding lead

@@ -1,9 +1,9 @@
-use Rattle.octets.proofs.Laws.Utf8Step.{below, above, taken, bits-at}
+use Rattle.unicode.proofs.Laws.Decoder.{below, above, taken, bits-at}
 use native.Mathlib.Omega.{arith}
 use mathlib.Core.Path.{_≡_}
 use borrow.Author.Needs.{needs}
-use Rattle.octets.proofs.utf8.later_octet.Statement.{statement}
-use Rattle.octets.proofs.utf8.later_octet.Tie as tie
+use Rattle.unicode.proofs.utf8.later_octet.Statement.{statement}
+use Rattle.unicode.proofs.utf8.later_octet.Tie as tie
 
 returns : tie.Need-returns
 returns c = let a = c .before .before .args in (below (a .i) (a .x) (c .if1 .taken), tt)

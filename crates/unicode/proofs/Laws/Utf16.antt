@@ -8,11 +8,16 @@ use native.Mathlib.Omega.{arith}
 use lib.Dec.{ltb}
 use lib.ListN.{length, length-append}
 use borrow.Author.Tests.{le-ltb, lt-ltb}
-use Rattle.octets.proofs.Laws.Lists.{Every}
+use Rattle.octets.specs.Lists.{all}
+use Rattle.octets.proofs.Laws.Lists.{Every, every-all, every-weaken}
+use Rattle.octets.specs.NameRule.{printable, isNetbiosName}
+use Rattle.octets.proofs.Laws.NameRule.{netbios-printable}
+use Rattle.octets.specs.Text.{isPrintable}
+use Rattle.octets.proofs.Laws.Text.{within-low, within-high}
 use Rattle.octets.specs.Number.{little, littleOctets}
-use Rattle.octets.specs.Utf8.{points}
-use Rattle.octets.proofs.Laws.Utf8.{Scalar, units, unitsOf, sayable}
-use Rattle.octets.specs.Utf16.{pointOctets, pointsOctets, utf16}
+use Rattle.unicode.specs.Utf8.{points}
+use Rattle.unicode.proofs.Laws.Utf8.{Scalar, units, unitsOf, sayable, points-ascii}
+use Rattle.unicode.specs.Utf16.{pointOctets, pointsOctets, utf16}
 
 -- the units of a code point: itself, or a high and a low surrogate
 abbrev pub highUnit : ℕ → ℕ
@@ -59,3 +64,17 @@ spoken s cs z e =
     let k : Every Scalar cs × (unitsOf cs ≤ length s) = sayable s cs z e in
     let q : utf16 s ≡ pointsOctets cs = rw e in
     record { codes = cs; said = q; scalars = k .0; short = rw q (omega (arith, length-points cs)) }
+
+-- printable ASCII, as NetBIOS names are
+printable-spoken : (s : List ℕ) → printable s ≡ true → Spoken s
+printable-spoken s e =
+    let a : Every (λ x. (0x21 ≤ x) × (x ≤ 0x7E)) s = every-all isPrintable (λ x. (0x21 ≤ x) × (x ≤ 0x7E)) (λ x q. (within-low 0x21 0x7E x q, within-high 0x21 0x7E x q)) s e in
+    let b : Every (λ x. 1 ≤ x) s = every-weaken (λ x. (0x21 ≤ x) × (x ≤ 0x7E)) (λ x. 1 ≤ x) (λ x q. omega arith) s a in
+    let c : Every (λ x. x < 0x80) s = every-weaken (λ x. (0x21 ≤ x) × (x ≤ 0x7E)) (λ x. x < 0x80) (λ x q. omega arith) s a in
+    spoken s s b (points-ascii s c)
+
+pub netbios-spoken : (s : List ℕ) → isNetbiosName s ≡ true → Spoken s
+netbios-spoken s e = printable-spoken s (netbios-printable s e)
+
+pub empty-spoken : Spoken []
+empty-spoken = printable-spoken [] (unfold all in refl)

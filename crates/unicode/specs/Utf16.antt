@@ -1,12 +1,12 @@
 -- Document 01, "Reply octets": texts as UTF-16LE, the octets of code points and of a UTF-8 text.
 use mathlib.Core.Bool.{Bool, cond}
 use mathlib.Core.List.{List, [], _∷_, _++_}
-use mathlib.Core.Option.{Option, none, some}
+use mathlib.Core.Option.{Option·map, Option·getD}
 use Prim.Native.Nat.{ℕ, _+_, _-_, _/_, _%_}
 use lib.Dec.{ltb}
 use Rattle.octets.specs.Number.{littleOctets}
 use Rattle.octets.specs.Text.{within}
-use Rattle.octets.specs.Utf8.{points}
+use Rattle.unicode.specs.Utf8.{points}
 
 abbrev pub isHigh : ℕ → Bool
 isHigh = within 0xD800 0xDBFF
@@ -25,10 +25,6 @@ unfoldable pub pointsOctets : List ℕ → List ℕ
 pointsOctets [] = []
 pointsOctets (c ∷ cs) = pointOctets c ++ pointsOctets cs
 
-abbrev pub orNothing : Option (List ℕ) → List ℕ
-orNothing none = []
-orNothing (some cs) = pointsOctets cs
-
 -- a text that is UTF-8, in UTF-16LE
 unfoldable pub utf16 : List ℕ → List ℕ
-utf16 s = orNothing (points s)
+utf16 s = Option·getD (Option·map pointsOctets (points s)) []
