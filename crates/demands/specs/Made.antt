@@ -3,9 +3,9 @@ use mathlib.Core.Path.{_≡_}
 use mathlib.Core.List.{List}
 use Prim.Native.Nat.{ℕ}
 use Rattle.answers.specs.Try.{good}
-use Rattle.filter.specs.declared.Request.{Request}
-use Rattle.filter.specs.Taken.{requestIn}
-use Rattle.filter.specs.Value.{Ping, pingIn}
+use Rattle.filter.specs.declared.request.Request.{Request}
+use Rattle.filter_read.specs.Taken.{requestIn}
+use Rattle.filter_read.specs.Value.{Ping, pingIn}
 use Rattle.locator.specs.Answer.{Outcome, replyTo}
 use Rattle.locator.specs.Choose.{replyFor}
 use Rattle.locator.specs.Judge.{contextIn}

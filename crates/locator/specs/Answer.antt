@@ -10,8 +10,8 @@ use Rattle.answers.specs.declared.Form.the-variants.{Nt40, Response, Ex}
 use Rattle.answers.specs.declared.Refusal.the-variants.{UserLabelEmpty, NoRoom}
 use Rattle.answers.specs.Refusal.{number}
 use Rattle.answers.specs.Try.{Try, refused, good, refusedIf, _>>=_}
-use Rattle.filter.specs.Taken.{requestIn}
-use Rattle.filter.specs.Value.{Ping, pingIn}
+use Rattle.filter_read.specs.Taken.{requestIn}
+use Rattle.filter_read.specs.Value.{Ping, pingIn}
 use Rattle.octets.specs.Label.{labels}
 use Rattle.octets.specs.Lists.{any, holds}
 use Rattle.reply.specs.Reply.{octetsIn}

@@ -5,7 +5,7 @@ use mathlib.Core.Option.{Option, none, some}
 use Prim.Native.Nat.{ℕ, _+_}
 use Rattle.answers.specs.declared.Form.{Form}
 use Rattle.answers.specs.declared.Form.the-variants.{Nt40, Response, Ex}
-use Rattle.filter.specs.Value.{Ping}
+use Rattle.filter_read.specs.Value.{Ping}
 use Rattle.octets.specs.Lists.{holds}
 use Rattle.octets.specs.Number.{has}
 use Rattle.reply.specs.Reply.{Reply}

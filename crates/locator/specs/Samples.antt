@@ -1,17 +1,17 @@
 -- Document 01, "Sample answers": P1 to P12 as one table, of which one statement is proved by computation.
 use mathlib.Core.Path.{_≡_, refl}
 use mathlib.Core.List.{List, [], _∷_, _++_, map, flatMap}
-use mathlib.Core.Option.{Option, none, some}
+use mathlib.Core.Option.{Option, none, some, bind}
 use Prim.Native.Nat.{ℕ, _+_}
 use lib.ListN.{length, take, replicate}
 use Rattle.answers.specs.declared.Form.{Form}
 use Rattle.answers.specs.declared.Form.the-variants.{Nt40, Response, Ex}
 use Rattle.answers.specs.Try.{Try, refused, good}
-use Rattle.filter.specs.declared.ClauseName.{ClauseName}
-use Rattle.filter.specs.declared.ClauseName.the-variants.{User, Aac, DomainGuid, NtVer}
-use Rattle.filter.specs.Shape.{elementAt, equality, one, siblings, andOf, clausesOf}
-use Rattle.filter.specs.Taken.{isNamed, strange, twice, requestOf, requestIn}
-use Rattle.filter.specs.Value.{wrongValue, versionAsked, pingIn}
+use Rattle.filter.specs.declared.request.ClauseName.{ClauseName}
+use Rattle.filter.specs.declared.request.ClauseName.the-variants.{User, Aac, DomainGuid, NtVer}
+use Rattle.filter.specs.Filter.{elementAt, equality, one, siblings, andOf, clausesOf}
+use Rattle.filter_read.specs.Taken.{isNamed, hasUnknown, hasDuplicate, requestOf, requestIn}
+use Rattle.filter_read.specs.Value.{wrongValue, versionAsked, pingIn}
 use Rattle.filter_write.specs.Write.{lengthOctets, element, equalityFor}
 use Rattle.names.specs.Name.{pointer, label, labelsAt, nameAt, namesAt}
 use Rattle.names.specs.Walk.{lookAt, walkFrom, walk}
@@ -210,5 +210,5 @@ samples =
     ∷ []
 
 pub samples-hold : map (λ r. r .got) samples ≡ map (λ r. r .due) samples
-unfolding samples checked block example corp CORP DC1 dc1 HQ ann guid ipv4 image filter version six caller pings summary refusal P1 asks named elementAt equality one siblings andOf clausesOf isNamed strange twice requestOf requestIn wrongValue versionAsked pingIn lengthOctets element pointer label labelsAt nameAt namesAt lookAt walkFrom walk parts labels joined all any first keep unique pieces isDnsName isPlainName isUserName isAccountName little big littleOctets bigOctets has isSid same lower pointOctets pointsOctets utf16 lead follow pointsFrom isUtf8 octetsAt fixedAt reading.nameFrom reading.nameAt reader.namesAt opcodeIn numberAt tokensAt addressAt hasNextSite lastAt readEx text16 ending opening nt40Octets responseHead responseOctets exHead exOctets grown checkOf goodCheck zeros textField goodLength tableIn serverLayout forestLayout contextLayout accountLayout siteLayout subnetLayout bodyLayout blockLayout layoutsFrom serverOf contextOf accountOf siteOf subnetOf blocksOf bodies recordsOf tableOf sameAccountName contextsUnique accountsUnique sitesUnique hasContext hasSite refersRightly goodWhole answerTo wrongUser replyTo mayLogOn isKnown userUnknown formOf isHeldBack opcodeOf namesApplication exFlags responseFlags nextSite replyFor contextsSearched contextByGuid isNamedBy contextByDnsName holdsSid contextBySid contextByNumber defaultContext accountByName siteByNumber addressNumber isPrefixOnly sharePrefix subnetFor clientSite contextUsed contextIn flatMap
+unfolding samples checked block example corp CORP DC1 dc1 HQ ann guid ipv4 image filter version six caller pings summary refusal P1 asks named elementAt equality one siblings andOf clausesOf bind isNamed hasUnknown hasDuplicate requestOf requestIn wrongValue versionAsked pingIn lengthOctets element pointer label labelsAt nameAt namesAt lookAt walkFrom walk parts labels joined all any first keep unique pieces isDnsName isPlainName isUserName isAccountName little big littleOctets bigOctets has isSid same lower pointOctets pointsOctets utf16 lead follow pointsFrom isUtf8 octetsAt fixedAt reading.nameFrom reading.nameAt reader.namesAt opcodeIn numberAt tokensAt addressAt hasNextSite lastAt readEx text16 ending opening nt40Octets responseHead responseOctets exHead exOctets grown checkOf goodCheck zeros textField goodLength tableIn serverLayout forestLayout contextLayout accountLayout siteLayout subnetLayout bodyLayout blockLayout layoutsFrom serverOf contextOf accountOf siteOf subnetOf blocksOf bodies recordsOf tableOf sameAccountName contextsUnique accountsUnique sitesUnique hasContext hasSite refersRightly goodWhole answerTo wrongUser replyTo mayLogOn isKnown userUnknown formOf isHeldBack opcodeOf namesApplication exFlags responseFlags nextSite replyFor contextsSearched contextByGuid isNamedBy contextByDnsName holdsSid contextBySid contextByNumber defaultContext accountByName siteByNumber addressNumber isPrefixOnly sharePrefix subnetFor clientSite contextUsed contextIn flatMap
 samples-hold = refl

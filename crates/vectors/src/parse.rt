@@ -114,7 +114,7 @@ pub fn space_count(line: &[u8]) -> usize {
     n
 }
 
-// Where the word of a number starts, from 0; behind its last word a line has nothing but its end.
+// Where the word of a number starts, from 0; after its last word a line has nothing but its end.
 pub fn word_start(line: &[u8], number: usize) -> usize
     ensures { λ r. ⌜ r ≤ length (now (line .entry)) ⌝ }
 {

@@ -13,10 +13,10 @@ use Rattle.answers.specs.declared.Form.the-variants.{Nt40, Response, Ex}
 use Rattle.answers.specs.declared.Refusal.the-variants.{ClauseValue, GuidLength, GuidNotHeld, DnsNameEmpty, DnsNameNotHeld, SidShape, SidNotHeld, SidOfAnother, UserLabelEmpty, NoRoom, TableWhole, NoVersion}
 use Rattle.answers.specs.Try.{good}
 use Rattle.answers.proofs.Laws.Try.{refusedIf-good, good-then, refused-not-good}
-use Rattle.filter.specs.declared.Request.{Request}
+use Rattle.filter.specs.declared.request.Request.{Request}
 use Rattle.filter.specs.Request.{octetsOf}
-use Rattle.filter.specs.Taken.{requestIn}
-use Rattle.filter.specs.Value.{Ping, isNumber, wrongValue, pingOf, versionAsked, withVersion, pingIn}
+use Rattle.filter_read.specs.Taken.{requestIn}
+use Rattle.filter_read.specs.Value.{Ping, isNumber, wrongValue, pingOf, versionAsked, withVersion, pingIn}
 use Rattle.locator.specs.Answer.{Outcome, wrongUser, replyTo, answerTo}
 use Rattle.locator.specs.Choose.{PDC, catalog, KDC, timeService, readOnly, goodTime, webService, since2012, since2012R2, later2003R2, flag, opcodeOf, exFlags, responseFlags, flagsOf, orNone, nameOfSite, nextTo, onlyIf, nextSite, replyFor, formOf, level2008, isAt, namesApplication}
 use Rattle.table_find.specs.Find.{contextsSearched, contextByGuid, contextByDnsName, contextBySid, holdsSid, contextByNumber, defaultContext, siteByNumber, siteIfAny, siteOfSubnet, siteFor, clientSite, subnetFor}

@@ -391,6 +391,23 @@ module _ {A : Type 0} where
   unfolding any
   any-end p s i h = rw (drop-of-length-le s)
 
+  module _ (p : A → Bool) (s : List A) (i : ℕ) (d : A) (h : i < length s) where
+    first-step : first p (drop i s) ≡ firstOr (p (getD s i d)) (getD s i d) (first p (drop (i + 1) s))
+    unfolding first
+    first-step = rw (add-one, drop-cons s i d)
+
+    -- what is left at i: the element there is the first that passes the test
+    pub first-here : p (getD s i d) ≡ true → some (getD s i d) ≡ first p (drop i s)
+    first-here e = sym (first-step ∙ ap (λ b. firstOr b (getD s i d) (first p (drop (i + 1) s))) e)
+
+    -- it fails, and what is left after it decides
+    pub first-next : p (getD s i d) ≡ false → first p (drop (i + 1) s) ≡ first p (drop i s)
+    first-next e = sym (first-step ∙ ap (λ b. firstOr b (getD s i d) (first p (drop (i + 1) s))) e)
+
+  pub first-end : (p : A → Bool) (s : List A) (i : ℕ) → length s ≤ i → none ≡ first p (drop i s)
+  unfolding first
+  first-end p s i h = rw (drop-of-length-le s)
+
   module _ (alike : A → A → Bool) (s : List A) (i : ℕ) (d : A) (h : i < length s) where
     unique-step : unique alike (drop i s) ≡ (not (any (alike (getD s i d)) (drop (i + 1) s)) && unique alike (drop (i + 1) s))
     unfolding unique
