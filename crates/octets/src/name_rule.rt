@@ -1,7 +1,5 @@
 // What DNS, NetBIOS and site names must be, and a SID.
 ghost use mathlib.Core.Path.{_≡_};
-ghost use Prim.Native.Nat.{_≤_};
-ghost use lib.ListN.{length};
 ghost use Rattle.octets.specs.Lists.{all};
 ghost use Rattle.octets.specs.Label.{parts};
 ghost use Rattle.octets.specs.Internal.LabelStep.{labelStep, InLabel};

@@ -1,13 +1,11 @@
 // Texts: comparing them, and what their octets must be.
 ghost use mathlib.Core.Path.{_≡_};
-ghost use mathlib.Core.Bool.{Bool};
 ghost use mathlib.Core.List.{map};
-ghost use Prim.Native.Nat.{_+_, _≤_, _<_};
-ghost use lib.ListN.{length};
+ghost use Prim.Native.Nat.{_+_, _<_};
 ghost use Rattle.octets.specs.Internal.Class.{isOf};
 ghost use Rattle.octets.specs.Lists.{all};
 ghost use Rattle.octets.specs.NameRule.{printable, without};
-ghost use Rattle.octets.specs.Text.{same, lower, sameFolded, allZero, foldIf};
+ghost use Rattle.octets.specs.Text.{same, sameFolded, allZero, foldIf};
 
 // A class of octets that a text may be made of.
 pub enum Class {

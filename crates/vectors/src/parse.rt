@@ -1,5 +1,4 @@
 // Words and octets of a request line.
-ghost use mathlib.Core.Path.{_≡_};
 ghost use Prim.Native.Nat.{_≤_, _<_};
 ghost use lib.ListN.{length};
 ghost use Rattle.vectors.specs.Internal.Bounds.{Small};

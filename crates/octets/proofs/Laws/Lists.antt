@@ -8,7 +8,7 @@ use native.Mathlib.Nat.{mul-zero, mul-suc, sub-zero, zero-sub, suc-sub-suc, add-
 use native.Mathlib.Omega.{arith}
 use native.Mathlib.Numerals.{add-one}
 use lib.ListN.{length, getD, take, drop, length-take, length-drop, drop-of-length-le}
-use lib.Seq.{drop-cons, getD-take, getD-drop, take-take, drop-drop, take-nil, drop-nil, take-all, take-append-seam, drop-append-seam, take-append-le, drop-append-le, length-take-le}
+use lib.Seq.{drop-cons, take-take, drop-drop, take-nil, take-all, take-append-seam, drop-append-seam, take-append-le, drop-append-le, length-take-le}
 use Rattle.octets.specs.Lists.{all, any, first, firstOr, keep, keepIf, cut, pieces, unique, isSome}
 
 module _ {A : Type 0} where

@@ -1,8 +1,8 @@
 -- Laws of comparing texts: over what is left at an index, for any way of folding an octet.
 use mathlib.Core.Path.{_≡_, refl, sym, ap, _∙_}
-use mathlib.Core.Bool.{Bool, true, false, _&&_, and-false}
+use mathlib.Core.Bool.{Bool, true, false, _&&_}
 use mathlib.Core.List.{List, [], _∷_, map}
-use Prim.Native.Nat.{ℕ, zero, suc, _+_, _≤_, _<_}
+use Prim.Native.Nat.{ℕ, suc, _+_, _≤_, _<_}
 use native.Mathlib.Numerals.{add-one}
 use lib.Dec.{eqb, leb}
 use lib.ListN.{length, getD, drop, drop-of-length-le}
@@ -10,7 +10,6 @@ use lib.Seq.{drop-cons}
 use borrow.Author.Tests.{eq-eqb, ne-eqb, eqb-true, leb-true, eqb-false}
 use Rattle.octets.specs.Text.{same, within, lower, sameFolded}
 use Rattle.octets.proofs.Laws.Lists.{both-left, both-right, true-not-false}
-use native.Mathlib.Omega.{arith}
 
 -- texts of other lengths are not the same
 pub same-lengths : (x y : List ℕ) → (length x ≡ length y → ⊥) → same x y ≡ false

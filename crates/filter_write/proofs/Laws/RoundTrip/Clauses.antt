@@ -8,7 +8,6 @@ use native.Mathlib.Decide.{decLe}
 use native.Mathlib.Nat.{not-suc-le-zero}
 use native.Mathlib.Omega.{arith}
 use borrow.Author.Tests.{eq-eqb, ne-eqb, not-true}
-use lib.Dec.{eqb}
 use lib.ListN.{length, drop, length-append}
 use Rattle.octets.specs.Lists.{any, first, firstOr, unique, isSome, cut}
 use Rattle.octets.proofs.Laws.Lists.{first-any, any-ext, both-left, both-right, neither-left, neither-right}
