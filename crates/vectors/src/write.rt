@@ -42,7 +42,7 @@ fn has_clauses(line: &[u8]) -> bool {
 }
 
 // Puts a clause's octets into the source where its word stands in the line: they take half as much room, so no two meet.
-fn place_clause(line: &[u8], number: usize, source: &mut [u8]) {
+fn copy_clause(line: &[u8], number: usize, source: &mut [u8]) {
     let start = word_start(line, number);
     let text = word(line, number);
     if text.len() == 0 {
@@ -54,10 +54,10 @@ fn place_clause(line: &[u8], number: usize, source: &mut [u8]) {
     decode(&text[1..], &mut source[start..]);
 }
 
-fn place_clauses(line: &[u8], source: &mut [u8]) {
+fn copy_clauses(line: &[u8], source: &mut [u8]) {
     let mut number = FIRST_CLAUSE;
     while number < CLAUSES_END {
-        place_clause(line, number, source);
+        copy_clause(line, number, source);
         number += 1;
     }
 }
@@ -136,7 +136,7 @@ pub fn answer_write(line: &[u8], space: &mut [u8]) {
         say_unknown();
         return;
     }
-    place_clauses(line, space);
+    copy_clauses(line, space);
     let mut out = filled();
     let end = room as usize;
     write_into(line, space, &mut out[..end]);

@@ -146,9 +146,9 @@ module _ (s : List ℕ) (at end : ℕ) where
     unfolding filterIn
     filter-wrong q f = filter-to ∙ ap (readTo rest) (by-tag equalityTag q ∙ ap (Option·map filter.Clause) (equality-none (believed.equality s (inside .at) (inside .end)) f))
 
-    pub filter-clause : (found : RawClause) → tag ≡ equalityTag → equalityAs (believed.equality s (inside .at) (inside .end)) ≡ equality.Clause found → filterAt s at end ≡ read.Good (filter.Clause found) rest
+    pub filter-clause : (clause : RawClause) → tag ≡ equalityTag → equalityAs (believed.equality s (inside .at) (inside .end)) ≡ equality.Clause clause → filterAt s at end ≡ read.Good (filter.Clause clause) rest
     unfolding filterIn
-    filter-clause found q f = filter-to ∙ ap (readTo rest) (by-tag equalityTag q ∙ ap (Option·map filter.Clause) (equality-some (believed.equality s (inside .at) (inside .end)) found f))
+    filter-clause clause q f = filter-to ∙ ap (readTo rest) (by-tag equalityTag q ∙ ap (Option·map filter.Clause) (equality-some (believed.equality s (inside .at) (inside .end)) clause f))
 
     pub filter-and : tag ≡ andTag → filterAt s at end ≡ read.Good (filter.And inside) rest
     unfolding filterIn

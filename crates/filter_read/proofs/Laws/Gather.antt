@@ -67,13 +67,13 @@ module _ (s : List ℕ) where
   unfolding added
   unknown-one g f = by (nameFor f) ∙ ap (λ (b : Bool). g .unknown || b) (sym (unknown-spelled f))
     where
-      placed : (n : ClauseName) (b : Bool) → addedTo g n f b .unknown ≡ (g .unknown || false)
-      placed n true = sym (or-false (g .unknown))
-      placed n false = sym (or-false (g .unknown))
+      kept : (n : ClauseName) (b : Bool) → addedTo g n f b .unknown ≡ (g .unknown || false)
+      kept n true = sym (or-false (g .unknown))
+      kept n false = sym (or-false (g .unknown))
 
       by : (o : Option ClauseName) → addedAs g f o .unknown ≡ (g .unknown || not (isSome o))
       by none = sym (or-true (g .unknown))
-      by (some n) = placed n (isPresent (clause (g .request) n))
+      by (some n) = kept n (isPresent (clause (g .request) n))
 
   pub all-unknown : (g : Gathered) (fs : List RawClause) → allAdded s g fs .unknown ≡ (g .unknown || hasUnknown s fs)
   unfolding allAdded hasUnknown any

@@ -30,7 +30,7 @@ use Rattle.filter_read.specs.Taken.{isNamed, asClause, requestOf, requestIn, ta
 use Rattle.filter_write.specs.Write.{element, equalityFor, filterOctets, filterFor, writtenAs, writtenOctets}
 use Rattle.filter_write.specs.RoundTrip.{SameClauses, RoundTrip, CallsRoundTrip}
 use Rattle.filter_write.proofs.Laws.RoundTrip.Elements.{element-back, contents-back}
-use Rattle.filter_write.proofs.Laws.RoundTrip.Clauses.{Found-again, siblings-back, distinct, none-unknown, none-duplicate, octets-back, some-length}
+use Rattle.filter_write.proofs.Laws.RoundTrip.Clauses.{AllAgain, siblings-back, distinct, none-unknown, none-duplicate, octets-back, some-length}
 use Rattle.filter_write.specs.Internal.Size.{headSize, elementSize, contents}
 use Rattle.filter_write.proofs.Laws.Size.{head-bounds, element-length}
 
@@ -69,7 +69,7 @@ module _ (source : List ℕ) (r : Request) where
     start : ℕ
     start = 0 + headSize (length inside)
 
-    again : Found-again s value 3 (start + length inside - start) start (start + length inside) names
+    again : AllAgain s value 3 (start + length inside - start) start (start + length inside) names
     unfolding start
     again =
         let z = size in

@@ -310,7 +310,7 @@ module _ {A : Type 0} where
   any-never [] = refl
   any-never (x ∷ xs) = any-never xs
 
-  -- a test of each element, at one place
+  -- a test of each element, at one index
   pub any-false : (p : A → Bool) (xs : List A) (i : ℕ) (d : A) → i < length xs → any p xs ≡ false → p (getD xs i d) ≡ false
   unfolding any
   any-false p [] i d h e = absurd (not-suc-le-zero h)

@@ -55,25 +55,25 @@ module _ (s : List ℕ) (value : ClauseName → Option (List ℕ)) where
           absurd (omega arith)
 
   -- what is found of the equalities from `at` to the end of the octets
-  pub record Found-again (d k at end : ℕ) (ns : List ClauseName) : Type 0 where
+  pub record AllAgain (d k at end : ℕ) (ns : List ClauseName) : Type 0 where
     pub clauses : List RawClause
     pub reads : siblings (andOf d) k s at end ≡ some clauses
     pub tells : Tells ns clauses
 
-  one-again : (d at end : ℕ) (n : ClauseName) (v : List ℕ) (a : Again s at end n v) → one (andOf d) s (a .element) ≡ some (a .found ∷ [])
+  one-again : (d at end : ℕ) (n : ClauseName) (v : List ℕ) (a : Again s at end n v) → one (andOf d) s (a .element) ≡ some (a .clause ∷ [])
   unfolding one
   one-again d at end n v a = rw (one, eq-eqb (a .element .tag) equalityTag (a .tagged), a .reads)
 
   abbrev Back : ℕ → List ClauseName → Type 0
   Back d ns =
-      (k at end : ℕ) → drop at s ≡ written ns → at + length (written ns) ≡ end → end < 65536 → 0 < length (written ns) → length (written ns) ≤ k → Found-again d k at end ns
+      (k at end : ℕ) → drop at s ≡ written ns → at + length (written ns) ≡ end → end < 65536 → 0 < length (written ns) → length (written ns) ≤ k → AllAgain d k at end ns
 
   -- one equality, and those after it
   module _ (d : ℕ) (n : ClauseName) (ns : List ClauseName) (v : List ℕ) (q : value n ≡ some v) where
     abbrev eq : List ℕ
     eq = equalityFor n (some v)
 
-    back-one : Back d ns → (k at end : ℕ) → drop at s ≡ eq ++ written ns → at + length (eq ++ written ns) ≡ end → end < 65536 → length (eq ++ written ns) ≤ k → Found-again d k at end (n ∷ ns)
+    back-one : Back d ns → (k at end : ℕ) → drop at s ≡ eq ++ written ns → at + length (eq ++ written ns) ≡ end → end < 65536 → length (eq ++ written ns) ≤ k → AllAgain d k at end (n ∷ ns)
     unfolding siblings bind
     back-one rest zero at end h f below u =
         let l = length-append eq (written ns) in
@@ -87,15 +87,15 @@ module _ (s : List ℕ) (value : ClauseName → Option (List ℕ)) where
         again : Again s at end n v
         again = equality-back s at end n v (written ns) h (omega (arith, sum)) below
 
-        by : Dec (1 ≤ length (written ns)) → Found-again d (suc k) at end (n ∷ ns)
+        by : Dec (1 ≤ length (written ns)) → AllAgain d (suc k) at end (n ∷ ns)
         by (no none-after) =
             let t = sum in
             let z : length (written ns) ≡ 0 = omega arith in
             let e : again .element .next ≡ end = again .ends ∙ omega arith in
             record {
-              clauses = again .found ∷ [];
+              clauses = again .clause ∷ [];
               reads = rw (siblings, again .there, one-again d at end n v again, eq-eqb (again .element .next) end e);
-              tells = finds (again .found) v q (again .named) (again .valued) (none-left ns z);
+              tells = finds (again .clause) v q (again .named) (again .valued) (none-left ns z);
             }
         by (yes more-after) =
             let t = sum in
@@ -103,9 +103,9 @@ module _ (s : List ℕ) (value : ClauseName → Option (List ℕ)) where
             let r = rest k (at + length eq) end (after s eq (written ns) at (length eq) h refl) (omega arith) below more-after (omega arith) in
             let e : again .element .next ≡ end → ⊥ = λ p. let x : at + length eq ≡ end = sym (again .ends) ∙ p in omega arith in
             record {
-              clauses = again .found ∷ r .clauses;
+              clauses = again .clause ∷ r .clauses;
               reads = rw (siblings, again .there, one-again d at end n v again, ne-eqb (again .element .next) end e, again .ends, r .reads);
-              tells = finds (again .found) v q (again .named) (again .valued) (r .tells);
+              tells = finds (again .clause) v q (again .named) (again .valued) (r .tells);
             }
 
   pub siblings-back : (d : ℕ) (ns : List ClauseName) → Back d ns
@@ -114,7 +114,7 @@ module _ (s : List ℕ) (value : ClauseName → Option (List ℕ)) where
   siblings-back d (n ∷ ns) k at end here filled below some-there fuel = by (value n) refl here filled some-there fuel (siblings-back d ns)
     where
       by : (o : Option (List ℕ)) → value n ≡ o → drop at s ≡ equalityFor n o ++ written ns → at + length (equalityFor n o ++ written ns) ≡ end → 0 < length (equalityFor n o ++ written ns) → length (equalityFor n o ++ written ns) ≤ k
-          → Back d ns → Found-again d k at end (n ∷ ns)
+          → Back d ns → AllAgain d k at end (n ∷ ns)
       by none q h f l u rest = let r = rest k at end h f below l u in record { clauses = r .clauses; reads = r .reads; tells = skips q (r .tells) }
       by (some v) q h f l u rest = back-one d n ns v q rest k at end h f below u
 

@@ -85,13 +85,13 @@ module _ (s : List ℕ) (at end tag : ℕ) (xs rest : List ℕ) (here : drop at 
 -- a clause that was written, as it is found again: its element, its name and its value
 pub record Again (s : List ℕ) (at end : ℕ) (name : ClauseName) (value : List ℕ) : Type 0 where
   pub element : Element
-  pub found : RawClause
+  pub clause : RawClause
   pub there : elementAt s at end ≡ some element
   pub tagged : element .tag ≡ equalityTag
   pub ends : element .next ≡ at + length (equalityFor name (some value))
-  pub reads : equality s (element .start) (element .next) ≡ some found
-  pub named : cut s (found .«name_start») (found .«name_len») ≡ spelling name
-  pub valued : cut s (found .start) (found .len) ≡ value
+  pub reads : equality s (element .start) (element .next) ≡ some clause
+  pub named : cut s (clause .«name_start») (clause .«name_len») ≡ spelling name
+  pub valued : cut s (clause .start) (clause .len) ≡ value
 
 pub equality-back : (s : List ℕ) (at end : ℕ) (name : ClauseName) (value rest : List ℕ) → drop at s ≡ equalityFor name (some value) ++ rest → at + length (equalityFor name (some value)) ≤ end → end < 65536 → Again s at end name value
 unfolding equality bind
@@ -120,7 +120,7 @@ equality-back s at end name value rest here fits below =
     let vl : vs + length value - vs ≡ length value = omega arith in
     record {
       element = record { tag = equalityTag; start = start; next = next };
-      found = record { «name_start» = ns; «name_len» = ns + length (spelling name) - ns; start = vs; len = vs + length value - vs };
+      clause = record { «name_start» = ns; «name_len» = ns + length (spelling name) - ns; start = vs; len = vs + length value - vs };
       there = e;
       tagged = refl;
       ends = omega arith;

@@ -2,8 +2,8 @@ use lib.ListN.{length}
 use mathlib.Core.Path.{_≡_}
 use Prim.Native.Nat.{_-_, _≤_}
 use borrow.Author.Needs.{needs}
-use Rattle.vectors.proofs.write.place_clauses.Statement.{statement}
-use Rattle.vectors.proofs.write.place_clauses.Tie as tie
+use Rattle.vectors.proofs.write.copy_clauses.Statement.{statement}
+use Rattle.vectors.proofs.write.copy_clauses.Tie as tie
 
 abbrev Inv-loop : tie.InvT-loop
 Inv-loop line source₀ number₀ source number = (number ≤ 10) × (length source ≡ length source₀)
@@ -14,8 +14,8 @@ abbrev μ-loop : tie.MeasureT-loop
 loop-holds : tie.Need-loop-holds Inv-loop μ-loop
 loop-holds c = search needs
 
-place-clause-requires : tie.Need-place-clause-requires Inv-loop μ-loop
-place-clause-requires c κs = search needs
+copy-clause-requires : tie.Need-copy-clause-requires Inv-loop μ-loop
+copy-clause-requires c κs = search needs
 
 add-number : tie.Need-add-number Inv-loop μ-loop
 add-number c = search needs
@@ -32,14 +32,14 @@ same-length c = c .before .loop .inv .1
 returns : tie.Need-returns Inv-loop μ-loop
 returns c = search needs
 
-pub place-clauses-spec : {M : Type 1} → statement M
-place-clauses-spec =
+pub copy-clauses-spec : {M : Type 1} → statement M
+copy-clauses-spec =
     tie.close
     (tie.spec
     Inv-loop
     μ-loop
     loop-holds
-    place-clause-requires
+    copy-clause-requires
     add-number
     loop-less
     loop-again
