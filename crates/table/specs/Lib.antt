@@ -1,3 +1,4 @@
+pub mod Bits
 pub mod Check
 pub mod Address
 pub mod Field
