@@ -1,55 +1,43 @@
 -- A good answer was made from good parts, so that its reply can be written and read.
 use mathlib.Core.Path.{_≡_, refl, ap, subst}
-use mathlib.Core.Bool.{Bool, true, false, not, _&&_, _||_}
+use mathlib.Core.Bool.{Bool, true, false, cond, not, _&&_}
 use mathlib.Core.List.{List, [], _∷_}
-use mathlib.Core.Option.{Option, none, some}
-use Prim.Native.Nat.{ℕ, _+_, _^_, _<_, _≤_}
+use mathlib.Core.Option.{Option, none, some, Option·map, Option·getD, bind}
+use Prim.Native.Nat.{ℕ, _^_, _<_, _≤_}
 use native.Mathlib.Omega.{arith}
 use lib.Dec.{eqb, leb, ltb}
 use lib.ListN.{length}
 use borrow.Author.Tests.{eqb-false, not-false, leb-true}
 use Rattle.answers.specs.declared.Form.{Form}
-use Rattle.answers.specs.declared.Form.the-variants.{Nt40, Response, Ex}
-use Rattle.answers.specs.declared.Refusal.the-variants.{ClauseValue, GuidLength, GuidNotHeld, DnsNameEmpty, DnsNameNotHeld, SidShape, SidNotHeld, SidOfAnother, UserLabelEmpty, NoRoom, TableWhole, NoVersion}
+use Rattle.answers.specs.declared.Form.the-variants.{Ex}
+use Rattle.answers.specs.declared.Refusal.the-variants.{GuidLength, GuidNotHeld, DnsNameEmpty, DnsNameNotHeld, SidShape, SidNotHeld, SidOfAnother, UserLabelEmpty, NoRoom, TableWhole}
 use Rattle.answers.specs.Try.{good}
+use Rattle.answers.specs.Wire.{NETLOGON-NT-VERSION-5EX-WITH-IP, NETLOGON-NT-VERSION-WITH-CLOSEST-SITE, opcodesOf}
 use Rattle.answers.proofs.Laws.Try.{refusedIf-good, good-then, refused-not-good}
-use Rattle.filter.specs.declared.Request.{Request}
-use Rattle.filter.specs.Request.{octetsOf}
-use Rattle.filter.specs.Taken.{requestIn}
-use Rattle.filter.specs.Value.{Ping, isNumber, isUser, wrongValue, pingOf, versionAsked, withVersion, pingIn}
-use Rattle.locator.specs.Answer.{Outcome, wrongUser, replyTo, answerTo}
-use Rattle.locator.specs.Choose.{PDC, catalog, KDC, timeService, readOnly, goodTime, webService, since2012, since2012R2, later2003R2, flag, opcodeOf, exFlags, responseFlags, flagsOf, orNone, nameOfSite, nextTo, onlyIf, nextSite, replyFor, formOf, level2008, isAt, namesApplication}
-use Rattle.table_find.specs.Find.{contextsSearched, contextByGuid, contextByDnsName, contextBySid, holdsSid, contextByNumber, defaultContext, siteByNumber, siteIfAny, siteOfSubnet, siteFor, clientSite, subnetFor}
+use Rattle.filter.specs.Value.{Ping, isUser}
+use Rattle.locator.specs.Answer.{Outcome, wrongUser, replyTo}
+use Rattle.locator.specs.Choose.{nextSite, replyFor, formOf}
 use Rattle.locator.specs.Judge.{contextFor, contextUsed, orWhole, contextIn}
+use Rattle.locator.proofs.Laws.Choose.{opcode-good, flags-fit}
 use Rattle.octets.specs.Label.{labels}
 use Rattle.octets.specs.Lists.{any, first, holds, isSome}
-use Rattle.octets.proofs.Laws.Lists.{Every, none-not-some, every-none, found, both-left, both-right, neither-right}
+use Rattle.octets.proofs.Laws.Lists.{Every, none-not-some, every-none, found, both-left, both-right}
 use Rattle.octets.specs.NameRule.{without}
 use Rattle.octets.proofs.Laws.NameRule.{Writable, empty-writable, empty-spoken, utf8-spoken, short-writable}
 use Rattle.octets.specs.Number.{has}
 use Rattle.octets.specs.Sid.{isSid}
 use Rattle.octets.specs.Utf8.{isUtf8}
 use Rattle.octets.proofs.Laws.Utf16.{Spoken}
+use Rattle.reader.proofs.Laws.Reader.{GoodOpcode}
 use Rattle.reply.specs.Reply.{Reply, octetsIn}
+use Rattle.table.specs.Bits.{roleLevel2008}
+use Rattle.table.specs.declared.Caller.{Caller}
 use Rattle.table.specs.declared.SiteNumber.{SiteNumber}
-use Rattle.table_whole.specs.Judgement.{tableIn}
-use Rattle.table_whole.proofs.Laws.Judgement.{GoodContext, GoodSite, GoodTable, judged-good}
 use Rattle.table.specs.Records.{Context, Site, Subnet, sameSite}
 use Rattle.table.specs.Table.{Table}
-use Rattle.demands.specs.Made.{Made, said}
-use Rattle.table.specs.declared.Caller.{Caller}
-pub mod Forms
-
--- ---- from the answer to its parts
-
-pub made : (image : List ℕ) (caller : Caller) (filter : List ℕ) (room : ℕ) (a : Outcome) → answerTo image caller filter room ≡ good a → Made image caller filter room a
-unfolding answerTo
-made image caller filter room a e =
-    let t = good-then (tableIn image) _ a e in
-    let r = good-then (requestIn filter) _ a (t .2) in
-    let p = good-then (pingIn filter (r .0)) _ a (r .2) in
-    let c = good-then (contextIn (t .0) (p .0)) _ a (p .2) in
-    record { table = t .0; request = r .0; ping = p .0; context = c .0; judged = t .1; taken = r .1; valued = p .1; used = c .1; replied = c .2 }
+use Rattle.table_find.specs.Find.{contextsSearched, contextByGuid, contextByDnsName, contextBySid, holdsSid, contextByNumber, defaultContext, siteByNumber, siteIfAny, siteOfSubnet, siteFor, clientSite, subnetFor}
+use Rattle.table_whole.proofs.Laws.Judgement.{GoodContext, GoodSite, GoodTable, judged-good}
+use Rattle.demands.specs.Derivation.{PassedTable, GoodPing, Derivation, said}
 
 -- ---- the context used is one of the table's
 
@@ -93,19 +81,9 @@ abbrev UserGood : Option (List ℕ) → Type 0
 UserGood none = Unit {0}
 UserGood (some x) = Spoken x × (length x ≤ 63)
 
-user-good : (filter : List ℕ) (r : Request) (p : Ping) → pingIn filter r ≡ good p → UserGood (p .user)
-unfolding pingIn wrongValue
-user-good filter r p e =
-    let asked : Option (List ℕ) = octetsOf filter (r .«user») in
-    let v : Bool = holds (λ x. not (isNumber x)) (octetsOf filter (r .«nt_ver»)) || holds (λ x. not (isNumber x)) (octetsOf filter (r .«aac»)) in
-    let a = refusedIf-good (wrongValue filter r) ClauseValue (withVersion filter r (versionAsked filter r)) p e in
-    let u : holds (λ x. not (isUser x)) asked ≡ false = neither-right v (holds (λ x. not (isUser x)) asked) (a .0) in
-    subst UserGood (same-user (versionAsked filter r) (a .1)) (go asked u)
+user-good : (p : Ping) → GoodPing p → UserGood (p .user)
+user-good p e = go (p .user) e
   where
-    same-user : (v : Option ℕ) → withVersion filter r v ≡ good p → octetsOf filter (r .«user») ≡ p .user
-    same-user none q = absurd (refused-not-good NoVersion p q)
-    same-user (some v) q = let k : pingOf filter r v ≡ p = cc in ap (λ (x : Ping). x .user) k
-
     go : (o : Option (List ℕ)) → holds (λ x. not (isUser x)) o ≡ false → UserGood o
     go none q = tt
     go (some x) q =
@@ -115,16 +93,16 @@ user-good filter r p e =
           leb-true (length x) 63 (both-left (leb (length x) 63) (isUtf8 x) front),
         )
 
-user-spoken : (o : Option (List ℕ)) → UserGood o → Spoken (orNone o) × (length (orNone o) ≤ 63)
+user-spoken : (o : Option (List ℕ)) → UserGood o → Spoken (Option·getD o []) × (length (Option·getD o []) ≤ 63)
 user-spoken none u = (empty-spoken, omega arith)
 user-spoken (some x) u = u
 
 -- in the EX form, after 18, no label is empty
-user-writable : (p : Ping) → UserGood (p .user) → wrongUser Ex p ≡ false → Writable 63 (orNone (p .user))
+user-writable : (p : Ping) → UserGood (p .user) → wrongUser Ex p ≡ false → Writable 63 (Option·getD (p .user) [])
 unfolding wrongUser
 user-writable p u e = go (p .user) u e
   where
-    go : (o : Option (List ℕ)) → UserGood o → holds (λ name. any (λ l. eqb (length l) 0) (labels name)) o ≡ false → Writable 63 (orNone o)
+    go : (o : Option (List ℕ)) → UserGood o → holds (λ name. any (λ l. eqb (length l) 0) (labels name)) o ≡ false → Writable 63 (Option·getD o [])
     go none u q = empty-writable 63
     go (some x) u q =
         short-writable x (u .1)
@@ -162,77 +140,29 @@ module _ (t : Table) (g : GoodTable t) where
       go (s ∷ []) k = k .0
       go (s ∷ r ∷ rest) k = of-subnet (subnetFor t caller)
 
-  site-next : (o : Option Site) → SiteGood (nextTo t o)
+  site-next : (o : Option Site) → SiteGood (bind o (λ s. siteIfAny t (s .next)))
+  unfolding bind
   site-next none = tt
   site-next (some s) = if-any (s .next)
 
   -- name 8 is a site's name, and v asked for it
-  next-good : (v : ℕ) (o : Option Site) (text : List ℕ) → nextSite t v o ≡ some text → Writable 63 text × (has v 0x10 ≡ true)
+  next-good : (v : ℕ) (o : Option Site) (text : List ℕ) → nextSite t v o ≡ some text → Writable 63 text × (has v NETLOGON-NT-VERSION-WITH-CLOSEST-SITE ≡ true)
   unfolding nextSite
-  next-good v o text e = go (has v 0x10 && has (t .server .roles) level2008) refl e
+  next-good v o text e = go (has v NETLOGON-NT-VERSION-WITH-CLOSEST-SITE && has (t .server .roles) roleLevel2008) refl e
     where
-      name : (x : Option Site) → SiteGood x → nameOfSite x ≡ some text → Writable 63 text
+      name : (x : Option Site) → SiteGood x → Option·map (λ s. s .name) x ≡ some text → Writable 63 text
       name none k q = absurd (none-not-some text q)
       name (some s) k q = let z : s .name ≡ text = cc in subst (Writable 63) z k
 
-      go : (b : Bool) → has v 0x10 && has (t .server .roles) level2008 ≡ b → onlyIf b (nameOfSite (nextTo t o)) ≡ some text → Writable 63 text × (has v 0x10 ≡ true)
-      go true q r = (name (nextTo t o) (site-next o) r, both-left (has v 0x10) (has (t .server .roles) level2008) q)
+      go : (b : Bool) → has v NETLOGON-NT-VERSION-WITH-CLOSEST-SITE && has (t .server .roles) roleLevel2008 ≡ b
+          → cond b (Option·map (λ s. s .name) (bind o (λ s. siteIfAny t (s .next)))) none ≡ some text
+          → Writable 63 text × (has v NETLOGON-NT-VERSION-WITH-CLOSEST-SITE ≡ true)
+      go true q r = (name (bind o (λ s. siteIfAny t (s .next))) (site-next o) r, both-left (has v NETLOGON-NT-VERSION-WITH-CLOSEST-SITE) (has (t .server .roles) roleLevel2008) q)
       go false q r = absurd (none-not-some text r)
 
-site-name : (o : Option Site) → SiteGood o → Writable 63 (orNone (nameOfSite o))
+site-name : (o : Option Site) → SiteGood o → Writable 63 (Option·getD (Option·map (λ s. s .name) o) [])
 site-name none k = empty-writable 63
 site-name (some s) k = k
-
--- ---- opcodes and flags
-
--- the least opcode of a form
-abbrev pub least : Form → ℕ
-least Nt40 = 19
-least Response = 19
-least Ex = 23
-
-opcode-within : (form : Form) (a b : Bool) → (least form ≤ opcodeOf form a b) × (opcodeOf form a b ≤ least form + 2)
-unfolding opcodeOf
-opcode-within Nt40 true b = omega arith
-opcode-within Nt40 false true = omega arith
-opcode-within Nt40 false false = omega arith
-opcode-within Response true b = omega arith
-opcode-within Response false true = omega arith
-opcode-within Response false false = omega arith
-opcode-within Ex true b = omega arith
-opcode-within Ex false true = omega arith
-opcode-within Ex false false = omega arith
-
-flag-most : (b : Bool) (n : ℕ) → flag b n ≤ n
-flag-most true n = omega arith
-flag-most false n = omega arith
-
-ex-flags : (t : Table) (p : Ping) (site : Option Site) → exFlags t p site < 256 ^ 4
-unfolding exFlags
-ex-flags t p site =
-    let role : ℕ → Bool = has (t .server .roles) in
-    omega (
-      arith,
-      flag-most (role PDC) 0x1,
-      flag-most (role catalog) 0x4,
-      flag-most (role KDC) 0x20,
-      flag-most (role timeService) 0x40,
-      flag-most (isAt (t .server .site) site) 0x80,
-      flag-most (not (role readOnly)) 0x100,
-      flag-most (role goodTime) 0x200,
-      flag-most (namesApplication t p) 0x400,
-      flag-most (role readOnly) 0x800,
-      flag-most (not (role readOnly) && role later2003R2) 0x1000,
-      flag-most (role webService) 0x2000,
-      flag-most (role since2012) 0x4000,
-      flag-most (role since2012R2) 0x8000,
-    )
-
-flags-within : (form : Form) (t : Table) (p : Ping) (site : Option Site) → flagsOf form t p site < 256 ^ 4
-unfolding responseFlags
-flags-within Nt40 t p site = omega arith
-flags-within Response t p site = omega (arith, flag-most (has (t .server .roles) PDC) 0x1)
-flags-within Ex t p site = ex-flags t p site
 
 -- ---- a reply that can be written in its form, and read with v
 
@@ -251,10 +181,9 @@ pub record Sound (form : Form) (v : ℕ) (r : Reply) : Type 0 where
   pub userShort : length (r .user) ≤ 63
   pub ownSite : Writable 63 (r .ownSite)
   pub clientSite : Writable 63 (r .clientSite)
-  pub address : r .withAddress ≡ has v 8
-  pub nextSite : (text : List ℕ) → r .nextSite ≡ some text → Writable 63 text × (has v 0x10 ≡ true)
-  pub opcodeLow : least form ≤ r .opcode
-  pub opcodeHigh : r .opcode ≤ least form + 2
+  pub address : r .withAddress ≡ has v NETLOGON-NT-VERSION-5EX-WITH-IP
+  pub nextSite : (text : List ℕ) → r .nextSite ≡ some text → Writable 63 text × (has v NETLOGON-NT-VERSION-WITH-CLOSEST-SITE ≡ true)
+  pub opcode : GoodOpcode (opcodesOf form) (r .opcode)
   pub flags : r .flags < 256 ^ 4
 
 reply-sound : (t : Table) (caller : Caller) (p : Ping) (c : Context) (form : Form) → GoodTable t → GoodContext c → UserGood (p .user) → wrongUser form p ≡ false → Sound form (p .version) (replyFor t caller p c form)
@@ -277,9 +206,8 @@ reply-sound t caller p c form g k u w =
       clientSite = site-name (clientSite t caller) (of-client t g caller);
       address = refl;
       nextSite = next-good t g (p .version) (clientSite t caller);
-      opcodeLow = opcode-within form _ _ .0;
-      opcodeHigh = opcode-within form _ _ .1;
-      flags = flags-within form t p (clientSite t caller);
+      opcode = opcode-good form _ _;
+      flags = flags-fit form t p (clientSite t caller);
     }
 
 pub record Replied (t : Table) (caller : Caller) (p : Ping) (c : Context) (a : Outcome) : Type 0 where
@@ -300,12 +228,11 @@ replied t caller p room c a e =
     same : (x y : Outcome) → good x ≡ good y → x ≡ y
     same x y q = cc
 
-module _ {image : List ℕ} {caller : Caller} {filter : List ℕ} {room : ℕ} {a : Outcome} (m : Made image caller filter room a) where
-  pub said-octets : a .octets ≡ octetsIn (a .form) (said m)
-  said-octets = replied (m .table) caller (m .ping) room (m .context) a (m .replied) .octets
+module _ {t : Table} {caller : Caller} {p : Ping} {room : ℕ} {a : Outcome} (d : Derivation t caller p room a) where
+  pub said-octets : a .octets ≡ octetsIn (a .form) (said d)
+  said-octets = replied t caller p room (d .context) a (d .replied) .octets
 
-  pub said-sound : Sound (a .form) (m .ping .version) (said m)
-  said-sound =
-      let g : GoodTable (m .table) = judged-good image (m .table) (m .judged) in
-      reply-sound (m .table) caller (m .ping) (m .context) (a .form) g (context-good (m .table) (m .ping) (m .context) g (m .used)) (user-good filter (m .request) (m .ping) (m .valued))
-      (replied (m .table) caller (m .ping) room (m .context) a (m .replied) .user)
+  pub said-sound : PassedTable t → GoodPing p → Sound (a .form) (p .version) (said d)
+  said-sound passed user =
+      let g : GoodTable t = judged-good (passed .image) t (passed .judged) in
+      reply-sound t caller p (d .context) (a .form) g (context-good t p (d .context) g (d .used)) (user-good p user) (replied t caller p room (d .context) a (d .replied) .user)

@@ -4,9 +4,9 @@ use mathlib.Core.List.{List}
 use mathlib.Core.Option.{some}
 use Prim.Native.Nat.{ℕ}
 use Rattle.answers.specs.Try.{good}
-use Rattle.names.specs.Walk.{Name, walk}
+use Rattle.names.specs.Walk.{WalkedName, walk}
 use Rattle.reader.specs.Field.{Read}
-use Rattle.reader.specs.Name.{nameAt}
+use Rattle.reader.specs.Name.{readName}
 
 abbrev pub ReaderWalks : Type 0
-ReaderWalks = (s : List ℕ) (at : ℕ) (f : Read Name) → nameAt s at ≡ good f → walk s at ≡ some (f .value)
+ReaderWalks = (s : List ℕ) (at : ℕ) (f : Read WalkedName) → readName s at ≡ good f → walk s at ≡ some (f .value)
