@@ -63,7 +63,7 @@ abbrev pub noName : NameRead
 noName = record { text = []; pointers = 0 }
 
 -- one name, at place k, with its first octet at `start` and its own octets `text`, and as the reader gave it back
-pub record Walked (s : List ℕ) (start k : ℕ) (text : List ℕ) (given : NameRead) : Type 0 where
+pub record NameWalked (s : List ℕ) (start k : ℕ) (text : List ℕ) (given : NameRead) : Type 0 where
   pub name : WalkedName
   pub found : walk s start ≡ some name
   pub reads : name .labels ≡ label.labels text
@@ -76,14 +76,14 @@ abbrev pub LastWalked : List ℕ → ℕ → Option (List ℕ) → Option NameRe
 LastWalked s start none none = Unit {0}
 LastWalked s start none (some n) = ⊥
 LastWalked s start (some text) none = ⊥
-LastWalked s start (some text) (some n) = Walked s start 8 text n
+LastWalked s start (some text) (some n) = NameWalked s start 8 text n
 
 -- every name of a reply r in its form, whose octets are s
 pub record NamesWalked (form : Form) (v : ℕ) (r : Reply) (s : List ℕ) : Type 0 where
   pub fields : Fields
   pub accepted : readIn form v s ≡ good fields
   pub many : length (namesIn fields) ≡ length (namesOf form r)
-  pub names : (k : ℕ) → k < length (namesOf form r) → Walked s (startOf form r k) k (getD (namesOf form r) k []) (getD (namesIn fields) k noName)
+  pub names : (k : ℕ) → k < length (namesOf form r) → NameWalked s (startOf form r k) k (getD (namesOf form r) k []) (getD (namesIn fields) k noName)
   pub last : LastWalked s (lastStart r) (lastOf form r) (lastIn fields)
 
 -- an answer's reply, with every name walked

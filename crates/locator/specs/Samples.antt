@@ -15,6 +15,7 @@ use Rattle.octets.specs.Lists.{cut}
 use Rattle.octets.specs.Number.{little}
 use Rattle.reader.specs.Reader.{Fields, nt40, response, ex, readIn}
 use Rattle.reply.specs.Reply.{u16, u32}
+use Rattle.table.specs.Bits.{roleNt4Wanted}
 use Rattle.table.specs.Check.{checkOf}
 use Rattle.table.specs.declared.Caller.{Caller}
 use Rattle.locator.specs.Answer.{Outcome, answerTo, answerAs, octetsWritten, numberOf, lengthOf, contextNumberOf, formIn}
@@ -165,8 +166,8 @@ samples =
     ∷ row (summary (pings 0 (asks 0xA []) 2000)) (0 ∷ 89 ∷ 1 ∷ 3 ∷ 23 ∷ [])
     ∷ row (cut (octetsWritten (pings 0 (asks 0xA []) 2000)) 64 17) (0x10 ∷ 2 ∷ 0 ∷ 0 ∷ 0 ∷ 192 ∷ 0 ∷ 2 ∷ 1 ∷ replicate 8 0)
     -- P7: NT4 wanted
-    ∷ row (summary (pings 0x200 (asks 6 []) 2000)) (0 ∷ 30 ∷ 1 ∷ 1 ∷ 19 ∷ [])
-    ∷ row (summary (pings 0x200 (asks 0x01000006 []) 2000)) (0 ∷ 72 ∷ 1 ∷ 3 ∷ 23 ∷ [])
+    ∷ row (summary (pings roleNt4Wanted (asks 6 []) 2000)) (0 ∷ 30 ∷ 1 ∷ 1 ∷ 19 ∷ [])
+    ∷ row (summary (pings roleNt4Wanted (asks 0x01000006 []) 2000)) (0 ∷ 72 ∷ 1 ∷ 3 ∷ 23 ∷ [])
     -- P8: a GUID clause of sixteen zeros
     ∷ row (summary (pings 0 (asks 6 (record { name = DomainGuid; octets = replicate 16 0 } ∷ [])) 2000)) (refusal 12)
     -- P9: without and with AAC

@@ -14,7 +14,7 @@ use Rattle.octets.proofs.Laws.Label.{joined-labels}
 use Rattle.reader.specs.Reader.{NameRead}
 use Rattle.reader.proofs.Laws.Reader.{read-nt40, given-at, given-length, lastGiven}
 use Rattle.reply.specs.Reply.{Reply, nt40Octets, responseNames, responseOctets, exNames, exOctets, octetsIn}
-use Rattle.demands.specs.Demand3.{Walked, LastWalked, lastStart, noName, NamesWalked, ReplyWalked, Demand3Over, Demand3}
+use Rattle.demands.specs.Demand3.{NameWalked, LastWalked, lastStart, noName, NamesWalked, ReplyWalked, Demand3Over, Demand3}
 use Rattle.demands.specs.Derivation.{said}
 use Rattle.demands.proofs.Laws.Derivation.{derived, every-answer}
 use Rattle.demands.proofs.Laws.Forms.Ex.{ex-row, ex-spot, ex-read, LastSpot, last-there}
@@ -22,7 +22,7 @@ use Rattle.demands.proofs.Laws.Forms.Nt40.{nt40-opened}
 use Rattle.demands.proofs.Laws.Forms.Response.{response-row, response-spot, response-read}
 use Rattle.demands.proofs.Laws.Sound.{said-octets, said-sound, Sound}
 
-walked : {s : List ℕ} {at count : ℕ} {text : List ℕ} (k : ℕ) (given : NameRead) → Spot s at (0 + k) text count → given .pointers ≡ count → Walked s at k text given
+walked : {s : List ℕ} {at count : ℕ} {text : List ℕ} (k : ℕ) (given : NameRead) → Spot s at (0 + k) text count → given .pointers ≡ count → NameWalked s at k text given
 walked {count = count} {text = text} k given spot e =
     record {
       name = record { labels = labels text; pointers = count };

@@ -11,7 +11,8 @@ use borrow.Author.Tests.{le-leb}
 use Rattle.answers.specs.declared.Form.{Form}
 use Rattle.answers.specs.declared.Form.the-variants.{Nt40, Response, Ex}
 use Rattle.names.specs.Name.{Tail, writeNames}
-use Rattle.names.proofs.Laws.Name.{alike, written-once, first-lowest, sizes, sizes-take}
+use Rattle.names.proofs.Laws.Name.{sizes, sizes-take}
+use Rattle.names.proofs.Laws.Name.Once.{alike, written-once, first-lowest}
 use Rattle.octets.specs.Label.{labels}
 use Rattle.octets.proofs.Laws.Label.{Plain, size}
 use Rattle.octets.specs.Lists.{all, first}
