@@ -94,9 +94,13 @@ pub struct Choice<'a> {
     pub next_closest_site: Option<Site<'a>>,
 }
 
-/// Chooses the answer to a filter whose values passed 9: refusals 10 to 18, in that order.
-pub fn choose<'a>(table: &Table<'a>, client: ClientAddress, clauses: &Clauses<'a>) -> Result<Choice<'a>, Refusal> {
-    let version = version_asked(clauses)?;
+/// Chooses the answer to a filter whose values passed 9 and 10: refusals 11 to 18, in that order.
+pub fn choose<'a>(
+    table: &Table<'a>,
+    client: ClientAddress,
+    clauses: &Clauses<'a>,
+    version: u32,
+) -> Result<Choice<'a>, Refusal> {
     let by_guid = context_by_guid(table, clauses.domain_guid)?;
     let by_dns_name = context_by_dns_name(table, clauses.dns_domain)?;
     let context = by_guid.or(by_dns_name).unwrap_or(default_context(table));
@@ -118,12 +122,6 @@ pub fn choose<'a>(table: &Table<'a>, client: ClientAddress, clauses: &Clauses<'a
         with_address: asks_for_address(version),
         next_closest_site: next_closest_site(table, version, client_site),
     })
-}
-
-/// The version bits v of the ping: refusal 10.
-fn version_asked(clauses: &Clauses) -> Result<u32, Refusal> {
-    let octets = clauses.nt_ver.ok_or(Refusal::NoVersion)?;
-    u32_whole(octets).ok_or(Refusal::ClauseValue)
 }
 
 /// The contexts among which a ping's clauses are looked up.

@@ -27,8 +27,8 @@ pub struct Answer {
 pub fn answer_ping(image: &[u8], client: ClientAddress, filter: &[u8], buffer: &mut [u8]) -> Result<Answer, Refusal> {
     let table = read_table(image)?;
     let clauses = take_apart(filter)?;
-    judge_values(&clauses)?;
-    let choice = choose(&table, client, &clauses)?;
+    let version = judge_values(&clauses)?;
+    let choice = choose(&table, client, &clauses, version)?;
     let reply = reply_octets(&table, &choice);
     // The length is known before the first octet goes into the buffer, so that 19 writes nothing.
     let place = buffer.get_mut(..reply.len()).ok_or(Refusal::BufferTooShort)?;
