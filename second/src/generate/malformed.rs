@@ -9,6 +9,7 @@ pub fn add_of_kind(requests: &mut Requests, kind: &str) {
         "table" => &TABLE,
         "ping" => &PING,
         "filter" => &FILTER,
+        "values" => &VALUES,
         "write" => &WRITE,
         "read" => &READ,
         _ => &WALK,
@@ -100,6 +101,18 @@ const FILTER: [&[u8]; 9] = [
     b"filter =a0",
     b"filter --",
     b"filter -a0",
+];
+
+const VALUES: [&[u8]; 9] = [
+    b"values a",
+    b"values A3",
+    b"values a3 04",
+    b"values  a3",
+    b"values a3 ",
+    b"values .",
+    b"values =a3",
+    b"values 0 00000006",
+    b"value a30d04054e74566572040406000000",
 ];
 
 const WRITE: [&[u8]; 17] = [
