@@ -478,6 +478,18 @@ fn names_that_are_read_and_names_that_are_not() {
 }
 
 #[test]
+fn a_pointer_aims_with_14_bits() {
+    let long = [&[63][..], &[b'x'; 63]].concat().repeat(3);
+    let more = [&long[..], &[0], &long, &[0]].concat();
+    let at = (24 + more.len()) as u16;
+    let pointer = (0xC000 | at).to_be_bytes();
+    let reply = [&P1[..24], &more, b"\x01a\x00", &pointer, &[0; 4], &P1[64..]].concat();
+    let read = read_reply(Form::Ex, 6, &reply).unwrap();
+    let name = names_of(&read.fields).remove(3);
+    assert!(at > 0xFF && name == Name { labels: vec![b"a"], pointers: 1 });
+}
+
+#[test]
 fn sixteen_pointers_and_no_more() {
     for (pointers, expected) in [(1, 0), (8, 0), (16, 0), (17, 33)] {
         assert_eq!(read_number(Form::Response, 2, &chain_in_texts(pointers)), expected, "{pointers}");
@@ -525,6 +537,19 @@ fn surrogates() {
     assert_eq!(text(&[0xD7FF, 0xE000, 0xFFFF, 0]), 0);
     assert_eq!(read_number(Form::Nt40, 0, &[19, 0, 0, 0xD8]), 31);
     assert_eq!(read_number(Form::Nt40, 0, &[19, 0, 0, 0xD8, 0]), 31);
+}
+
+#[test]
+fn each_form_reads_its_three_opcodes_alone() {
+    let forms = [(0, Form::Nt40, 19..=21), (2, Form::Response, 19..=21), (6, Form::Ex, 23..=25)];
+    for (low, form, opcodes) in forms {
+        let (mut reply, _) = ping(&Image::base(), &version(&[low, 0, 0, 0])).unwrap();
+        for opcode in 0..=0x01FF_u16 {
+            reply[..2].copy_from_slice(&opcode.to_le_bytes());
+            let expected = if opcodes.contains(&opcode) { 0 } else { 32 };
+            assert_eq!(read_number(form, u32::from(low), &reply), expected, "{form:?} {opcode}");
+        }
+    }
 }
 
 #[test]

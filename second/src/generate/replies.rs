@@ -365,7 +365,7 @@ fn add_random(requests: &mut Requests, chance: &mut Chance) {
         for _ in 0..40 {
             let length = chance.below(48);
             requests.read(form, version_bits(chance), &chance.octets(length));
-            let opcode = form.opcodes()[0] as u8;
+            let opcode = if form == Form::Ex { 23 } else { 19 };
             let rest = name_like(chance, 60);
             requests.read(form, version_bits(chance), &[&[opcode, 0, 0, 0], &rest[..]].concat());
         }
