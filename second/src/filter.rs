@@ -112,7 +112,7 @@ pub fn take_apart(filter: &[u8]) -> Result<Clauses<'_>, Refusal> {
     let mut clauses = Clauses::default();
     for (name, value) in named {
         let earlier = clauses.slot(name).replace(value);
-        require(earlier.is_none(), Refusal::ClauseTwice)?;
+        require(earlier.is_none(), Refusal::DuplicateClause)?;
     }
     Ok(clauses)
 }
@@ -280,10 +280,10 @@ mod tests {
 
     #[test]
     fn refusals_are_judged_over_the_whole_filter() {
-        let strange = equality_octets(b"Strange", b"");
+        let unknown = equality_octets(b"Unknown", b"");
         let user = equality_octets(b"USER", b"a");
-        assert_eq!(number(&and(&[strange.clone(), vec![0x05, 0x00]].concat())), 6);
-        assert_eq!(number(&and(&[user.clone(), user.clone(), strange.clone()].concat())), 7);
+        assert_eq!(number(&and(&[unknown.clone(), vec![0x05, 0x00]].concat())), 6);
+        assert_eq!(number(&and(&[user.clone(), user.clone(), unknown.clone()].concat())), 7);
         assert_eq!(number(&and(&[user.clone(), and(&equality_octets(b"uSeR", b""))].concat())), 8);
         assert_eq!(number(&equality_octets(b"", b"")), 7);
         assert_eq!(number(&[0; 2049]), 5);

@@ -134,7 +134,7 @@ impl Image {
         image
     }
 
-    /// A block of any kind behind those there, its body filled with zeros to the end.
+    /// A block of any kind after those there, its body filled with zeros to the end.
     pub fn push(&mut self, kind: u8, body: &[u8]) {
         let mut block = [0; BLOCK_LENGTH];
         put(&mut block, 0, &[kind, 1]);
@@ -184,7 +184,7 @@ impl Image {
         }
     }
 
-    /// The image without one block, those behind it moved up to their new places.
+    /// The image without one block, those after it moved up to their new places.
     pub fn without_block(&self, left_out: usize) -> Image {
         let mut image = Image { blocks: Vec::new() };
         for (place, block) in self.blocks.iter().enumerate() {

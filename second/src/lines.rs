@@ -17,7 +17,7 @@ const MOST_DIGITS: usize = 10;
 /// What every octet of a lent buffer holds before the call.
 const UNWRITTEN: u8 = 0xA5;
 
-/// Answers lines one after the other; the latest image stands for the pings behind it.
+/// Answers lines one after the other; the latest image stands for the pings after it.
 #[derive(Default)]
 pub struct Answerer {
     image: Vec<u8>,

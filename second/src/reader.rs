@@ -239,7 +239,7 @@ impl<'a> Reader<'a> {
     /// A name. Its field ends with the first zero octet or pointer; any fault after a pointer is 33.
     fn name(&mut self) -> Result<Name<'a>, ReadRefusal> {
         let mut name = Name::default();
-        let mut place = self.at;
+        let mut offset = self.at;
         let mut run_start = self.at;
         let mut field_end = None;
         loop {
@@ -250,20 +250,20 @@ impl<'a> Reader<'a> {
                     ReadRefusal::BrokenText
                 }
             };
-            match step_at(self.octets, place, run_start, &name).map_err(fault_here)? {
+            match step_at(self.octets, offset, run_start, &name).map_err(fault_here)? {
                 Step::End => {
-                    self.at = field_end.unwrap_or(place + 1);
+                    self.at = field_end.unwrap_or(offset + 1);
                     return Ok(name);
                 }
                 Step::Label(label) => {
-                    place += 1 + label.len();
+                    offset += 1 + label.len();
                     name.labels.push(label);
                 }
                 Step::Pointer(aim) => {
-                    field_end = field_end.or(Some(place + 2));
+                    field_end = field_end.or(Some(offset + 2));
                     name.pointers += 1;
                     run_start = aim;
-                    place = aim;
+                    offset = aim;
                 }
             }
         }
@@ -271,28 +271,28 @@ impl<'a> Reader<'a> {
 }
 
 /// One step along a name, by the top two bits of the octet there.
-fn step_at<'a>(octets: &'a [u8], place: usize, run_start: usize, name: &Name) -> Result<Step<'a>, ReadRefusal> {
-    let first = *octets.get(place).ok_or(ReadRefusal::CutShort)?;
+fn step_at<'a>(octets: &'a [u8], offset: usize, run_start: usize, name: &Name) -> Result<Step<'a>, ReadRefusal> {
+    let first = *octets.get(offset).ok_or(ReadRefusal::CutShort)?;
     match first & TOP_BITS {
         TOP_OF_LABEL if first == 0 => Ok(Step::End),
-        TOP_OF_LABEL => label_at(octets, place, usize::from(first), name),
-        TOP_OF_POINTER => pointer_at(octets, place, run_start, name),
+        TOP_OF_LABEL => label_at(octets, offset, usize::from(first), name),
+        TOP_OF_POINTER => pointer_at(octets, offset, run_start, name),
         _ => Err(ReadRefusal::BrokenText),
     }
 }
 
 /// A label. Too long a name is judged at the length octet, so before the label is known to be all there.
-fn label_at<'a>(octets: &'a [u8], place: usize, length: usize, name: &Name) -> Result<Step<'a>, ReadRefusal> {
+fn label_at<'a>(octets: &'a [u8], offset: usize, length: usize, name: &Name) -> Result<Step<'a>, ReadRefusal> {
     let written_out: usize = name.labels.iter().map(|label| 1 + label.len()).sum();
     if written_out + 1 + length + 1 > LONGEST_NAME {
         return Err(ReadRefusal::BrokenText);
     }
-    let label = octets.get(place + 1..place + 1 + length);
+    let label = octets.get(offset + 1..offset + 1 + length);
     label.map(Step::Label).ok_or(ReadRefusal::CutShort)
 }
 
-fn pointer_at<'a>(octets: &[u8], place: usize, run_start: usize, name: &Name) -> Result<Step<'a>, ReadRefusal> {
-    let pointer = u16_big_endian_at(octets, place).ok_or(ReadRefusal::CutShort)?;
+fn pointer_at<'a>(octets: &[u8], offset: usize, run_start: usize, name: &Name) -> Result<Step<'a>, ReadRefusal> {
+    let pointer = u16_big_endian_at(octets, offset).ok_or(ReadRefusal::CutShort)?;
     let aim = usize::from(pointer & AIM_BITS);
     if aim < run_start && name.pointers < MOST_POINTERS {
         Ok(Step::Pointer(aim))

@@ -6,7 +6,7 @@ use crate::octets::{
 };
 
 pub const BLOCK_LENGTH: usize = 512;
-/// What the check is taken over; the check itself stands behind it.
+/// What the check is taken over; the check itself stands after it.
 pub const CHECKED_LENGTH: usize = 508;
 const FEWEST_OCTETS: usize = 1_024;
 const MOST_OCTETS: usize = 65_536;
@@ -144,7 +144,7 @@ fn read_layout(image: &[u8]) -> Option<Records<'_>> {
     Some(records)
 }
 
-/// A block behind the first two. Kinds 1 and 2 have no place here.
+/// A block after the first two. Kinds 1 and 2 have no place here.
 fn read_later_block<'a>(block: &'a [u8], place: usize, records: &mut Records<'a>) -> Option<()> {
     let kind = *block.first()?;
     let body = body_of_kind(block, place, kind)?;

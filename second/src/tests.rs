@@ -341,8 +341,8 @@ fn names_of<'a>(fields: &Fields<'a>) -> Vec<Name<'a>> {
     }
 }
 
-/// The offset behind a name's field: the first zero octet or pointer from its start.
-fn behind_name(reply: &[u8], start: usize) -> usize {
+/// The offset after a name's field: it ends with the first zero octet or pointer from its start.
+fn after_name(reply: &[u8], start: usize) -> usize {
     let mut at = start;
     loop {
         match reply[at] {
@@ -353,8 +353,8 @@ fn behind_name(reply: &[u8], start: usize) -> usize {
     }
 }
 
-/// The offset behind three texts of UTF-16 units, each up to its zero unit.
-fn behind_texts(reply: &[u8]) -> usize {
+/// The offset after three texts of UTF-16 units, each up to its zero unit.
+fn after_texts(reply: &[u8]) -> usize {
     let mut at = 2;
     for _ in 0..3 {
         while reply[at..at + 2] != [0, 0] {
@@ -367,14 +367,14 @@ fn behind_texts(reply: &[u8]) -> usize {
 
 /// The first offsets of a reply's names, found by the layout alone.
 fn name_offsets(form: Form, version_asked: u32, reply: &[u8], count: usize) -> Vec<usize> {
-    let mut at = if form == Form::Ex { 24 } else { behind_texts(reply) + 32 };
+    let mut at = if form == Form::Ex { 24 } else { after_texts(reply) + 32 };
     let mut offsets = Vec::new();
     for place in 0..count {
         if place == 8 && version_asked & 8 != 0 {
             at += 17;
         }
         offsets.push(at);
-        at = behind_name(reply, at);
+        at = after_name(reply, at);
     }
     offsets
 }
@@ -441,7 +441,7 @@ fn truncation_gives_31_and_34_where_name_8_is_lost() {
         let has_name_8 = low == 0x1C;
         let name_8_at = if has_name_8 { name_offsets(form, u32::from(low), &reply, 9)[8] } else { reply.len() };
         for length in 0..reply.len() {
-            // A reply cut behind its first four octets of name 8 shows no name 8, so they are read as a version.
+            // A reply cut after the first four octets of its name 8 shows no name 8, so they are read as a version.
             let expected = if length >= name_8_at + 4 { ReadRefusal::FixedField } else { ReadRefusal::CutShort };
             assert_eq!(read_reply(form, u32::from(low), &reply[..length]), Err(expected), "{form:?} {length}");
         }
@@ -514,10 +514,10 @@ fn chain_in_texts(pointers: u8) -> Vec<u8> {
 }
 
 #[test]
-fn faults_behind_a_pointer_are_33() {
-    let cut_behind = [&P1[..24], &[0xC0, 0x10]].concat();
+fn faults_after_a_pointer_are_33() {
+    let cut_after = [&P1[..24], &[0xC0, 0x10]].concat();
     // Offset 10h holds 9: a label that runs off the end.
-    assert_eq!(read_number(Form::Ex, 6, &cut_behind), 33);
+    assert_eq!(read_number(Form::Ex, 6, &cut_after), 33);
     assert_eq!(read_number(Form::Ex, 6, &[&P1[..24], &[9]].concat()), 31);
 }
 
@@ -586,7 +586,7 @@ fn version_15h_without_the_bit_is_34() {
     let at = without_name.len() - 8;
     without_name[at] = 0x15;
     assert_eq!(read_number(Form::Ex, 0x14, &without_name), 31);
-    // Name 8 takes in five octets behind its 5 and ends at the version's third; what follows is no version.
+    // Name 8 takes in five octets after its 5 and ends at the version's third; what follows is no version.
     let taken_in = [&without_name[..at], &[5, 0, 0, 0], &without_name[at..]].concat();
     assert_eq!(read_number(Form::Ex, 0x14, &taken_in), 34);
     let shifted = [&without_name[..at], &[0, 5, 0, 0, 0, 0, 0, 0, 0], &without_name[at..]].concat();

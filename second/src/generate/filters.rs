@@ -15,7 +15,7 @@ pub fn add_all(requests: &mut Requests, chance: &mut Chance) {
     add_length_forms(requests);
     add_wrong_lengths(requests);
     add_wrong_tags(requests);
-    add_doubles(requests);
+    add_duplicates(requests);
     add_orders(requests);
     add_longest(requests);
     add_truncated(requests);
@@ -47,8 +47,8 @@ fn add_names(requests: &mut Requests, chance: &mut Chance) {
             requests.filter(&equality(&near, b""));
         }
     }
-    for strange in [&b""[..], b"\0", b"NtVer\0", b"(NtVer", b"objectClass", &[0xFF; 200]] {
-        requests.filter(&and(&[version_6(), equality(strange, b"")]));
+    for unknown in [&b""[..], b"\0", b"NtVer\0", b"(NtVer", b"objectClass", &[0xFF; 200]] {
+        requests.filter(&and(&[version_6(), equality(unknown, b"")]));
     }
 }
 
@@ -182,7 +182,7 @@ fn add_wrong_tags(requests: &mut Requests) {
     requests.filter(&and(&[string]));
 }
 
-fn add_doubles(requests: &mut Requests) {
+fn add_duplicates(requests: &mut Requests) {
     requests.note("a clause twice, across case and nesting");
     for name in ClauseName::ALL {
         let one = equality(name.spelled(), b"1");
@@ -198,16 +198,16 @@ fn add_doubles(requests: &mut Requests) {
 /// 6 over the whole filter comes before 7, and 7 before 8.
 fn add_orders(requests: &mut Requests) {
     requests.note("two faults at once");
-    let strange = equality(b"Strange", b"");
-    let twice = [version_6(), version_6()];
+    let unknown = equality(b"Strange", b"");
+    let duplicates = [version_6(), version_6()];
     let broken = vec![0x05, 0x00];
-    requests.filter(&and(&[strange.clone(), broken.clone()]));
-    requests.filter(&and(&[broken.clone(), strange.clone()]));
-    requests.filter(&and(&[twice.concat(), broken.clone()]));
-    requests.filter(&and(&[twice.concat(), strange.clone()]));
-    requests.filter(&and(&[strange.clone(), twice.concat()]));
-    requests.filter(&and(&[strange.clone(), strange.clone()]));
-    requests.filter(&and(&[and(&[strange, twice.concat()]), broken]));
+    requests.filter(&and(&[unknown.clone(), broken.clone()]));
+    requests.filter(&and(&[broken.clone(), unknown.clone()]));
+    requests.filter(&and(&[duplicates.concat(), broken.clone()]));
+    requests.filter(&and(&[duplicates.concat(), unknown.clone()]));
+    requests.filter(&and(&[unknown.clone(), duplicates.concat()]));
+    requests.filter(&and(&[unknown.clone(), unknown.clone()]));
+    requests.filter(&and(&[and(&[unknown, duplicates.concat()]), broken]));
 }
 
 fn add_longest(requests: &mut Requests) {

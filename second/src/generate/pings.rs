@@ -1,4 +1,4 @@
-//! Ping lines, each group behind the table line that it stands on.
+//! Ping lines, each group after the table line that it stands on.
 
 use super::chance::Chance;
 use super::requests::{Asked, Requests};

@@ -121,7 +121,7 @@ const EX_END: [u8; 8] = [5, 0, 0, 0, 0xFF, 0xFF, 0xFF, 0xFF];
 /// Where the names of an EX reply begin.
 const NAMES_AT: usize = 24;
 
-/// An EX reply with these octets in place of its names and all behind them but the end.
+/// An EX reply with these octets in place of its names and all after them but the end.
 fn ex_with(names: &[u8]) -> Vec<u8> {
     [&[23, 0, 0, 0, 1, b'f', 0, 0][..], &GUID, names, &EX_END].concat()
 }

@@ -11,7 +11,7 @@ pub fn add_all(requests: &mut Requests, chance: &mut Chance) {
     add_checks(requests, chance);
     add_layouts(requests, chance);
     add_counts(requests);
-    add_doubles(requests);
+    add_duplicates(requests);
     add_references(requests);
     add_orders(requests);
     add_random(requests, chance);
@@ -115,7 +115,7 @@ fn add_counts(requests: &mut Requests) {
     requests.table(&sites_in_two_blocks);
 }
 
-fn add_doubles(requests: &mut Requests) {
+fn add_duplicates(requests: &mut Requests) {
     requests.note("what must be unique, and what need not");
     let sid: &[u8] = &[1, 1, 0, 0, 0, 0, 0, 5, 21, 0, 0, 0];
     let near: &[u8] = &[1, 1, 0, 0, 0, 0, 0, 5, 21, 0, 0, 1];
@@ -151,12 +151,12 @@ fn add_doubles(requests: &mut Requests) {
         image.push_records(5, &[Record::site(1, b"HQ", 0)]);
         requests.table(&image);
     }
-    add_double_names(requests);
-    add_double_sites(requests);
+    add_duplicate_names(requests);
+    add_duplicate_sites(requests);
 }
 
 /// Folding takes letters alone: `@` and a grave accent, `[` and `{` stay apart.
-fn add_double_names(requests: &mut Requests) {
+fn add_duplicate_names(requests: &mut Requests) {
     let pairs: [(&[u8], &[u8]); 7] =
         [(b"@a", b"`a"), (b"[a", b"{a"), (b"a", b"A"), (b"z", b"Z"), (b"0", b"P"), (b"a", b"aa"), (b"ann", b"ann")];
     for (one, other) in pairs {
@@ -182,7 +182,7 @@ fn add_double_names(requests: &mut Requests) {
     requests.table(&across_contexts);
 }
 
-fn add_double_sites(requests: &mut Requests) {
+fn add_duplicate_sites(requests: &mut Requests) {
     for (number, name) in [(1, &b"B"[..]), (2, b"HQ"), (257, b"hq")] {
         let mut image = no_site();
         image.push_records(5, &[Record::site(1, b"HQ", 0), Record::unused(72), Record::site(number, name, 0)]);
