@@ -50,12 +50,17 @@ impl Default for ContextBlock<'_> {
         ContextBlock {
             number: 1,
             application: 0,
-            guid: std::array::from_fn(|place| place as u8 + 1),
+            guid: guid(1),
             sid: None,
             netbios_name: b"CORP",
             dns_name: b"corp.example",
         }
     }
+}
+
+/// A GUID whose octets count up from its first one.
+pub fn guid(first: u8) -> [u8; 16] {
+    std::array::from_fn(|place| first.wrapping_add(place as u8))
 }
 
 /// One record of a block of kind 4, 5 or 6.
@@ -122,6 +127,14 @@ impl Image {
         let mut body = vec![0; 504];
         put_text(&mut body, 0, forest_name);
         image.push(2, &body);
+        image
+    }
+
+    /// The smallest table that is accepted: this server, and forest, context and site of the base table.
+    pub fn small(server: &ServerBlock) -> Image {
+        let mut image = Image::with_server(server, b"example");
+        image.push_context(&ContextBlock::default());
+        image.push_records(5, &[Record::site(1, b"HQ", 0)]);
         image
     }
 

@@ -6,7 +6,7 @@ use crate::choose::{ClientAddress, Form};
 use crate::filter::{take_apart, write_filter, Clauses};
 use crate::generate::chance::Chance;
 use crate::generate::sample::{sample, Size};
-use crate::image::{ContextBlock, Image, Record, ServerBlock};
+use crate::image::{guid, ContextBlock, Image, Record, ServerBlock};
 use crate::octets::u32_whole;
 use crate::reader::{read_reply, Fields, Name, ReadRefusal};
 use crate::reply::answer_ping;
@@ -151,7 +151,6 @@ fn p12_check_of_zeros() {
 /// The base table with a second context that has a SID and a third one, an application context.
 fn three_contexts() -> Image {
     let mut image = Image::base();
-    let guid = |first: u8| std::array::from_fn(|place| first + place as u8);
     image.push_context(&ContextBlock {
         number: 2,
         guid: guid(0x20),
@@ -204,7 +203,7 @@ fn refusals_11_to_17_in_order() {
         let clauses = Clauses { domain_guid: guid, dns_domain: name, domain_sid: sid, ..version(VERSION_6) };
         number(&image, &clauses)
     };
-    let lab_guid: [u8; 16] = std::array::from_fn(|place| 0x20 + place as u8);
+    let lab_guid = guid(0x20);
     let sid: &[u8] = &[1, 0, 0, 0, 0, 0, 0, 5];
     assert_eq!(with(Some(&lab_guid[..15]), Some(b""), Some(b"")), 11);
     assert_eq!(with(Some(&[9; 16]), Some(b""), Some(b"")), 12);
@@ -229,13 +228,11 @@ fn flags(image: &Image, client: [u8; 4], clauses: &Clauses) -> u32 {
 #[test]
 fn the_application_flag_is_of_the_dns_clause() {
     let image = three_contexts();
-    let app_guid: [u8; 16] = std::array::from_fn(|place| 0x40 + place as u8);
-    let base_guid: [u8; 16] = std::array::from_fn(|place| 1 + place as u8);
-    let by_guid = Clauses { domain_guid: Some(&app_guid), ..version(VERSION_6) };
+    let by_guid = Clauses { domain_guid: Some(&guid(0x40)), ..version(VERSION_6) };
     assert_eq!(flags(&image, [0; 4], &by_guid), 0x198);
     let by_name = Clauses { dns_domain: Some(b"APP.example"), ..version(VERSION_6) };
     assert_eq!(flags(&image, [0; 4], &by_name), 0x598);
-    let by_both = Clauses { domain_guid: Some(&base_guid), ..by_name };
+    let by_both = Clauses { domain_guid: Some(&guid(1)), ..by_name };
     assert_eq!(flags(&image, [0; 4], &by_both), 0x598);
 }
 
@@ -244,9 +241,7 @@ fn each_role_sets_its_flag() {
     let expected = [0x199, 0x19C, 0x1B8, 0x1D8, 0x898, 0x398, 0x2198, 0x4198, 0x8198, 0x198, 0x1198, 0x198];
     for (bit, mut flags_now) in expected.into_iter().enumerate() {
         let server = ServerBlock { roles: 1 << bit, ..ServerBlock::default() };
-        let mut image = Image::with_server(&server, b"example");
-        image.push_context(&ContextBlock::default());
-        image.push_records(5, &[Record::site(1, b"HQ", 0)]);
+        let image = Image::small(&server);
         if bit == 4 {
             flags_now |= 0x80;
         }
@@ -311,9 +306,7 @@ fn name_8_needs_all_four_conditions() {
 fn each_cause_of_a_pause() {
     let paused = |roles: u32, state: u32, asked: u32| {
         let server = ServerBlock { roles, state, ..ServerBlock::default() };
-        let mut image = Image::with_server(&server, b"example");
-        image.push_context(&ContextBlock::default());
-        image.push_records(5, &[Record::site(1, b"HQ", 0)]);
+        let image = Image::small(&server);
         opcode(&image, &version(&asked.to_le_bytes())) == 24
     };
     assert!(!paused(0, 6, 4) && paused(0, 7, 4) && paused(1, 7, 4));

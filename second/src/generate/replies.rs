@@ -1,7 +1,6 @@
 //! Read and walk lines: replies as they are written, cut, changed, and built by hand to break each rule.
 
 use super::chance::Chance;
-use super::malformed::add_numbers_with_zeros;
 use super::pings::reply_to;
 use super::requests::{Asked, Requests};
 use super::sample::{sample, version_bits, Size};
@@ -430,5 +429,8 @@ pub fn add_walks(requests: &mut Requests, chance: &mut Chance) {
         let octets = name_like(chance, 40);
         requests.walk(chance.below(octets.len() + 1), &octets);
     }
-    add_numbers_with_zeros(requests);
+    requests.note("numbers with zeros in front");
+    for walk in ["00 00", "0000000001 0000", "00000000001 0000", "4294967295 00", "4294967296 00", "9999999999 00"] {
+        requests.raw(format!("walk {walk}").as_bytes());
+    }
 }
