@@ -111,6 +111,15 @@ fn put_text(octets: &mut [u8], at: usize, text: &[u8]) {
     put(octets, at + 1, text);
 }
 
+/// Makes the check of every whole block anew.
+pub fn put_checks(image: &mut [u8]) {
+    for block in image.chunks_exact_mut(BLOCK_LENGTH) {
+        let (a, b) = block_check(&block[..CHECKED_LENGTH]);
+        put(block, CHECKED_LENGTH, &a.to_le_bytes());
+        put(block, CHECKED_LENGTH + 2, &b.to_le_bytes());
+    }
+}
+
 impl Image {
     /// An image with a server and a forest block and nothing else.
     pub fn with_server(server: &ServerBlock, forest_name: &[u8]) -> Image {
@@ -210,14 +219,8 @@ impl Image {
 
     /// All blocks with their checks made.
     pub fn octets(&self) -> Vec<u8> {
-        let mut octets = Vec::new();
-        for block in &self.blocks {
-            let checked = &block[..CHECKED_LENGTH];
-            let (a, b) = block_check(checked);
-            octets.extend_from_slice(checked);
-            octets.extend(a.to_le_bytes());
-            octets.extend(b.to_le_bytes());
-        }
+        let mut octets = self.blocks.concat();
+        put_checks(&mut octets);
         octets
     }
 }

@@ -213,7 +213,7 @@ fn digit_of(character: u8) -> Option<u8> {
 }
 
 /// Pairs of small hex digits, possibly no pair at all.
-fn octets_of_hex(digits: &str) -> Option<Vec<u8>> {
+pub fn octets_of_hex(digits: &str) -> Option<Vec<u8>> {
     let (pairs, odd) = digits.as_bytes().as_chunks::<2>();
     if !odd.is_empty() {
         return None;

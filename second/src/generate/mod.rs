@@ -1,5 +1,6 @@
 //! The seeded generator of the stored vectors: requests by kind, their answers, and a count of each answer number.
 
+pub mod bulk;
 pub mod chance;
 mod checks;
 mod elements;
@@ -23,7 +24,7 @@ use crate::lines::Answerer;
 use chance::Chance;
 use requests::Requests;
 
-const SEED: u64 = 0x5EED_0F71_4E6A_12AA;
+pub const SEED: u64 = 0x5EED_0F71_4E6A_12AA;
 
 /// A kind of stored file and what fills it.
 struct Kind {

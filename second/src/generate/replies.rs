@@ -383,7 +383,7 @@ fn add_random(requests: &mut Requests, chance: &mut Chance) {
 }
 
 /// Octets such as names are made of: short labels, zeros and pointers near by.
-fn name_like(chance: &mut Chance, most: usize) -> Vec<u8> {
+pub fn name_like(chance: &mut Chance, most: usize) -> Vec<u8> {
     let mut octets = Vec::new();
     while octets.len() < most {
         match chance.below(7) {
