@@ -2,15 +2,17 @@
 ghost use mathlib.Core.Path.{_≡_};
 ghost use mathlib.Core.Bool.{Bool};
 ghost use Rattle.octets.specs.Lists.{any, unique};
-ghost use Rattle.table.specs.Records.{contextOf, accountOf};
+ghost use Rattle.table.specs.Account.{accountOf};
+ghost use Rattle.table.specs.Context.{contextOf};
 ghost use Rattle.table_whole.specs.Whole.{sameSid};
 ghost use Rattle.table_whole.specs.Internal.Alike.{contextsAlike, accountsAlike, alikeBy, likeAt, alikeAt};
 use octets::part::part;
 use octets::text::same_octets;
-use table::record::number_in;
-use table::record::octet_in;
-use table::record::sid_in;
-use table::record::text_in;
+use table::account;
+use table::context;
+use table::field::octet_in;
+use table::field::text_in;
+use table::field::u16_in;
 use table::same_name::same_account_name;
 use table::same_name::same_dns_name;
 
@@ -30,7 +32,7 @@ fn same_sid(a: &[u8], b: &[u8]) -> bool
     if octet_in(b, 3) != 1 {
         return false;
     }
-    same_octets(sid_in(a), sid_in(b))
+    same_octets(context::sid(a), context::sid(b))
 }
 
 fn are_contexts_alike(a: &[u8], b: &[u8]) -> bool
@@ -42,16 +44,16 @@ fn are_contexts_alike(a: &[u8], b: &[u8]) -> bool
     if same_sid(a, b) {
         return true;
     }
-    same_dns_name(text_in(a, 104), text_in(b, 104))
+    same_dns_name(text_in(a, context::DNS_NAME), text_in(b, context::DNS_NAME))
 }
 
 fn are_accounts_alike(a: &[u8], b: &[u8]) -> bool
     ensures { λ r. ⌜ r ≡ accountsAlike (accountOf (now (a .entry))) (accountOf (now (b .entry))) ⌝ }
 {
-    if number_in(a, 0) != number_in(b, 0) {
+    if u16_in(a, 0) != u16_in(b, 0) {
         return false;
     }
-    same_account_name(text_in(a, 8), text_in(b, 8))
+    same_account_name(text_in(a, account::NAME), text_in(b, account::NAME))
 }
 
 fn are_alike(a: &[u8], b: &[u8], likeness: Likeness) -> bool

@@ -3,12 +3,12 @@ ghost use mathlib.Core.Path.{_≡_};
 ghost use Prim.Native.Nat.{_≤_};
 ghost use lib.ListN.{length};
 ghost use Rattle.table_whole.specs.Judgement.{goodLength, tableIn, judgedAs};
-ghost use Rattle.table.specs.Table.{blocksOf};
+ghost use Rattle.table.specs.Block.{blocksOf};
 ghost use Rattle.table_whole.specs.Internal.BlockRule.{blocksPass};
 use crate::whole::good_whole;
 use answers::Refusal;
-use table::check::good_checks;
-use table::layout::good_layouts;
+use table_layout::check::good_checks;
+use table_layout::layout::good_layouts;
 
 // A multiple of 512 from 1,024 to 65,536.
 fn has_good_length(image: &[u8]) -> bool

@@ -9,7 +9,7 @@ ghost use Rattle.table_whole.specs.Internal.Mark.{sameNumber, Marked};
 use octets::part::part;
 use table::ContextNumber;
 use table::SiteNumber;
-use table::record::number_in;
+use table::field::u16_in;
 
 // Marks the number that each record starts with, from the last record on: a number is held against those behind it.
 pub fn mark_numbers(image: &[u8], places: &[usize], w: usize, marks: &mut [bool]) -> bool
@@ -20,7 +20,7 @@ pub fn mark_numbers(image: &[u8], places: &[usize], w: usize, marks: &mut [bool]
     let mut left = places.len();
     while 0 < left {
         left -= 1;
-        let n = number_in(part(image, places[left], w), 0) as usize;
+        let n = u16_in(part(image, places[left], w), 0) as usize;
         if marks[n] {
             return false;
         }

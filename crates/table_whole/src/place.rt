@@ -3,10 +3,11 @@ ghost use mathlib.Core.Path.{_≡_};
 ghost use mathlib.Core.List.{_++_};
 ghost use Prim.Native.Nat.{_+_, _*_, _≤_};
 ghost use lib.ListN.{length, take};
-ghost use Rattle.table.specs.Table.{blocksOf};
+ghost use Rattle.table.specs.Block.{blocksOf};
 ghost use Rattle.table_whole.specs.Internal.Place.{countsAs, placesFrom, recordsAt, countedOf};
 use octets::part::part;
 use octets::text::all_zero;
+use table::BlockPlace;
 use table::block::block_at;
 use table::block::kind_of;
 
@@ -61,7 +62,7 @@ pub fn places_of(image: &[u8], kind: u8, n: usize, w: usize, each: bool, out: &m
     while i < blocks {
         let place = i;
         i += 1;
-        if kind_of(block_at(image, place)) == kind {
+        if kind_of(block_at(image, BlockPlace(place as u16))) == kind {
             count = add_places(image, 512 * place + 4, n, w, each, out, count);
         }
     }

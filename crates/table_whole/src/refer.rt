@@ -9,7 +9,7 @@ use crate::mark::has_site;
 use octets::part::part;
 use table::ContextNumber;
 use table::SiteNumber;
-use table::record::number_in;
+use table::field::u16_in;
 
 // Which number of a record refers, and to what.
 pub enum Reference {
@@ -51,13 +51,13 @@ fn refers(marks: &[bool], piece: &[u8], reference: Reference) -> bool
     ensures { λ r. ⌜ r ≡ refersBy reference (now (marks .entry)) (now (piece .entry)) ⌝ }
 {
     match reference {
-        Reference::AccountContext => has_context(marks, ContextNumber(number_in(piece, 0))),
+        Reference::AccountContext => has_context(marks, ContextNumber(u16_in(piece, 0))),
         Reference::NextSite => has_next(
             marks,
-            SiteNumber(number_in(piece, 0)),
-            SiteNumber(number_in(piece, 66)),
+            SiteNumber(u16_in(piece, 0)),
+            SiteNumber(u16_in(piece, 66)),
         ),
-        Reference::SubnetSite => has_site_or_none(marks, SiteNumber(number_in(piece, 6))),
+        Reference::SubnetSite => has_site_or_none(marks, SiteNumber(u16_in(piece, 6))),
     }
 }
 

@@ -2,7 +2,9 @@
 ghost use mathlib.Core.Path.{_≡_};
 ghost use Prim.Native.Nat.{_≤_};
 ghost use lib.ListN.{length};
-ghost use Rattle.table.specs.Table.{blocksOf, bodies, recordsOf, tableFrom};
+ghost use Rattle.table.specs.Block.{blocksOf};
+ghost use Rattle.table.specs.Table.{recordsOf, tableFrom};
+ghost use Rattle.table.specs.declared.record.RecordKind.the-variants as kind;
 ghost use Rattle.table_whole.specs.Whole.{goodWhole};
 ghost use Rattle.table_whole.specs.Internal.Place.{recordsAt};
 ghost use Rattle.table_whole.specs.Internal.Half.{ContextMarks, SiteMarks, serverNumber, goodAccounts, goodContexts, goodSubnets, goodSites, contextHalf, siteHalf};
@@ -18,19 +20,20 @@ use table::ContextNumber;
 use table::SiteNumber;
 use table::block::block_at;
 use table::block::body_of;
-use table::record::number_in;
+use table::field::u16_in;
+use table::server;
 
 // A number of the server's block.
 fn server_number(image: &[u8], at: usize) -> u16
     requires { ⌜ (512 ≤ length (now image)) × (at ≤ 512) ⌝ }
     ensures { λ r. ⌜ r ≡ serverNumber (blocksOf (now (image .entry))) at ⌝ }
 {
-    number_in(body_of(block_at(image, 0)), at)
+    u16_in(body_of(block_at(image, server::PLACE)), at)
 }
 
 // The accounts at places: each one's context exists, and no two of a context have one name.
 fn are_accounts_good(image: &[u8], accounts: &[usize], marks: &[bool]) -> bool
-    requires { ⌜ recordsAt (now image) 84 (now accounts) ≡ recordsOf 4 6 84 (blocksOf (now image)) ⌝ }
+    requires { ⌜ recordsAt (now image) 84 (now accounts) ≡ recordsOf kind.Account (blocksOf (now image)) ⌝ }
     requires { ⌜ ContextMarks (now marks) (tableFrom (now image)) ⌝ }
     ensures { λ r. ⌜ r ≡ goodAccounts (tableFrom (now (image .entry))) ⌝ }
 {
@@ -53,7 +56,7 @@ fn good_accounts_of(image: &[u8], marks: &[bool]) -> bool
 // The contexts at places: no two have one number, GUID, SID or DNS name, the default one exists, and their accounts are good.
 fn are_contexts_good(image: &[u8], contexts: &[usize]) -> bool
     requires { ⌜ (512 ≤ length (now image)) × (length (now image) ≤ 65536) ⌝ }
-    requires { ⌜ recordsAt (now image) 504 (now contexts) ≡ bodies 3 (blocksOf (now image)) ⌝ }
+    requires { ⌜ recordsAt (now image) 504 (now contexts) ≡ recordsOf kind.Context (blocksOf (now image)) ⌝ }
     ensures { λ r. ⌜ r ≡ goodContexts (tableFrom (now (image .entry))) ⌝ }
 {
     let mut marks = [false; 65536];
@@ -75,7 +78,7 @@ fn is_context_half_good(image: &[u8]) -> bool
     ensures { λ r. ⌜ r ≡ contextHalf (tableFrom (now (image .entry))) ⌝ }
 {
     let mut contexts: [usize; 128] = [0; 128];
-    let count = places_of(image, 3, 1, 504, true, &mut contexts);
+    let count = places_of(image, 3, 1, 504, false, &mut contexts);
     if count == 0 {
         return false;
     }
@@ -98,7 +101,7 @@ fn good_subnets_of(image: &[u8], marks: &[bool]) -> bool
 // The sites at places: no two have one number, the server's own exists, each next closest one exists and is another, and subnets refer rightly.
 fn are_sites_good(image: &[u8], sites: &[usize]) -> bool
     requires { ⌜ (512 ≤ length (now image)) × (length (now image) ≤ 65536) ⌝ }
-    requires { ⌜ recordsAt (now image) 72 (now sites) ≡ recordsOf 5 7 72 (blocksOf (now image)) ⌝ }
+    requires { ⌜ recordsAt (now image) 72 (now sites) ≡ recordsOf kind.Site (blocksOf (now image)) ⌝ }
     ensures { λ r. ⌜ r ≡ goodSites (tableFrom (now (image .entry))) ⌝ }
 {
     let mut marks = [false; 65536];

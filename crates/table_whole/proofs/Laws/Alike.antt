@@ -3,7 +3,8 @@ use mathlib.Core.Path.{_≡_}
 use mathlib.Core.Bool.{true, false}
 use borrow.Author.Tests.{eq-eqb, ne-eqb}
 use Rattle.octets.specs.Text.{same}
-use Rattle.table.specs.Records.{Context, Account}
+use Rattle.table.specs.Account.{Account}
+use Rattle.table.specs.Context.{Context}
 use Rattle.table_whole.specs.Whole.{sameSid}
 use Rattle.table.specs.SameName.{sameDnsName, sameAccountName}
 use Rattle.table_whole.specs.Internal.Alike.{contextsAlike, accountsAlike}

@@ -13,9 +13,15 @@ use Rattle.octets.proofs.Laws.Lists.{all-map, any-map, unique-map, all-both, un
 use Rattle.octets.specs.Number.{u16At}
 use Rattle.octets.specs.Text.{same, within}
 use Rattle.table.specs.SameName.{sameDnsName}
-use Rattle.table.specs.Layout.{body}
-use Rattle.table.specs.Records.{contextOf, accountOf, siteOf, subnetOf, serverOf, contextNumber, siteNumber, siteOrNone, sameContext, sameSite}
-use Rattle.table.specs.Table.{Table, blockAt, blocksOf, bodies, recordsOf, tableOf, tableFrom}
+use Rattle.table.specs.declared.record.RecordKind.the-variants as kind
+use Rattle.table.specs.Account.{accountOf}
+use Rattle.table.specs.Block.{blockAt, blocksOf, body}
+use Rattle.table.specs.Context.{contextOf}
+use Rattle.table.specs.Countings.{contextNumber, siteNumber, siteOrNone, sameContext, sameSite}
+use Rattle.table.specs.Server.{serverOf, serverPlace}
+use Rattle.table.specs.Site.{siteOf}
+use Rattle.table.specs.Subnet.{subnetOf}
+use Rattle.table.specs.Table.{Table, recordsOf, tableOf, tableFrom}
 use Rattle.table.proofs.Laws.Table.{block-there}
 use Rattle.table_whole.specs.Whole.{sameSid, contextsUnique, accountsUnique, sitesUnique, hasContext, hasSite, noneOr, refersRightly, goodWhole}
 use Rattle.table_whole.specs.declared.alike.Likeness.the-variants.{Contexts, Accounts}
@@ -37,23 +43,23 @@ module _ {A : Type 0} (f : List ℕ → A) (image : List ℕ) (w : ℕ) (places 
   unique-at : (alike : A → A → Bool) → unique (λ p q. alike (f (cut image p w)) (f (cut image q w))) places ≡ unique alike (map f records)
   unique-at alike = sym (ap (λ (rs : List (List ℕ)). unique alike (map f rs)) (sym e) ∙ unique-map f alike (recordsAt image w places) ∙ unique-map (λ q. cut image q w) (λ r s. alike (f r) (f s)) places)
 
-pub server-number : (image : List ℕ) (at : ℕ) → 512 ≤ length image → u16At (body (blockAt image 0)) at ≡ serverNumber (blocksOf image) at
+pub server-number : (image : List ℕ) (at : ℕ) → 512 ≤ length image → u16At (body (blockAt image serverPlace)) at ≡ serverNumber (blocksOf image) at
 unfolding serverNumber
 server-number image at h =
     let h0 : 0 < length image / 512 = omega arith in
     ap (λ (b : List ℕ). u16At (body b) at) (sym (block-there image 0 h0))
 
 -- accounts
-module _ (marks : List Bool) (image : List ℕ) (places : List ℕ) (e : recordsAt image 84 places ≡ recordsOf 4 6 84 (blocksOf image)) where
+module _ (marks : List Bool) (image : List ℕ) (places : List ℕ) (e : recordsAt image 84 places ≡ recordsOf kind.Account (blocksOf image)) where
   accounts-refer : ContextMarks marks (tableFrom image) → all (refersAt AccountContext marks image 84) places ≡ all (λ a. hasContext (tableFrom image) (a .context)) (tableFrom image .accounts)
   unfolding tableOf accountOf
   accounts-refer m =
       ap (λ (p : ℕ → Bool). all p places) (fun-ext (λ q. m .say (contextNumber (u16At (cut image q 84) 0))))
-      ∙ all-at accountOf image 84 places (recordsOf 4 6 84 (blocksOf image)) e (λ a. hasContext (tableFrom image) (a .context))
+      ∙ all-at accountOf image 84 places (recordsOf kind.Account (blocksOf image)) e (λ a. hasContext (tableFrom image) (a .context))
 
   accounts-unique : unique (alikeAt Accounts image 84) places ≡ accountsUnique (tableFrom image .accounts)
   unfolding tableOf accountsUnique
-  accounts-unique = unique-at accountOf image 84 places (recordsOf 4 6 84 (blocksOf image)) e _
+  accounts-unique = unique-at accountOf image 84 places (recordsOf kind.Account (blocksOf image)) e _
 
   pub lost-account : ContextMarks marks (tableFrom image) → all (refersAt AccountContext marks image 84) places ≡ false → false ≡ goodAccounts (tableFrom image)
   unfolding goodAccounts
@@ -65,24 +71,24 @@ module _ (marks : List Bool) (image : List ℕ) (places : List ℕ) (e : records
 
 -- marks of context numbers, and of site numbers
 module _ (marks : List Bool) (image : List ℕ) (places : List ℕ) (size : length marks ≡ 65536) where
-  pub context-marks : recordsAt image 504 places ≡ bodies 3 (blocksOf image) → Marked marks image 504 places → ContextMarks marks (tableFrom image)
+  pub context-marks : recordsAt image 504 places ≡ recordsOf kind.Context (blocksOf image) → Marked marks image 504 places → ContextMarks marks (tableFrom image)
   unfolding tableOf contextOf hasContext
   context-marks e seen =
       record {
         size = size;
-        say = λ n. seen (n .0) ∙ any-at contextOf image 504 places (bodies 3 (blocksOf image)) e (λ c. sameContext (c .number) n);
+        say = λ n. seen (n .0) ∙ any-at contextOf image 504 places (recordsOf kind.Context (blocksOf image)) e (λ c. sameContext (c .number) n);
       }
 
-  pub site-marks : recordsAt image 72 places ≡ recordsOf 5 7 72 (blocksOf image) → Marked marks image 72 places → SiteMarks marks (tableFrom image)
+  pub site-marks : recordsAt image 72 places ≡ recordsOf kind.Site (blocksOf image) → Marked marks image 72 places → SiteMarks marks (tableFrom image)
   unfolding tableOf siteOf hasSite
   site-marks e seen =
       record {
         size = size;
-        say = λ n. seen (n .0) ∙ any-at siteOf image 72 places (recordsOf 5 7 72 (blocksOf image)) e (λ s. sameSite (s .number) n);
+        say = λ n. seen (n .0) ∙ any-at siteOf image 72 places (recordsOf kind.Site (blocksOf image)) e (λ s. sameSite (s .number) n);
       }
 
 -- contexts, test by test
-module _ (image : List ℕ) (places : List ℕ) (e : recordsAt image 504 places ≡ bodies 3 (blocksOf image)) where
+module _ (image : List ℕ) (places : List ℕ) (e : recordsAt image 504 places ≡ recordsOf kind.Context (blocksOf image)) where
   contexts-unique : contextsUnique (tableFrom image .contexts) ≡ (unique (sameNumber image 504) places && unique (alikeAt Contexts image 504) places)
   unfolding tableOf contextOf contextsUnique
   contexts-unique =
@@ -93,10 +99,10 @@ module _ (image : List ℕ) (places : List ℕ) (e : recordsAt image 504 places 
       let dns = unique (λ c d. sameDnsName (c .dns) (d .dns)) cs in
       shift number guid sid dns
       ∙ ap₂ (λ (m n : Bool). m && n)
-      (sym (unique-at contextOf image 504 places (bodies 3 (blocksOf image)) e (λ c d. sameContext (c .number) (d .number))))
+      (sym (unique-at contextOf image 504 places (recordsOf kind.Context (blocksOf image)) e (λ c d. sameContext (c .number) (d .number))))
       (ap (λ (b : Bool). b && dns) (unique-either (λ c d. same (c .guid) (d .guid)) (λ c d. sameSid (c .sid) (d .sid)) cs)
       ∙ unique-either (λ c d. same (c .guid) (d .guid) || sameSid (c .sid) (d .sid)) (λ c d. sameDnsName (c .dns) (d .dns)) cs
-      ∙ sym (unique-at contextOf image 504 places (bodies 3 (blocksOf image)) e contextsAlike))
+      ∙ sym (unique-at contextOf image 504 places (recordsOf kind.Context (blocksOf image)) e contextsAlike))
     where
       shift : (a b c d : Bool) → (((a && b) && c) && d) ≡ (a && ((b && c) && d))
       shift true b c d = refl
@@ -123,7 +129,7 @@ module _ (image : List ℕ) (places : List ℕ) (e : recordsAt image 504 places 
 
   contexts-count : length (tableFrom image .contexts) ≡ length places
   unfolding tableOf
-  contexts-count = length-map (bodies 3 (blocksOf image)) contextOf ∙ ap length (sym e) ∙ length-map places (λ q. cut image q 504)
+  contexts-count = length-map (recordsOf kind.Context (blocksOf image)) contextOf ∙ ap length (sym e) ∙ length-map places (λ q. cut image q 504)
 
   pub no-context : length places ≡ 0 → false ≡ contextHalf (tableFrom image)
   unfolding contextHalf
@@ -167,25 +173,25 @@ module _ (marks : List Bool) (t : Table) (m : SiteMarks marks t) where
       go true = refl
       go false = other (eqb own next)
 
-pub subnets-refer : (marks : List Bool) (image : List ℕ) (places : List ℕ) → recordsAt image 12 places ≡ recordsOf 6 42 12 (blocksOf image) → SiteMarks marks (tableFrom image)
+pub subnets-refer : (marks : List Bool) (image : List ℕ) (places : List ℕ) → recordsAt image 12 places ≡ recordsOf kind.Subnet (blocksOf image) → SiteMarks marks (tableFrom image)
     → all (refersAt SubnetSite marks image 12) places ≡ goodSubnets (tableFrom image)
 unfolding tableOf subnetOf goodSubnets
 subnets-refer marks image places e m =
     ap (λ (p : ℕ → Bool). all p places) (fun-ext (λ q. none-or-marked marks (tableFrom image) m (u16At (cut image q 12) 6)))
-    ∙ all-at subnetOf image 12 places (recordsOf 6 42 12 (blocksOf image)) e (λ n. noneOr (hasSite (tableFrom image)) (n .site))
+    ∙ all-at subnetOf image 12 places (recordsOf kind.Subnet (blocksOf image)) e (λ n. noneOr (hasSite (tableFrom image)) (n .site))
 
 -- sites, test by test
-module _ (image : List ℕ) (places : List ℕ) (e : recordsAt image 72 places ≡ recordsOf 5 7 72 (blocksOf image)) where
+module _ (image : List ℕ) (places : List ℕ) (e : recordsAt image 72 places ≡ recordsOf kind.Site (blocksOf image)) where
   sites-unique : sitesUnique (tableFrom image .sites) ≡ unique (sameNumber image 72) places
   unfolding tableOf siteOf sitesUnique
-  sites-unique = sym (unique-at siteOf image 72 places (recordsOf 5 7 72 (blocksOf image)) e (λ s t. sameSite (s .number) (t .number)))
+  sites-unique = sym (unique-at siteOf image 72 places (recordsOf kind.Site (blocksOf image)) e (λ s t. sameSite (s .number) (t .number)))
 
   pub next-refer : (marks : List Bool) → SiteMarks marks (tableFrom image) → all (refersAt NextSite marks image 72) places ≡ goodNext (tableFrom image)
   unfolding tableOf siteOf goodNext
   next-refer marks m =
       let t = tableFrom image in
       ap (λ (p : ℕ → Bool). all p places) (fun-ext (λ q. next-marked marks t m (u16At (cut image q 72) 0) (u16At (cut image q 72) 66)))
-      ∙ all-at siteOf image 72 places (recordsOf 5 7 72 (blocksOf image)) e (λ s. noneOr (hasSite t) (s .next) && not (holds (sameSite (s .number)) (s .next)))
+      ∙ all-at siteOf image 72 places (recordsOf kind.Site (blocksOf image)) e (λ s. noneOr (hasSite t) (s .next) && not (holds (sameSite (s .number)) (s .next)))
       ∙ sym (all-both (λ s. noneOr (hasSite t) (s .next)) (λ s. not (holds (sameSite (s .number)) (s .next))) (t .sites))
 
   sites-tests : goodSites (tableFrom image)
@@ -209,7 +215,7 @@ module _ (image : List ℕ) (places : List ℕ) (e : recordsAt image 72 places �
 
   sites-count : length (tableFrom image .sites) ≡ length places
   unfolding tableOf
-  sites-count = length-map (recordsOf 5 7 72 (blocksOf image)) siteOf ∙ ap length (sym e) ∙ length-map places (λ q. cut image q 72)
+  sites-count = length-map (recordsOf kind.Site (blocksOf image)) siteOf ∙ ap length (sym e) ∙ length-map places (λ q. cut image q 72)
 
   pub no-site : length places ≡ 0 → false ≡ siteHalf (tableFrom image)
   unfolding siteHalf

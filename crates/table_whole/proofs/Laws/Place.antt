@@ -11,8 +11,11 @@ use lib.ListN.{length, getD, take, drop, set}
 use lib.Seq.{drop-drop, take-take, take-suc-set}
 use Rattle.octets.specs.Lists.{cut, keep, keepIf, pieces}
 use Rattle.octets.proofs.Laws.Lists.{keep-append, cut-cut, pieces-take}
-use Rattle.table.specs.Layout.{body}
-use Rattle.table.specs.Table.{blockAt, blocksOf, bodies, recordsOf}
+use Rattle.table.specs.declared.record.RecordKind.{RecordKind}
+use Rattle.table.specs.Block.{blockAt, blocksOf, body}
+use Rattle.table.specs.Countings.{blockPlace}
+use Rattle.table.specs.Format.{formatOf}
+use Rattle.table.specs.Table.{bodies, recordsOf}
 use Rattle.table.proofs.Laws.Table.{bodyIf, bodies-cons, blocks-step, blocks-end}
 use Rattle.table_whole.specs.Internal.Place.{recordsAt, countsAs, placesFrom, countedOf}
 
@@ -31,7 +34,7 @@ places-records each image w at (suc n) = go (countsAs each (cut image at w)) (pl
 
 -- in the block at place i: n records of w octets, which fit into its body
 pub block-records : (each : Bool) (image : List ℕ) (w i n : ℕ) → n * w ≤ 504
-    → recordsAt image w (placesFrom each image w (512 * i + 4) n) ≡ keep (countsAs each) (pieces n w (body (blockAt image i)))
+    → recordsAt image w (placesFrom each image w (512 * i + 4) n) ≡ keep (countsAs each) (pieces n w (body (blockAt image (blockPlace i))))
 block-records each image w i n h =
     places-records each image w (512 * i + 4) n
     ∙ ap (keep (countsAs each)) (sym (pieces-take n w 504 (drop (512 * i + 4) image) h) ∙ ap (pieces n w) (sym (cut-cut image (512 * i) 512 4 504 (omega arith))))
@@ -70,9 +73,9 @@ counted-cons each kind n w block blocks =
     go false = refl
 
 pub counted-step : (each : Bool) (kind n w : ℕ) (image : List ℕ) (i : ℕ) → i < length image / 512
-    → countedOf each kind n w (drop i (blocksOf image)) ≡ countedIf (eqb (getD (blockAt image i) 0 0) kind) each n w (blockAt image i) ++ countedOf each kind n w (drop (i + 1) (blocksOf image))
+    → countedOf each kind n w (drop i (blocksOf image)) ≡ countedIf (eqb (getD (blockAt image (blockPlace i)) 0 0) kind) each n w (blockAt image (blockPlace i)) ++ countedOf each kind n w (drop (i + 1) (blocksOf image))
 counted-step each kind n w image i h =
-    ap (countedOf each kind n w) (blocks-step image i h) ∙ counted-cons each kind n w (blockAt image i) (drop (i + 1) (blocksOf image))
+    ap (countedOf each kind n w) (blocks-step image i h) ∙ counted-cons each kind n w (blockAt image (blockPlace i)) (drop (i + 1) (blocksOf image))
 
 pub counted-end : (each : Bool) (kind n w : ℕ) (image : List ℕ) (i : ℕ) → length image / 512 ≤ i → countedOf each kind n w (drop i (blocksOf image)) ≡ []
 unfolding countedOf bodies keep flatMap
@@ -83,18 +86,18 @@ module _ (each : Bool) (kind n w : ℕ) (image : List ℕ) (i : ℕ) (h : i < le
   rest : ℕ → List (List ℕ)
   rest j = countedOf each kind n w (drop j (blocksOf image))
 
-  pub step-in : (so-far places : List ℕ) → n * w ≤ 504 → eqb (getD (blockAt image i) 0 0) kind ≡ true → places ≡ so-far ++ placesFrom each image w (512 * i + 4) n
+  pub step-in : (so-far places : List ℕ) → n * w ≤ 504 → eqb (getD (blockAt image (blockPlace i)) 0 0) kind ≡ true → places ≡ so-far ++ placesFrom each image w (512 * i + 4) n
       → recordsAt image w places ++ countedOf each kind n w (drop (i + 1) (blocksOf image)) ≡ recordsAt image w so-far ++ countedOf each kind n w (drop i (blocksOf image))
   unfolding rest
   step-in so-far places fits t e =
       ap (λ (ps : List ℕ). recordsAt image w ps ++ rest (i + 1)) e
       ∙ ap (λ (rs : List (List ℕ)). rs ++ rest (i + 1)) (map-append (λ at. cut image at w) so-far (placesFrom each image w (512 * i + 4) n) ∙ ap (λ (rs : List (List ℕ)). recordsAt image w so-far ++ rs) (block-records each image w i n fits))
-      ∙ append-assoc (recordsAt image w so-far) (keep (countsAs each) (pieces n w (body (blockAt image i)))) (rest (i + 1))
-      ∙ ap (λ (rs : List (List ℕ)). recordsAt image w so-far ++ rs) (sym (counted-step each kind n w image i h ∙ ap (λ (b : Bool). countedIf b each n w (blockAt image i) ++ rest (i + 1)) t))
+      ∙ append-assoc (recordsAt image w so-far) (keep (countsAs each) (pieces n w (body (blockAt image (blockPlace i))))) (rest (i + 1))
+      ∙ ap (λ (rs : List (List ℕ)). recordsAt image w so-far ++ rs) (sym (counted-step each kind n w image i h ∙ ap (λ (b : Bool). countedIf b each n w (blockAt image (blockPlace i)) ++ rest (i + 1)) t))
 
-  pub step-over : eqb (getD (blockAt image i) 0 0) kind ≡ false → countedOf each kind n w (drop (i + 1) (blocksOf image)) ≡ countedOf each kind n w (drop i (blocksOf image))
+  pub step-over : eqb (getD (blockAt image (blockPlace i)) 0 0) kind ≡ false → countedOf each kind n w (drop (i + 1) (blocksOf image)) ≡ countedOf each kind n w (drop i (blocksOf image))
   unfolding rest
-  step-over t = sym (counted-step each kind n w image i h ∙ ap (λ (b : Bool). countedIf b each n w (blockAt image i) ++ rest (i + 1)) t)
+  step-over t = sym (counted-step each kind n w image i h ∙ ap (λ (b : Bool). countedIf b each n w (blockAt image (blockPlace i)) ++ rest (i + 1)) t)
 
 -- n places for each of 128 blocks are enough
 pub room-left : (n i : ℕ) → i < 128 → n * i + n ≤ n * 128
@@ -103,15 +106,7 @@ room-left n i h = subst (λ (k : ℕ). k ≤ n * 128) (mul-suc n i) (mul-le-mul-
 pub one-more : (n i : ℕ) → n * (i + 1) ≡ n * i + n
 one-more n i = rw add-one (mul-suc n i)
 
--- a used record counts, and so does each context's body
-pub counted-records : (kind n w : ℕ) (blocks : List (List ℕ)) → countedOf false kind n w blocks ≡ recordsOf kind n w blocks
+-- the used records of a kind
+pub counted-records : (kind : RecordKind) (blocks : List (List ℕ)) → countedOf false (formatOf kind .kind) (formatOf kind .count) (formatOf kind .width) blocks ≡ recordsOf kind blocks
 unfolding countedOf recordsOf
-counted-records kind n w blocks = refl
-
-pub counted-bodies : (kind : ℕ) (blocks : List (List ℕ)) → countedOf true kind 1 504 blocks ≡ bodies kind blocks
-unfolding countedOf bodies flatMap keep pieces
-counted-bodies kind blocks = go (keep (λ block. eqb (getD block 0 0) kind) blocks)
-  where
-    go : (kept : List (List ℕ)) → keep (countsAs true) (flatMap (pieces 1 504) (map body kept)) ≡ map body kept
-    go [] = refl
-    go (block ∷ kept) = ap₂ (λ (b : List ℕ) (bs : List (List ℕ)). b ∷ bs) (take-take 504 504 (drop 4 block) (omega arith)) (go kept)
+counted-records kind blocks = refl

@@ -4,7 +4,9 @@ use mathlib.Core.List.{List}
 use Prim.Native.Nat.{ℕ}
 use Rattle.octets.specs.Lists.{cut}
 use Rattle.octets.specs.Text.{same}
-use Rattle.table.specs.Records.{Context, Account, sameContext, contextOf, accountOf}
+use Rattle.table.specs.Account.{Account, accountOf}
+use Rattle.table.specs.Context.{Context, contextOf}
+use Rattle.table.specs.Countings.{sameContext}
 use Rattle.table_whole.specs.Whole.{sameSid}
 use Rattle.table.specs.SameName.{sameDnsName, sameAccountName}
 use Rattle.table_whole.specs.declared.alike.Likeness.{Likeness}

@@ -10,8 +10,8 @@ use Rattle.octets.specs.Number.{u16At}
 use Rattle.octets.specs.Text.{within}
 use Rattle.table.specs.declared.ContextNumber.{ContextNumber}
 use Rattle.table.specs.declared.SiteNumber.{SiteNumber}
-use Rattle.table.specs.Layout.{body}
-use Rattle.table.specs.Records.{sameSite}
+use Rattle.table.specs.Block.{body}
+use Rattle.table.specs.Countings.{sameSite}
 use Rattle.table.specs.Table.{Table}
 use Rattle.table_whole.specs.Whole.{contextsUnique, accountsUnique, sitesUnique, hasContext, hasSite, noneOr}
 

@@ -1,22 +1,22 @@
 use Rattle.table_whole.proofs.Laws.Alike.{other-context, one-context}
-use Rattle.table.specs.Records.{accountOf}
+use Rattle.table.specs.Account.{accountOf}
 use Rattle.table.specs.SameName.{sameAccountName}
 use mathlib.Core.Path.{sym, ap₂, _∙_}
 use borrow.Author.Needs.{needs}
 use Rattle.table_whole.proofs.alike.are_accounts_alike.Statement.{statement}
 use Rattle.table_whole.proofs.alike.are_accounts_alike.Tie as tie
 
-number-in-requires : tie.Need-number-in-requires
-number-in-requires c κs = search needs
+u16-in-requires : tie.Need-u16-in-requires
+u16-in-requires c κs = search needs
 
-number-in-requires-2 : tie.Need-number-in-requires-2
-number-in-requires-2 c κs = search needs
+u16-in-requires-2 : tie.Need-u16-in-requires-2
+u16-in-requires-2 c κs = search needs
 
 returns : tie.Need-returns
 unfolding accountOf
 returns c =
     let a = c .before .before .before .before .before .args in
-    other-context (accountOf (a .a .now)) (accountOf (a .b .now)) (λ e. c .if1 .taken (c .before .before .number-in .ensures ∙ e ∙ sym (c .before .number-in2 .ensures)))
+    other-context (accountOf (a .a .now)) (accountOf (a .b .now)) (λ e. c .if1 .taken (c .before .before .u16-in .ensures ∙ e ∙ sym (c .before .u16-in2 .ensures)))
 
 text-in-requires : tie.Need-text-in-requires
 text-in-requires c κs = search needs
@@ -31,15 +31,15 @@ returns-2 : tie.Need-returns-2
 unfolding accountOf
 returns-2 c =
     let a = c .before .before .before .before .before .before .before .before .args in
-    let e = sym (c .before .before .before .before .before .number-in .ensures) ∙ c .before .before .before .if1 .left ∙ c .before .before .before .before .number-in2 .ensures in
+    let e = sym (c .before .before .before .before .before .u16-in .ensures) ∙ c .before .before .before .if1 .left ∙ c .before .before .before .before .u16-in2 .ensures in
     c .same-account-name .ensures ∙ ap₂ sameAccountName (c .before .before .text-in .ensures) (c .before .text-in2 .ensures) ∙ one-context (accountOf (a .a .now)) (accountOf (a .b .now)) e
 
 pub are-accounts-alike-spec : {M : Type 1} → statement M
 are-accounts-alike-spec =
     tie.close
     (tie.spec
-    number-in-requires
-    number-in-requires-2
+    u16-in-requires
+    u16-in-requires-2
     returns
     text-in-requires
     text-in-requires-2

@@ -1,5 +1,5 @@
 use Rattle.table_whole.proofs.Laws.Alike.{alike-guid, alike-sid, alike-dns}
-use Rattle.table.specs.Records.{contextOf}
+use Rattle.table.specs.Context.{contextOf}
 use Rattle.octets.specs.Text.{same}
 use Rattle.table.specs.SameName.{sameDnsName}
 use mathlib.Core.Path.{sym, ap₂, _∙_}

@@ -1,4 +1,4 @@
-use Rattle.table.specs.Records.{contextOf}
+use Rattle.table.specs.Context.{contextOf}
 use Rattle.octets.specs.Text.{same}
 use borrow.Author.Tests.{eq-eqb, ne-eqb}
 use lib.ListN.{getD}
@@ -28,11 +28,11 @@ returns-2 c =
     let n : getD (a .b .now) 3 0 ≡ 1 → ⊥ = λ e. c .if2 .taken (c .before .octet-in2 .ensures ∙ e) in
     rw (eq-eqb (getD (a .a .now) 3 0) 1 e, ne-eqb (getD (a .b .now) 3 0) 1 n)
 
-sid-in-requires : tie.Need-sid-in-requires
-sid-in-requires c κs = search needs
+sid-requires : tie.Need-sid-requires
+sid-requires c κs = search needs
 
-sid-in-requires-2 : tie.Need-sid-in-requires-2
-sid-in-requires-2 c κs = search needs
+sid-requires-2 : tie.Need-sid-requires-2
+sid-requires-2 c κs = search needs
 
 same-octets-requires : tie.Need-same-octets-requires
 same-octets-requires c κs = search needs
@@ -43,7 +43,7 @@ returns-3 c =
     let a = c .before .before .before .before .before .before .before .before .before .args in
     let e = sym (c .before .before .before .before .before .before .octet-in .ensures) ∙ c .before .before .before .before .before .if1 .left in
     let f = sym (c .before .before .before .before .octet-in2 .ensures) ∙ c .before .before .before .if2 .left in
-    rw (eq-eqb (getD (a .a .now) 3 0) 1 e, eq-eqb (getD (a .b .now) 3 0) 1 f) (c .same-octets .ensures ∙ ap₂ same (c .before .before .sid-in .ensures) (c .before .sid-in2 .ensures))
+    rw (eq-eqb (getD (a .a .now) 3 0) 1 e, eq-eqb (getD (a .b .now) 3 0) 1 f) (c .same-octets .ensures ∙ ap₂ same (c .before .before .sid .ensures) (c .before .sid2 .ensures))
 
 pub same-sid-spec : {M : Type 1} → statement M
 same-sid-spec =
@@ -53,7 +53,7 @@ same-sid-spec =
     returns
     octet-in-requires-2
     returns-2
-    sid-in-requires
-    sid-in-requires-2
+    sid-requires
+    sid-requires-2
     same-octets-requires
     returns-3)

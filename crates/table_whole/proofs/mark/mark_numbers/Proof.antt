@@ -35,8 +35,8 @@ shared-slice-read-part c = search needs
 part-requires : tie.Need-part-requires Inv-loop μ-loop
 part-requires c κs = search needs
 
-number-in-requires : tie.Need-number-in-requires Inv-loop μ-loop
-number-in-requires c κs = search needs
+u16-in-requires : tie.Need-u16-in-requires Inv-loop μ-loop
+u16-in-requires c κs = search needs
 
 cast-n : tie.Need-cast-n Inv-loop μ-loop
 cast-n c = search needs
@@ -48,10 +48,10 @@ same-length : tie.Need-same-length Inv-loop μ-loop
 same-length c = search needs
 
 -- the number that was read, and what is seen behind it
-number : (c : tie.After-number-in Inv-loop μ-loop) → let a = c .before .before .before .before .before .before .before .before .args in c .number-in .result ≡ numberAt (a .image .now) (a .w) (getD (a .places .now) (c .before .before .before .before .loop .left - 1) 0)
-number c = c .number-in .ensures ∙ ap (λ (s : List ℕ). u16At s 0) (c .before .part .ensures)
+number : (c : tie.After-u16-in Inv-loop μ-loop) → let a = c .before .before .before .before .before .before .before .before .args in c .u16-in .result ≡ numberAt (a .image .now) (a .w) (getD (a .places .now) (c .before .before .before .before .loop .left - 1) 0)
+number c = c .u16-in .ensures ∙ ap (λ (s : List ℕ). u16At s 0) (c .before .part .ensures)
 
-seen : (c : tie.After-number-in Inv-loop μ-loop) → let a = c .before .before .before .before .before .before .before .before .args in Seen (c .before .before .before .before .loop .marks) (a .image .now) (a .w) (a .places .now) (c .before .before .before .before .loop .left - 1 + 1)
+seen : (c : tie.After-u16-in Inv-loop μ-loop) → let a = c .before .before .before .before .before .before .before .before .args in Seen (c .before .before .before .before .loop .marks) (a .image .now) (a .w) (a .places .now) (c .before .before .before .before .loop .left - 1 + 1)
 seen c =
     let a = c .before .before .before .before .before .before .before .before .args in
     let l = c .before .before .before .before .loop in
@@ -62,7 +62,7 @@ returns : tie.Need-returns Inv-loop μ-loop
 returns c =
     let a = c .before .before .before .before .before .before .before .before .before .before .args in
     let l = c .before .before .before .before .before .before .loop in
-    (seen-twice (l .marks) (a .image .now) (a .w) (a .places .now) (l .left - 1) (c .before .before .number-in .result) (omega arith) (number (c .before .before)) (seen (c .before .before)) (c .if1 .taken), λ f. absurd (false≢true f))
+    (seen-twice (l .marks) (a .image .now) (a .w) (a .places .now) (l .left - 1) (c .before .before .u16-in .result) (omega arith) (number (c .before .before)) (seen (c .before .before)) (c .if1 .taken), λ f. absurd (false≢true f))
 
 slice-write-marks : tie.Need-slice-write-marks Inv-loop μ-loop
 slice-write-marks c = search needs
@@ -74,7 +74,7 @@ loop-again : tie.Need-loop-again Inv-loop μ-loop
 loop-again c =
     let a = c .before .before .before .before .before .before .before .before .before .before .args in
     let l = c .before .before .before .before .before .before .loop in
-    (omega arith, simp length-set (l .inv .1), seen-once (l .marks) (a .image .now) (a .w) (a .places .now) (l .left - 1) (c .before .before .number-in .result) (omega arith) (number (c .before .before)) (seen (c .before .before)) (c .if1 .left) (omega arith))
+    (omega arith, simp length-set (l .inv .1), seen-once (l .marks) (a .image .now) (a .w) (a .places .now) (l .left - 1) (c .before .before .u16-in .result) (omega arith) (number (c .before .before)) (seen (c .before .before)) (c .if1 .left) (omega arith))
 
 same-length-2 : tie.Need-same-length-2 Inv-loop μ-loop
 same-length-2 c = search needs
@@ -98,7 +98,7 @@ mark-numbers-spec =
     mul-part
     shared-slice-read-part
     part-requires
-    number-in-requires
+    u16-in-requires
     cast-n
     slice-read-if1
     same-length

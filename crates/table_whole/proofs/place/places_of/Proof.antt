@@ -1,7 +1,7 @@
 use Rattle.table_whole.proofs.Laws.Place.{one-more}
 use Rattle.table_whole.proofs.Laws.Place.{counted-end, step-in, step-over, room-left}
-use Rattle.table.proofs.Laws.Table.{block-length}
-use Rattle.table.specs.Table.{blockAt}
+use Rattle.table.specs.Block.{blockAt}
+use Rattle.table.specs.Countings.{blockPlace}
 use borrow.Author.Tests.{eq-eqb, ne-eqb}
 use native.Mathlib.Nat.{mul-le-mul-left}
 use lib.ListN.{getD}
@@ -9,7 +9,7 @@ use mathlib.Core.List.{append-nil}
 use borrow.Author.Needs.{needs}
 use Rattle.table_whole.proofs.Laws.Place.{counted-end, room-left}
 use Rattle.table_whole.specs.Internal.Place.{recordsAt, countedOf}
-use Rattle.table.specs.Table.{blocksOf}
+use Rattle.table.specs.Block.{blocksOf}
 use native.Mathlib.Omega.{arith}
 use lib.ListN.{length, take, drop}
 use mathlib.Core.List.{List, _++_}
@@ -34,15 +34,14 @@ loop-holds c = (refl, omega arith, omega arith, refl)
 add-i : tie.Need-add-i Inv-loop μ-loop
 add-i c = search needs
 
+cast-t15 : tie.Need-cast-t15 Inv-loop μ-loop
+cast-t15 c = omega arith
+
 block-at-requires : tie.Need-block-at-requires Inv-loop μ-loop
 block-at-requires c κs = search needs
 
 kind-of-requires : tie.Need-kind-of-requires Inv-loop μ-loop
-kind-of-requires c κs =
-    let l = c .before .before .loop in
-    let image = c .before .before .before .before .before .args .image .now in
-    let e : length (c .block-at .result .now) ≡ 512 = ap length (c .block-at .ensures) ∙ block-length image (l .i) (omega arith) in
-    omega arith
+kind-of-requires c κs = search needs
 
 mul-add-places : tie.Need-mul-add-places Inv-loop μ-loop
 mul-add-places c = search needs
@@ -74,7 +73,7 @@ loop-again-2 : tie.Need-loop-again-2 Inv-loop μ-loop
 loop-again-2 c =
     let a = c .before .before .before .before .before .before .before .args in
     let l = c .before .before .before .before .loop in
-    let e : getD (blockAt (a .image .now) (l .i)) 0 0 ≡ a .kind → ⊥ = λ t. c .if1 .left (c .before .kind-of .ensures ∙ ap (λ (b : List ℕ). getD b 0 0) (c .before .before .block-at .ensures) ∙ t) in
+    let e : getD (blockAt (a .image .now) (blockPlace (l .i))) 0 0 ≡ a .kind → ⊥ = λ t. c .if1 .left (c .before .kind-of .ensures ∙ ap (λ (b : List ℕ). getD b 0 0) (c .before .before .block-at .ensures) ∙ t) in
     (l .inv .0, omega arith, omega (arith, one-more (a .n) (l .i)), ap (λ (rs : List (List ℕ)). recordsAt (a .image .now) (a .w) (take (l .count) (l .out)) ++ rs) (step-over (a .each) (a .kind) (a .n) (a .w) (a .image .now) (l .i) (omega arith) (ne-eqb _ _ e)) ∙ l .inv .3)
 
 same-length : tie.Need-same-length Inv-loop μ-loop
@@ -96,6 +95,7 @@ places-of-spec =
     μ-loop
     loop-holds
     add-i
+    cast-t15
     block-at-requires
     kind-of-requires
     mul-add-places

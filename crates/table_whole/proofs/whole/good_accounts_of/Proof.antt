@@ -1,3 +1,4 @@
+use Rattle.table.specs.declared.record.RecordKind.the-variants as kind
 use Rattle.table_whole.proofs.Laws.Place.{counted-records}
 use lib.Seq.{length-take-le}
 use lib.ListN.{length}
@@ -23,7 +24,7 @@ slice-aggregate-are-accounts-good c =
     sym (length-take-le (p .result) (p .last .1 .1 .1 .1 .1 .0) (subst (λ (n : ℕ). p .result ≤ n) (sym size) (p .ensures .1)))
 
 are-accounts-good-requires : tie.Need-are-accounts-good-requires
-are-accounts-good-requires c κs = (c .before .before .places-of .ensures .0 ∙ counted-records 4 6 84 _, c .before .before .before .before .before .before .pre .1)
+are-accounts-good-requires c κs = (c .before .before .places-of .ensures .0 ∙ counted-records kind.Account _, c .before .before .before .before .before .before .pre .1)
 
 returns : tie.Need-returns
 returns c = search needs

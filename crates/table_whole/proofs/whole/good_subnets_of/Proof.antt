@@ -1,3 +1,4 @@
+use Rattle.table.specs.declared.record.RecordKind.the-variants as kind
 use Rattle.table_whole.proofs.Laws.Half.{subnets-refer}
 use Rattle.table_whole.proofs.Laws.Place.{counted-records}
 use lib.Seq.{length-take-le}
@@ -30,7 +31,7 @@ returns : tie.Need-returns
 returns c =
     let s = c .before .before .before .before .before .before .before in
     let p = c .before .before .before .places-of in
-    c .all-refer .ensures ∙ subnets-refer (s .args .marks .now) (s .args .image .now) (take (p .result) (p .last .1 .1 .1 .1 .1 .0)) (p .ensures .0 ∙ counted-records 6 42 12 _) (s .pre .1)
+    c .all-refer .ensures ∙ subnets-refer (s .args .marks .now) (s .args .image .now) (take (p .result) (p .last .1 .1 .1 .1 .1 .0)) (p .ensures .0 ∙ counted-records kind.Subnet _) (s .pre .1)
 
 pub good-subnets-of-spec : {M : Type 1} → statement M
 good-subnets-of-spec =

@@ -1,8 +1,10 @@
 use Rattle.table_whole.specs.Internal.Place.{recordsAt}
-use Rattle.table.specs.Table.{blocksOf, bodies}
+use Rattle.table.specs.declared.record.RecordKind.the-variants as kind
+use Rattle.table.specs.Block.{blocksOf}
+use Rattle.table.specs.Table.{recordsOf}
 use Prim.Native.Nat.{_<_}
 use Rattle.table_whole.proofs.Laws.Half.{no-context, many-contexts, some-contexts}
-use Rattle.table_whole.proofs.Laws.Place.{counted-bodies}
+use Rattle.table_whole.proofs.Laws.Place.{counted-records}
 use lib.Seq.{length-take-le}
 use lib.ListN.{length, take}
 use Prim.Native.Nat.{ℕ, _≤_}
@@ -24,8 +26,8 @@ count c =
     let size : length (p .last .1 .1 .1 .1 .1 .0) ≡ 128 = p .kept .1 .1 .1 .1 .1 .0 in
     length-take-le (p .result) (p .last .1 .1 .1 .1 .1 .0) (subst (λ (n : ℕ). p .result ≤ n) (sym size) (p .ensures .1))
 
-found : (c : tie.After-places-of) → let image = c .before .before .before .args .image .now in recordsAt image 504 (take (c .places-of .result) (c .places-of .last .1 .1 .1 .1 .1 .0)) ≡ bodies 3 (blocksOf image)
-found c = c .places-of .ensures .0 ∙ counted-bodies 3 (blocksOf (c .before .before .before .args .image .now))
+found : (c : tie.After-places-of) → let image = c .before .before .before .args .image .now in recordsAt image 504 (take (c .places-of .result) (c .places-of .last .1 .1 .1 .1 .1 .0)) ≡ recordsOf kind.Context (blocksOf image)
+found c = c .places-of .ensures .0 ∙ counted-records kind.Context (blocksOf (c .before .before .before .args .image .now))
 
 returns : tie.Need-returns
 returns c = no-context (c .before .before .before .before .before .args .image .now) (take (c .before .before .places-of .result) (c .before .before .places-of .last .1 .1 .1 .1 .1 .0)) (found (c .before .before)) (count (c .before .before) ∙ c .if1 .taken)

@@ -1,5 +1,7 @@
 use Rattle.table_whole.specs.Internal.Place.{recordsAt}
-use Rattle.table.specs.Table.{blocksOf, recordsOf}
+use Rattle.table.specs.declared.record.RecordKind.the-variants as kind
+use Rattle.table.specs.Block.{blocksOf}
+use Rattle.table.specs.Table.{recordsOf}
 use Rattle.table_whole.proofs.Laws.Half.{no-site, some-sites}
 use Rattle.table_whole.proofs.Laws.Place.{counted-records}
 use lib.Seq.{length-take-le}
@@ -23,8 +25,8 @@ count c =
     let size : length (p .last .1 .1 .1 .1 .1 .0) ≡ 896 = p .kept .1 .1 .1 .1 .1 .0 in
     length-take-le (p .result) (p .last .1 .1 .1 .1 .1 .0) (subst (λ (n : ℕ). p .result ≤ n) (sym size) (p .ensures .1))
 
-found : (c : tie.After-places-of) → let image = c .before .before .before .args .image .now in recordsAt image 72 (take (c .places-of .result) (c .places-of .last .1 .1 .1 .1 .1 .0)) ≡ recordsOf 5 7 72 (blocksOf image)
-found c = c .places-of .ensures .0 ∙ counted-records 5 7 72 (blocksOf (c .before .before .before .args .image .now))
+found : (c : tie.After-places-of) → let image = c .before .before .before .args .image .now in recordsAt image 72 (take (c .places-of .result) (c .places-of .last .1 .1 .1 .1 .1 .0)) ≡ recordsOf kind.Site (blocksOf image)
+found c = c .places-of .ensures .0 ∙ counted-records kind.Site (blocksOf (c .before .before .before .args .image .now))
 
 returns : tie.Need-returns
 returns c = no-site (c .before .before .before .before .before .args .image .now) (take (c .before .before .places-of .result) (c .before .before .places-of .last .1 .1 .1 .1 .1 .0)) (found (c .before .before)) (count (c .before .before) ∙ c .if1 .taken)
