@@ -11,7 +11,7 @@ use Rattle.locator.specs.Choose.{replyFor}
 use Rattle.locator.specs.Judge.{contextIn}
 use Rattle.reply.specs.Reply.{Reply}
 use Rattle.table_whole.specs.Judgement.{tableIn}
-use Rattle.table.specs.Records.{Context}
+use Rattle.table.specs.Context.{Context}
 use Rattle.table.specs.Table.{Table}
 use Rattle.table.specs.declared.Caller.{Caller}
 

@@ -18,7 +18,7 @@ use Rattle.reply.specs.Reply.{octetsIn}
 use Rattle.table.specs.declared.Caller.{Caller}
 use Rattle.table.specs.declared.ContextNumber.{ContextNumber}
 use Rattle.table_whole.specs.Judgement.{tableIn}
-use Rattle.table.specs.Records.{Context}
+use Rattle.table.specs.Context.{Context}
 use Rattle.table.specs.Table.{Table}
 use Rattle.locator.specs.declared.Answer.{Answer}
 use Rattle.locator.specs.declared.Answer.the-variants as answer

@@ -11,7 +11,10 @@ use Rattle.octets.specs.Number.{has}
 use Rattle.reply.specs.Reply.{Reply}
 use Rattle.table.specs.declared.Caller.{Caller}
 use Rattle.table.specs.declared.SiteNumber.{SiteNumber}
-use Rattle.table.specs.Records.{Server, Context, Site, sameSite}
+use Rattle.table.specs.Server.{Server}
+use Rattle.table.specs.Context.{Context}
+use Rattle.table.specs.Site.{Site}
+use Rattle.table.specs.Countings.{sameSite}
 use Rattle.table.specs.Table.{Table}
 use Rattle.table_find.specs.Find.{contextByDnsName, accountByName, siteByNumber, siteIfAny, clientSite}
 use Rattle.table_find.specs.LogOn.{mayLogOn}

@@ -10,7 +10,7 @@ use Rattle.answers.specs.Try.{Try, refused, good, refusedIf, _>>=_}
 use Rattle.filter.specs.Value.{Ping}
 use Rattle.octets.specs.Lists.{isSome, holds}
 use Rattle.octets.specs.Sid.{isSid}
-use Rattle.table.specs.Records.{Context}
+use Rattle.table.specs.Context.{Context}
 use Rattle.table.specs.Table.{Table}
 use Rattle.table_find.specs.Find.{contextByGuid, contextByDnsName, contextBySid, holdsSid, defaultContext}
 

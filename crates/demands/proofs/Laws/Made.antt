@@ -34,7 +34,10 @@ use Rattle.reply.specs.Reply.{Reply, octetsIn}
 use Rattle.table.specs.declared.SiteNumber.{SiteNumber}
 use Rattle.table_whole.specs.Judgement.{tableIn}
 use Rattle.table_whole.proofs.Laws.Judgement.{GoodContext, GoodSite, GoodTable, judged-good}
-use Rattle.table.specs.Records.{Context, Site, Subnet, sameSite}
+use Rattle.table.specs.Context.{Context}
+use Rattle.table.specs.Site.{Site}
+use Rattle.table.specs.Subnet.{Subnet}
+use Rattle.table.specs.Countings.{sameSite}
 use Rattle.table.specs.Table.{Table}
 use Rattle.demands.specs.Made.{Made, said}
 use Rattle.table.specs.declared.Caller.{Caller}
