@@ -1,5 +1,3 @@
 pub mod Request
-pub mod Shape
-pub mod Taken
-pub mod Value
+pub mod Filter
 pub mod Internal

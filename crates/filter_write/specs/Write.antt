@@ -10,10 +10,11 @@ use Rattle.answers.specs.Refusal.{number}
 use Rattle.answers.specs.Try.{Try, refused, good, refusedIf}
 use Rattle.octets.specs.Lists.{any}
 use Rattle.octets.specs.Number.{bigOctets}
-use Rattle.filter.specs.declared.ClauseName.{ClauseName}
-use Rattle.filter.specs.declared.Request.{Request}
-use Rattle.filter_write.specs.declared.Written.{Written}
-use Rattle.filter_write.specs.declared.Written.the-variants as written
+use Rattle.filter.specs.declared.request.ClauseName.{ClauseName}
+use Rattle.filter.specs.declared.request.Request.{Request}
+use Rattle.filter.specs.Filter.{andTag, equalityTag, stringTag, filterLimit}
+use Rattle.filter_write.specs.declared.write.Written.{Written}
+use Rattle.filter_write.specs.declared.write.Written.the-variants as written
 use Rattle.filter.specs.Request.{names, spelling, clause, isPresent, octetsOf}
 
 -- the shortest length
@@ -26,17 +27,17 @@ element tag contents = (tag ∷ lengthOctets (length contents)) ++ contents
 -- the equality of a clause that is present
 abbrev pub equalityFor : ClauseName → Option (List ℕ) → List ℕ
 equalityFor name none = []
-equalityFor name (some value) = element 0xA3 (element 0x04 (spelling name) ++ element 0x04 value)
+equalityFor name (some value) = element equalityTag (element stringTag (spelling name) ++ element stringTag value)
 
 -- the present clauses, whose octets lie in the source, in document 01's order inside one AND
 unfoldable pub filterOctets : List ℕ → Request → List ℕ
-filterOctets source r = element 0xA0 (flatMap (λ name. equalityFor name (octetsOf source (clause r name))) names)
+filterOctets source r = element andTag (flatMap (λ name. equalityFor name (octetsOf source (clause r name))) names)
 
 unfoldable pub filterFor : List ℕ → Request → ℕ → Try (List ℕ)
 filterFor source r room =
     let octets = filterOctets source r in
     refusedIf (not (any (λ name. isPresent (clause r name)) names)) FilterShape
-    (refusedIf (ltb 2048 (length octets)) FilterLength
+    (refusedIf (ltb filterLimit (length octets)) FilterLength
     (refusedIf (ltb room (length octets)) NoRoom (good octets)))
 
 -- the answer of the writer, as the enum that the call returns

@@ -7,10 +7,10 @@ use lib.Dec.{eqb}
 use lib.ListN.{length}
 use Rattle.answers.specs.declared.Refusal.the-variants.{GuidLength, GuidNotHeld, DnsNameEmpty, DnsNameNotHeld, SidShape, SidNotHeld, SidOfAnother, TableWhole}
 use Rattle.answers.specs.Try.{Try, refused, good, refusedIf, _>>=_}
-use Rattle.filter.specs.Value.{Ping}
+use Rattle.filter_read.specs.Value.{Ping}
 use Rattle.octets.specs.Lists.{isSome, holds}
 use Rattle.octets.specs.Sid.{isSid}
-use Rattle.table.specs.Records.{Context}
+use Rattle.table.specs.Context.{Context}
 use Rattle.table.specs.Table.{Table}
 use Rattle.table_find.specs.Find.{contextByGuid, contextByDnsName, contextBySid, holdsSid, defaultContext}
 

@@ -6,6 +6,3 @@ pub mod NameRule
 pub mod Number
 pub mod Sid
 pub mod Text
-pub mod Utf16
-pub mod Utf8
-pub mod Utf8Step

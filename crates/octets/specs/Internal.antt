@@ -1,3 +1,2 @@
 pub mod Class
 pub mod LabelStep
-pub mod Utf8Step

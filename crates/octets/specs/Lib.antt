@@ -2,8 +2,6 @@ pub mod Lists
 pub mod Buffer
 pub mod Number
 pub mod Text
-pub mod Utf8
-pub mod Utf16
 pub mod Label
 pub mod NameRule
 pub mod Sid

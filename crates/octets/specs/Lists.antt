@@ -52,7 +52,7 @@ module _ {A : Type 0} where
   abbrev pub cut : List A → ℕ → ℕ → List A
   cut s at n = take n (drop at s)
 
-  -- n pieces of w elements each, one behind the other
+  -- n pieces of w elements each, one after the other
   unfoldable pub pieces : ℕ → ℕ → List A → List (List A)
   pieces zero w s = []
   pieces (suc n) w s = take w s ∷ pieces n w (drop w s)

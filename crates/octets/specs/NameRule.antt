@@ -1,4 +1,4 @@
--- Document 01, "The table image": what a name of each kind must be.
+-- Document 01, "The table image": what DNS, NetBIOS and site names must be.
 use mathlib.Core.Bool.{Bool, _&&_, not}
 use mathlib.Core.List.{List}
 use Prim.Native.Nat.{ℕ}
@@ -7,7 +7,6 @@ use lib.ListN.{length}
 use Rattle.octets.specs.Label.{parts}
 use Rattle.octets.specs.Lists.{all}
 use Rattle.octets.specs.Text.{within, isPrintable}
-use Rattle.octets.specs.Utf8.{isUtf8}
 
 abbrev pub sized : ℕ → ℕ → List ℕ → Bool
 sized low high s = within low high (length s)
@@ -30,6 +29,3 @@ isNetbiosName = isPlainName 15
 
 abbrev pub isSiteName : List ℕ → Bool
 isSiteName = isPlainName 63
-
-unfoldable pub isAccountName : List ℕ → Bool
-isAccountName s = sized 1 63 s && isUtf8 s && without 0 s

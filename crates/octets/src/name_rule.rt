@@ -1,16 +1,13 @@
-// What a name of each kind must be, and a SID.
+// What DNS, NetBIOS and site names must be, and a SID.
 ghost use mathlib.Core.Path.{_≡_};
-ghost use Prim.Native.Nat.{_≤_};
-ghost use lib.ListN.{length};
 ghost use Rattle.octets.specs.Lists.{all};
 ghost use Rattle.octets.specs.Label.{parts};
 ghost use Rattle.octets.specs.Internal.LabelStep.{labelStep, InLabel};
-ghost use Rattle.octets.specs.NameRule.{sized, isDnsName, isPlainName, isNetbiosName, isSiteName, isAccountName};
+ghost use Rattle.octets.specs.NameRule.{sized, isDnsName, isPlainName, isNetbiosName, isSiteName};
 ghost use Rattle.octets.specs.Sid.{isSid};
 use crate::number::wide;
 use crate::text::is_printable;
 use crate::text::lacks;
-use crate::utf8::is_utf8;
 
 fn is_sized(s: &[u8], low: usize, high: usize) -> bool
     ensures { λ r. ⌜ r ≡ sized low high (now (s .entry)) ⌝ }
@@ -93,18 +90,6 @@ pub fn is_site_name(s: &[u8]) -> bool
     ensures { λ r. ⌜ r ≡ isSiteName (now (s .entry)) ⌝ }
 {
     is_plain_name(s, 63)
-}
-
-pub fn is_account_name(s: &[u8]) -> bool
-    ensures { λ r. ⌜ r ≡ isAccountName (now (s .entry)) ⌝ }
-{
-    if !is_sized(s, 1, 63) {
-        return false;
-    }
-    if !is_utf8(s) {
-        return false;
-    }
-    lacks(s, 0)
 }
 
 pub fn is_sid(s: &[u8]) -> bool

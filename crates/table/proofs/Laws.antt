@@ -1,7 +1,4 @@
 pub mod Address
-pub mod Check
 pub mod Field
-pub mod Layout
-pub mod RecordKind
-pub mod Rule
+pub mod Format
 pub mod Table

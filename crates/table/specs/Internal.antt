@@ -1,2 +1,2 @@
-pub mod Rule
-pub mod RecordKind
+pub mod Reference
+pub mod RecordAt

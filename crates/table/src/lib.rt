@@ -1,11 +1,15 @@
-// The table image: document 01, "The table image".
+// The table image: document 01, "The table image". What stands where, and how it is read.
+pub mod account;
 pub mod address;
 pub mod block;
-pub mod check;
+pub mod context;
 pub mod field;
-pub mod layout;
+pub mod forest;
 pub mod record;
 pub mod same_name;
+pub mod server;
+pub mod site;
+pub mod subnet;
 
 // Naming-context numbers, site numbers and block places are three countings, and none is used for another.
 pub struct ContextNumber(pub u16);

@@ -8,9 +8,13 @@ use Rattle.octets.specs.Text.{same}
 use Rattle.table.specs.declared.Caller.{Caller}
 use Rattle.table.specs.declared.ContextNumber.{ContextNumber}
 use Rattle.table.specs.declared.SiteNumber.{SiteNumber}
-use Rattle.table.specs.Address.{sharePrefix}
-use Rattle.table.specs.Records.{Context, Account, Site, Subnet, sameContext, sameSite}
+use Rattle.table.specs.Account.{Account}
+use Rattle.table.specs.Address.{addressNumber, sharePrefix}
+use Rattle.table.specs.Context.{Context}
+use Rattle.table.specs.Countings.{sameContext, sameSite}
 use Rattle.table.specs.SameName.{sameDnsName, sameAccountName}
+use Rattle.table.specs.Site.{Site}
+use Rattle.table.specs.Subnet.{Subnet}
 use Rattle.table.specs.Table.{Table}
 
 -- the contexts that a ping's clauses are held against
@@ -47,9 +51,13 @@ accountByName t n name = first (λ a. sameContext (a .context) n && sameAccountN
 unfoldable pub siteByNumber : Table → SiteNumber → Option Site
 siteByNumber t n = first (λ s. sameSite (s .number) n) (t .sites)
 
+-- a subnet holds the address that has this number
+unfoldable pub inSubnet : ℕ → Subnet → Bool
+inSubnet address n = sharePrefix (n .prefix) address (addressNumber (n .address))
+
 -- the subnet that decides: the first in table order that holds the caller's address
 unfoldable pub subnetFor : Table → Caller → Option Subnet
-subnetFor t caller = first (λ n. sharePrefix (n .prefix) (caller .address) (n .address)) (t .subnets)
+subnetFor t caller = first (inSubnet (addressNumber (caller .address))) (t .subnets)
 
 -- the site of a number that may be none
 abbrev pub siteIfAny : Table → Option SiteNumber → Option Site

@@ -1,5 +1,3 @@
 pub mod Judgement
-pub mod Alike
-pub mod Half
 pub mod Mark
-pub mod Place
+pub mod Half

@@ -1,6 +1,3 @@
-pub mod Alike
-pub mod BlockRule
-pub mod Half
 pub mod Mark
-pub mod Place
 pub mod Refer
+pub mod Half

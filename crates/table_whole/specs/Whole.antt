@@ -9,15 +9,12 @@ use Rattle.octets.specs.Lists.{all, any, unique, holds}
 use Rattle.octets.specs.Text.{same, within}
 use Rattle.table.specs.declared.ContextNumber.{ContextNumber}
 use Rattle.table.specs.declared.SiteNumber.{SiteNumber}
-use Rattle.table.specs.Records.{Context, Account, Site, sameContext, sameSite}
-use Rattle.table.specs.SameName.{sameDnsName, sameAccountName}
+use Rattle.table.specs.Account.{Account}
+use Rattle.table.specs.Context.{Context}
+use Rattle.table.specs.Countings.{sameContext, sameSite}
+use Rattle.table.specs.Site.{Site}
+use Rattle.table.specs.SameName.{sameSid, sameDnsName, sameAccountName}
 use Rattle.table.specs.Table.{Table}
-
--- a context without SID has the SID of no other
-abbrev pub sameSid : Option (List ℕ) → Option (List ℕ) → Bool
-sameSid none t = false
-sameSid (some s) none = false
-sameSid (some s) (some t) = same s t
 
 -- context numbers, GUIDs, SIDs and DNS names are unique
 unfoldable pub contextsUnique : List Context → Bool

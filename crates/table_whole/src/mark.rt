@@ -1,46 +1,49 @@
-// Numbers that must be unique or must exist: each is marked once, and then looked up.
+// Site numbers, each marked once and then looked up: eight marks in an octet, for each of the 65,536 numbers.
 ghost use mathlib.Core.Path.{_≡_};
-ghost use mathlib.Core.Bool.{Bool, true, false};
+ghost use mathlib.Core.Bool.{true};
 ghost use mathlib.Core.List.{[]};
-ghost use Prim.Native.Nat.{_≤_};
-ghost use lib.ListN.{length, getD};
+ghost use lib.ListN.{length};
 ghost use Rattle.octets.specs.Lists.{unique};
-ghost use Rattle.table_whole.specs.Internal.Mark.{sameNumber, Marked};
-use octets::part::part;
-use table::ContextNumber;
+ghost use Rattle.table_whole.specs.Internal.Mark.{isMarked, withMark, Marked, sameSiteAt};
 use table::SiteNumber;
-use table::record::number_in;
+use table::record::RecordKind;
+use table::record::record_at;
+use table::site;
 
-// Marks the number that each record starts with, from the last record on: a number is held against those behind it.
-pub fn mark_numbers(image: &[u8], places: &[usize], w: usize, marks: &mut [bool]) -> bool
-    requires { ⌜ (length (now marks) ≡ 65536) × Marked (now marks) (now image) w [] ⌝ }
-    ensures { λ r. ⌜ r ≡ unique (sameNumber (now (image .entry)) w) (now (places .entry)) ⌝ }
-    ensures { λ r. ⌜ (r ≡ true → Marked (now (marks .exit)) (now (image .entry)) w (now (places .entry))) ⌝ }
+pub const MARKS_SIZE: usize = 8192;
+
+pub fn is_marked(marks: &[u8], number: SiteNumber) -> bool
+    requires { ⌜ length (now marks) ≡ 8192 ⌝ }
+    ensures { λ r. ⌜ r ≡ isMarked (now (marks .entry)) number ⌝ }
 {
-    let mut left = places.len();
+    let n = number.0;
+    let at = (n / 8) as usize;
+    (marks[at] >> (n % 8)) % 2 == 1
+}
+
+fn mark(marks: &mut [u8], number: SiteNumber)
+    requires { ⌜ length (now marks) ≡ 8192 ⌝ }
+    ensures { λ _. ⌜ now (marks .exit) ≡ withMark (now (marks .entry)) number ⌝ }
+{
+    let n = number.0;
+    let at = (n / 8) as usize;
+    marks[at] = marks[at] | (1 << (n % 8));
+}
+
+// Marks the number of each site, from the last one on: a number is held against those after it.
+pub fn mark_sites(image: &[u8], sites: &[u16], marks: &mut [u8]) -> bool
+    requires { ⌜ (length (now marks) ≡ 8192) × Marked (now marks) (now image) [] ⌝ }
+    ensures { λ r. ⌜ r ≡ unique (sameSiteAt (now (image .entry))) (now (sites .entry)) ⌝ }
+    ensures { λ r. ⌜ (r ≡ true → Marked (now (marks .exit)) (now (image .entry)) (now (sites .entry))) ⌝ }
+{
+    let mut left = sites.len();
     while 0 < left {
         left -= 1;
-        let n = number_in(part(image, places[left], w), 0) as usize;
-        if marks[n] {
+        let number = site::number(record_at(image, RecordKind::Site, sites[left]));
+        if is_marked(marks, number) {
             return false;
         }
-        marks[n] = true;
+        mark(marks, number);
     }
     true
-}
-
-pub fn has_site(marks: &[bool], n: SiteNumber) -> bool
-    requires { ⌜ length (now marks) ≡ 65536 ⌝ }
-    ensures { λ r. ⌜ r ≡ getD (now (marks .entry)) (n .0) false ⌝ }
-{
-    let k = n.0 as usize;
-    marks[k]
-}
-
-pub fn has_context(marks: &[bool], n: ContextNumber) -> bool
-    requires { ⌜ length (now marks) ≡ 65536 ⌝ }
-    ensures { λ r. ⌜ r ≡ getD (now (marks .entry)) (n .0) false ⌝ }
-{
-    let k = n.0 as usize;
-    marks[k]
 }

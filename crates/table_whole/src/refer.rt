@@ -1,80 +1,111 @@
-// Every number that a record refers to exists: looked up among the marks.
+// Every number that a record refers to exists.
 ghost use mathlib.Core.Path.{_≡_};
-ghost use mathlib.Core.Bool.{Bool};
 ghost use lib.ListN.{length};
 ghost use Rattle.octets.specs.Lists.{all};
-ghost use Rattle.table_whole.specs.Internal.Refer.{markedOrNone, nextMarked, refersBy, refersAt};
-use crate::mark::has_context;
-use crate::mark::has_site;
-use octets::part::part;
+ghost use Rattle.table.specs.Internal.Reference.{referred};
+ghost use Rattle.table_whole.specs.Internal.Refer.{hasNumber, inContexts, isMarkedOrNone, isOtherOrNone, refersBy, refersAt, kindOf};
+use crate::mark::is_marked;
 use table::ContextNumber;
 use table::SiteNumber;
-use table::record::number_in;
+use table::account;
+use table::context;
+use table::record::RecordKind;
+use table::record::record_at;
+use table::site;
+use table::site::SiteReference;
+use table::subnet;
 
-// Which number of a record refers, and to what.
-pub enum Reference {
-    AccountContext,
-    NextSite,
-    SubnetSite,
-}
-
-// Whether a site exists, where 0 means none.
-fn has_site_or_none(marks: &[bool], n: SiteNumber) -> bool
-    requires { ⌜ length (now marks) ≡ 65536 ⌝ }
-    ensures { λ r. ⌜ r ≡ markedOrNone (now (marks .entry)) (n .0) ⌝ }
+// Whether one of the contexts has a number. There are at most 16, so none is marked.
+pub fn has_context(image: &[u8], contexts: &[u16], number: ContextNumber) -> bool
+    ensures { λ r. ⌜ r ≡ hasNumber (now (image .entry)) (now (contexts .entry)) number ⌝ }
 {
-    let k = n.0;
-    if k == 0 {
-        return true;
+    let mut i = 0;
+    while i < contexts.len() {
+        let own = context::number(record_at(image, RecordKind::Context, contexts[i]));
+        if own.0 == number.0 {
+            return true;
+        }
+        i += 1;
     }
-    has_site(marks, n)
+    false
 }
 
-// Whether a site's next closest one exists and is another.
-fn has_next(marks: &[bool], own: SiteNumber, next: SiteNumber) -> bool
-    requires { ⌜ length (now marks) ≡ 65536 ⌝ }
-    ensures { λ r. ⌜ r ≡ nextMarked (now (marks .entry)) (own .0) (next .0) ⌝ }
+// Whether each account's context is one of these.
+pub fn are_in_contexts(image: &[u8], accounts: &[u16], contexts: &[u16]) -> bool
+    ensures { λ r. ⌜ r ≡ all (inContexts (now (image .entry)) (now (contexts .entry))) (now (accounts .entry)) ⌝ }
 {
-    let to = next.0;
-    if to == 0 {
-        return true;
+    let mut i = 0;
+    while i < accounts.len() {
+        let number = account::context(record_at(image, RecordKind::Account, accounts[i]));
+        if !has_context(image, contexts, number) {
+            return false;
+        }
+        i += 1;
     }
-    let from = own.0;
-    if from == to {
-        return false;
-    }
-    has_site(marks, next)
+    true
 }
 
-fn refers(marks: &[bool], piece: &[u8], reference: Reference) -> bool
-    requires { ⌜ length (now marks) ≡ 65536 ⌝ }
-    ensures { λ r. ⌜ r ≡ refersBy reference (now (marks .entry)) (now (piece .entry)) ⌝ }
+// Whether a site that is referred to exists, where one is.
+fn is_marked_or_none(marks: &[u8], reference: SiteReference) -> bool
+    requires { ⌜ length (now marks) ≡ 8192 ⌝ }
+    ensures { λ r. ⌜ r ≡ isMarkedOrNone (now (marks .entry)) (referred reference) ⌝ }
 {
     match reference {
-        Reference::AccountContext => has_context(marks, ContextNumber(number_in(piece, 0))),
-        Reference::NextSite => has_next(
-            marks,
-            SiteNumber(number_in(piece, 0)),
-            SiteNumber(number_in(piece, 66)),
-        ),
-        Reference::SubnetSite => has_site_or_none(marks, SiteNumber(number_in(piece, 6))),
+        SiteReference::To(number) => is_marked(marks, number),
+        SiteReference::Nothing => true,
+    }
+}
+
+// Whether it is another one.
+fn is_other_or_none(own: SiteNumber, reference: SiteReference) -> bool
+    ensures { λ r. ⌜ r ≡ isOtherOrNone own (referred reference) ⌝ }
+{
+    match reference {
+        SiteReference::To(number) => own.0 != number.0,
+        SiteReference::Nothing => true,
+    }
+}
+
+// What refers to a site: a site to its next closest one, a subnet to its own.
+pub enum Referrer {
+    Site,
+    Subnet,
+}
+
+fn kind_of(referrer: Referrer) -> RecordKind
+    ensures { λ r. ⌜ r ≡ kindOf referrer ⌝ }
+{
+    match referrer {
+        Referrer::Site => RecordKind::Site,
+        Referrer::Subnet => RecordKind::Subnet,
+    }
+}
+
+fn refers(marks: &[u8], octets: &[u8], referrer: Referrer) -> bool
+    requires { ⌜ length (now marks) ≡ 8192 ⌝ }
+    ensures { λ r. ⌜ r ≡ refersBy referrer (now (marks .entry)) (now (octets .entry)) ⌝ }
+{
+    match referrer {
+        Referrer::Site => {
+            let next = site::next(octets);
+            is_marked_or_none(marks, next) & is_other_or_none(site::number(octets), next)
+        }
+        Referrer::Subnet => is_marked_or_none(marks, subnet::site(octets)),
     }
 }
 
 // Whether each record refers rightly.
-pub fn all_refer(
-    image: &[u8],
-    places: &[usize],
-    w: usize,
-    reference: Reference,
-    marks: &[bool],
-) -> bool
-    requires { ⌜ length (now marks) ≡ 65536 ⌝ }
-    ensures { λ r. ⌜ r ≡ all (refersAt reference (now (marks .entry)) (now (image .entry)) w) (now (places .entry)) ⌝ }
+pub fn all_refer(image: &[u8], offsets: &[u16], referrer: Referrer, marks: &[u8]) -> bool
+    requires { ⌜ length (now marks) ≡ 8192 ⌝ }
+    ensures { λ r. ⌜ r ≡ all (refersAt referrer (now (marks .entry)) (now (image .entry))) (now (offsets .entry)) ⌝ }
 {
     let mut i = 0;
-    while i < places.len() {
-        if !refers(marks, part(image, places[i], w), reference) {
+    while i < offsets.len() {
+        if !refers(
+            marks,
+            record_at(image, kind_of(referrer), offsets[i]),
+            referrer,
+        ) {
             return false;
         }
         i += 1;

@@ -1,4 +1,4 @@
--- Demand 3 is proved: each name was written behind the names before it, and what is appended changes no walk.
+-- Demand 3 is proved: each name was written after the names before it, and what is appended changes no walk.
 use mathlib.Core.Path.{_≡_, refl, sym, subst}
 use mathlib.Core.List.{List}
 use mathlib.Core.Option.{Option, none, some}
@@ -8,22 +8,25 @@ use lib.ListN.{length}
 use Rattle.answers.specs.declared.Form.{Form}
 use Rattle.answers.specs.declared.Form.the-variants.{Nt40, Response, Ex}
 use Rattle.names.proofs.Laws.Name.{Spot, row-lengths}
-use Rattle.names.proofs.Laws.Walk.{walk-finds}
+use Rattle.names.proofs.Laws.Walk.{finds}
 use Rattle.octets.specs.Label.{labels}
 use Rattle.octets.proofs.Laws.Label.{joined-labels}
-use Rattle.reader.specs.Reader.{Named}
+use Rattle.reader.specs.Reader.{NameRead}
 use Rattle.reader.proofs.Laws.Reader.{read-nt40, given-at, given-length, lastGiven}
 use Rattle.reply.specs.Reply.{Reply, nt40Octets, responseNames, responseOctets, exNames, exOctets, octetsIn}
-use Rattle.demands.proofs.Laws.Made.Forms.{nt40-opened, response-row, response-spot, response-read, ex-row, ex-spot, ex-read, LastSpot, last-there}
-use Rattle.demands.specs.Made.{said}
-use Rattle.demands.proofs.Laws.Made.{made, said-octets, said-sound, Sound}
-use Rattle.demands.specs.Demand3.{Walked, LastWalked, lastStart, noName, NamesWalked, Demand3}
+use Rattle.demands.specs.Demand3.{NameWalked, LastWalked, lastStart, noName, NamesWalked, ReplyWalked, Demand3Over, Demand3}
+use Rattle.demands.specs.Derivation.{said}
+use Rattle.demands.proofs.Laws.Derivation.{derived, every-answer}
+use Rattle.demands.proofs.Laws.Forms.Ex.{ex-row, ex-spot, ex-read, LastSpot, last-there}
+use Rattle.demands.proofs.Laws.Forms.Nt40.{nt40-opened}
+use Rattle.demands.proofs.Laws.Forms.Response.{response-row, response-spot, response-read}
+use Rattle.demands.proofs.Laws.Sound.{said-octets, said-sound, Sound}
 
-walked : {s : List ℕ} {at count : ℕ} {text : List ℕ} (k : ℕ) (given : Named) → Spot s at (0 + k) text count → given .pointers ≡ count → Walked s at k text given
+walked : {s : List ℕ} {at count : ℕ} {text : List ℕ} (k : ℕ) (given : NameRead) → Spot s at (0 + k) text count → given .pointers ≡ count → NameWalked s at k text given
 walked {count = count} {text = text} k given spot e =
     record {
       name = record { labels = labels text; pointers = count };
-      found = walk-finds (spot .walks);
+      found = finds (spot .walks);
       reads = refl;
       joins = joined-labels text;
       few = omega (arith, spot .byPlace, spot .byLabels);
@@ -81,8 +84,11 @@ names-walked Nt40 v r k = nt40-walked v r k
 names-walked Response v r k = response-walked v r k
 names-walked Ex v r k = ex-walked v r k
 
+pub demand-3-over : Demand3Over
+demand-3-over t caller p room a passed user e =
+    let d = derived t caller p room a e in
+    let v : ℕ = p .version in
+    (d, subst (NamesWalked (a .form) v (said d)) (sym (said-octets d)) (names-walked (a .form) v (said d) (said-sound d passed user)))
+
 pub demand-3 : Demand3
-demand-3 image caller filter room a e =
-    let m = made image caller filter room a e in
-    let v : ℕ = m .ping .version in
-    (m, subst (NamesWalked (a .form) v (said m)) (sym (said-octets m)) (names-walked (a .form) v (said m) (said-sound m)))
+demand-3 = every-answer ReplyWalked demand-3-over

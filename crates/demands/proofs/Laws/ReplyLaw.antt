@@ -2,7 +2,7 @@
 use mathlib.Core.Path.{_≡_, refl, sym, ap, _∙_, subst}
 use mathlib.Core.Bool.{Bool, true, false}
 use mathlib.Core.List.{List}
-use mathlib.Core.Option.{Option, none, some}
+use mathlib.Core.Option.{Option, none, some, Option·map}
 use Prim.Native.Nat.{ℕ}
 use lib.ListN.{length}
 use Rattle.answers.specs.declared.Form.{Form}
@@ -11,10 +11,13 @@ use Rattle.names.proofs.Laws.Name.{row-lengths}
 use Rattle.reader.specs.Reader.{readIn, readLength}
 use Rattle.reader.proofs.Laws.Reader.{read-nt40, texts-given, addressGiven, lastGiven}
 use Rattle.reply.specs.Reply.{Reply, nt40Octets, responseNames, responseOctets, exNames, exOctets, octetsIn}
-use Rattle.demands.proofs.Laws.Made.Forms.{nt40-opened, response-opened, response-row, response-read, ex-row, ex-read, last-there}
-use Rattle.demands.specs.Made.{said}
-use Rattle.demands.proofs.Laws.Made.{made, said-octets, said-sound, Sound}
-use Rattle.demands.specs.ReplyLaw.{GivenBack, ReplyLaw, addressWritten, textIfAny, exVersion}
+use Rattle.demands.specs.Derivation.{said}
+use Rattle.demands.specs.ReplyLaw.{GivenBack, ReadBack, ReplyLawOver, ReplyLaw, addressWritten, textOf, versionWritten}
+use Rattle.demands.proofs.Laws.Derivation.{derived, every-answer}
+use Rattle.demands.proofs.Laws.Forms.Ex.{ex-row, ex-read, last-there}
+use Rattle.demands.proofs.Laws.Forms.Nt40.{nt40-opened}
+use Rattle.demands.proofs.Laws.Forms.Response.{response-opened, response-row, response-read}
+use Rattle.demands.proofs.Laws.Sound.{said-octets, said-sound, Sound}
 
 nt40-back : (v : ℕ) (r : Reply) → Sound Nt40 v r → GivenBack Nt40 v r (nt40Octets r)
 nt40-back v r k =
@@ -48,11 +51,11 @@ address-back : (r : Reply) (b : Bool) → addressGiven b (r .ipv4) ≡ addressWr
 address-back r true = refl
 address-back r false = refl
 
-last-back : (site : Option (List ℕ)) (count : ℕ) → textIfAny (lastGiven site count .nextSite) ≡ site
+last-back : (site : Option (List ℕ)) (count : ℕ) → Option·map textOf (lastGiven site count .nextSite) ≡ site
 last-back none count = refl
 last-back (some text) count = refl
 
-version-back : (site : Option (List ℕ)) (count : ℕ) → lastGiven site count .version ≡ exVersion site
+version-back : (site : Option (List ℕ)) (count : ℕ) → lastGiven site count .version ≡ versionWritten site
 version-back none count = refl
 version-back (some text) count = refl
 
@@ -84,9 +87,12 @@ read-whole Nt40 v r s g = rw (g .1)
 read-whole Response v r s g = rw (g .1)
 read-whole Ex v r s g = rw (g .1)
 
+pub reply-law-over : ReplyLawOver
+reply-law-over t caller p room a passed user e =
+    let d = derived t caller p room a e in
+    let v : ℕ = p .version in
+    let g : GivenBack (a .form) v (said d) (a .octets) = subst (GivenBack (a .form) v (said d)) (sym (said-octets d)) (given-back (a .form) v (said d) (said-sound d passed user)) in
+    (d, g, read-whole (a .form) v (said d) (a .octets) g)
+
 pub reply-law : ReplyLaw
-reply-law image caller filter room a e =
-    let m = made image caller filter room a e in
-    let v : ℕ = m .ping .version in
-    let g : GivenBack (a .form) v (said m) (a .octets) = subst (GivenBack (a .form) v (said m)) (sym (said-octets m)) (given-back (a .form) v (said m) (said-sound m)) in
-    (m, g, read-whole (a .form) v (said m) (a .octets) g)
+reply-law = every-answer ReadBack reply-law-over

@@ -4,32 +4,33 @@ pub mod Clauses
 use mathlib.Core.Path.{_≡_, refl, sym, ap, subst, _∙_}
 use mathlib.Core.Bool.{Bool, true, false, not, _||_}
 use mathlib.Core.List.{List, [], _∷_, _++_, flatMap, append-nil}
-use mathlib.Core.Option.{Option, some}
+use mathlib.Core.Option.{Option, some, bind}
 use Prim.Native.Nat.{ℕ, _+_, _-_, _≤_, _<_}
 use native.Mathlib.Omega.{arith}
 use borrow.Author.Tests.{le-ltb, ltb-false, eq-eqb}
-use lib.Dec.{eqb, ltb}
+use lib.Dec.{ltb}
 use lib.ListN.{length, take, length-append}
 use Rattle.answers.specs.declared.Refusal.the-variants.{FilterShape, FilterLength, NoRoom}
 use Rattle.answers.specs.Try.{Try, refused, good, refusedIf}
 use Rattle.octets.specs.Buffer.{over}
 use Rattle.octets.proofs.Laws.Buffer.{over-front}
 use Rattle.octets.specs.Lists.{any, first, unique, cut}
-use Rattle.filter.specs.declared.Clause.{Clause}
-use Rattle.filter.specs.declared.Clause.the-variants.{Absent, Present}
-use Rattle.filter.specs.declared.ClauseName.{ClauseName}
-use Rattle.filter.specs.declared.Request.{Request}
-use Rattle.filter.specs.declared.Taken.the-variants as taken
-use Rattle.filter_write.specs.declared.Written.the-variants as written
-use Rattle.filter.specs.Internal.Gather.{place}
-use Rattle.filter.proofs.Laws.Gather.{clause-by, names-any}
+use Rattle.octets.specs.Text.{same, lower}
+use Rattle.filter.specs.declared.request.Clause.{Clause}
+use Rattle.filter.specs.declared.request.Clause.the-variants.{Absent, Present}
+use Rattle.filter.specs.declared.request.ClauseName.{ClauseName}
+use Rattle.filter.specs.declared.request.Request.{Request}
+use Rattle.filter_read.specs.declared.read.Taken.the-variants as taken
+use Rattle.filter_write.specs.declared.write.Written.the-variants as written
+use Rattle.filter.specs.Internal.ClauseNames.{isSameName}
+use Rattle.filter.proofs.Laws.ClauseNames.{clause-by, names-any, same-self}
 use Rattle.filter.specs.Request.{names, clause, isPresent, octetsOf}
-use Rattle.filter.specs.Shape.{one, andOf, clausesOf}
-use Rattle.filter.specs.Taken.{isNamed, asClause, requestOf, requestIn, takenAs}
+use Rattle.filter.specs.Filter.{andTag, filterLimit, one, andOf, clausesOf}
+use Rattle.filter_read.specs.Taken.{isNamed, asClause, requestOf, requestIn, takenAs}
 use Rattle.filter_write.specs.Write.{element, equalityFor, filterOctets, filterFor, writtenAs, writtenOctets}
 use Rattle.filter_write.specs.RoundTrip.{SameClauses, RoundTrip, CallsRoundTrip}
 use Rattle.filter_write.proofs.Laws.RoundTrip.Elements.{element-back, contents-back}
-use Rattle.filter_write.proofs.Laws.RoundTrip.Clauses.{Found-again, siblings-back, distinct, not-strange, not-twice, octets-back, some-length}
+use Rattle.filter_write.proofs.Laws.RoundTrip.Clauses.{AllAgain, siblings-back, distinct, none-unknown, none-duplicate, octets-back, some-length}
 use Rattle.filter_write.specs.Internal.Size.{headSize, elementSize, contents}
 use Rattle.filter_write.proofs.Laws.Size.{head-bounds, element-length}
 
@@ -51,57 +52,57 @@ module _ (source : List ℕ) (r : Request) where
           let b = some-length source value n (cut source start len) in
           omega arith
 
-  module _ (some-clause : any (λ name. isPresent (clause r name)) names ≡ true) (short : length (filterOctets source r) ≤ 2048) where
+  module _ (some-clause : any (λ name. isPresent (clause r name)) names ≡ true) (short : length (filterOctets source r) ≤ filterLimit) where
     abbrev s : List ℕ
     s = filterOctets source r
 
     abbrev inside : List ℕ
     inside = contents source r names
 
-    whole : s ≡ element 0xA0 inside
+    whole : s ≡ element andTag inside
     unfolding filterOctets
     whole = refl
 
     size : length s ≡ elementSize (length inside)
-    size = ap length whole ∙ element-length 0xA0 inside
+    size = ap length whole ∙ element-length andTag inside
 
     start : ℕ
     start = 0 + headSize (length inside)
 
-    again : Found-again s value 3 (start + length inside - start) start (start + length inside) names
+    again : AllAgain s value 3 (start + length inside - start) start (start + length inside) names
     unfolding start
     again =
         let z = size in
         let b = head-bounds (length inside) in
         siblings-back s value 3 names (start + length inside - start) start (start + length inside)
-        (contents-back s 0 (length s) 0xA0 inside [] (whole ∙ sym (append-nil (element 0xA0 inside))) ∙ append-nil inside)
+        (contents-back s 0 (length s) andTag inside [] (whole ∙ sym (append-nil (element andTag inside))) ∙ append-nil inside)
         refl
         (omega arith)
         (present-length names some-clause)
         (omega arith)
 
     read : clausesOf s ≡ some (again .clauses)
-    unfolding clausesOf one andOf start
+    unfolding clausesOf one andOf start bind
     read =
         let z = size in
         let b = head-bounds (length inside) in
-        let e = element-back s 0 (length s) 0xA0 inside [] (whole ∙ sym (append-nil (element 0xA0 inside))) (omega arith) (omega arith) in
+        let e = element-back s 0 (length s) andTag inside [] (whole ∙ sym (append-nil (element andTag inside))) (omega arith) (omega arith) in
         let f : start + length inside ≡ length s = omega arith in
         rw (clausesOf, e, eq-eqb (start + length inside) (length s) f) (again .reads)
 
     unique-names : distinct s value names ≡ true
-    unfolding unique any
+    unfolding unique any same lower
     unique-names = refl
 
     taken-apart : requestIn s ≡ good (requestOf s (again .clauses))
     unfolding requestIn
-    taken-apart = rw (requestIn, le-ltb 2048 (length s) short, read, not-strange s value (again .tells), not-twice s value (again .tells) unique-names)
+    taken-apart = rw (requestIn, le-ltb filterLimit (length s) short, read, none-unknown s value (again .tells), none-duplicate s value (again .tells) unique-names)
 
     same-clauses : SameClauses s (requestOf s (again .clauses)) source r
     unfolding requestOf
     same-clauses name =
         ap (octetsOf s) (clause-by (λ n. asClause (first (isNamed s n) (again .clauses))) name)
-        ∙ octets-back s value name (again .tells) unique-names (names-any (λ n. eqb (place n) (place name)) name (eq-eqb (place name) (place name) refl))
+        ∙ octets-back s value name (again .tells) unique-names (names-any (λ n. isSameName n name) name (same-self name))
 
 -- an answer that refuses nothing: a clause is present, and the octets are those written, 2,048 at most
 answered : (a b c : Bool) (o octets : List ℕ) → refusedIf (not a) FilterShape (refusedIf b FilterLength (refusedIf c NoRoom (good o))) ≡ good octets → (a ≡ true) × (b ≡ false) × (o ≡ octets)
@@ -113,8 +114,8 @@ answered true false false o octets e = (refl, refl, cc)
 pub round-trip : RoundTrip
 unfolding filterFor
 round-trip source r room octets e =
-    let a = answered (any (λ name. isPresent (clause r name)) names) (ltb 2048 (length (filterOctets source r))) (ltb room (length (filterOctets source r))) (filterOctets source r) octets e in
-    let h : length (filterOctets source r) ≤ 2048 = ltb-false 2048 (length (filterOctets source r)) (a .1) in
+    let a = answered (any (λ name. isPresent (clause r name)) names) (ltb filterLimit (length (filterOctets source r))) (ltb room (length (filterOctets source r))) (filterOctets source r) octets e in
+    let h : length (filterOctets source r) ≤ filterLimit = ltb-false filterLimit (length (filterOctets source r)) (a .1) in
     subst (λ (s : List ℕ). (q : Request) × (requestIn s ≡ good q) × SameClauses s q source r) (a .2)
     (requestOf (filterOctets source r) (again source r (a .0) h .clauses), taken-apart source r (a .0) h, same-clauses source r (a .0) h)
 

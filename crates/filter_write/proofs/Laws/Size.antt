@@ -8,14 +8,16 @@ use native.Mathlib.Decide.{decLt}
 use native.Mathlib.Numerals.{add-one}
 use native.Mathlib.Omega.{arith}
 use borrow.Author.Tests.{lt-ltb, le-ltb}
-use lib.ListN.{length, length-append, drop, drop-of-length-le, getD}
+use lib.ListN.{length, length-append, drop, drop-of-length-le}
 use lib.Seq.{drop-cons}
 use Rattle.answers.specs.declared.Refusal.the-variants.{FilterShape, FilterLength, NoRoom}
 use Rattle.answers.specs.Try.{refused, good}
 use Rattle.octets.specs.Lists.{any}
-use Rattle.filter.specs.declared.ClauseName.{ClauseName}
-use Rattle.filter.specs.declared.ClauseName.the-variants.{NtVer}
-use Rattle.filter.specs.declared.Request.{Request}
+use Rattle.filter.specs.declared.request.ClauseName.{ClauseName}
+use Rattle.filter.specs.declared.request.ClauseName.the-variants.{NtVer}
+use Rattle.filter.specs.Internal.ClauseNames.{clauseNameAt}
+use Rattle.filter.specs.declared.request.Request.{Request}
+use Rattle.filter.specs.Filter.{andTag, equalityTag, stringTag, filterLimit}
 use Rattle.filter.specs.Request.{names, spelling, clause, isPresent, octetsOf}
 use Rattle.filter_write.specs.Write.{lengthOctets, element, equalityFor, filterOctets, filterFor}
 use Rattle.filter_write.proofs.Laws.Write.{octets-one, octets-two, octets-three}
@@ -64,39 +66,40 @@ element-length tag xs = length-append (tag ∷ lengthOctets (length xs)) xs ∙ 
 
 pub equality-length : (name : ClauseName) (value : List ℕ) → length (equalityFor name (some value)) ≡ elementSize (elementSize (length (spelling name)) + elementSize (length value))
 equality-length name value =
-    element-length 0xA3 (element 0x04 (spelling name) ++ element 0x04 value)
-    ∙ ap elementSize (length-append (element 0x04 (spelling name)) (element 0x04 value) ∙ λ i. element-length 0x04 (spelling name) i + element-length 0x04 value i)
+    element-length equalityTag (element stringTag (spelling name) ++ element stringTag value)
+    ∙ ap elementSize (length-append (element stringTag (spelling name)) (element stringTag value) ∙ λ i. element-length stringTag (spelling name) i + element-length stringTag value i)
 
 -- contents by their first name
 module _ (source : List ℕ) (r : Request) where
-  pub contents-next : (i : ℕ) → i < 8 → contents source r (drop i names) ≡ equalityFor (getD names i NtVer) (octetsOf source (clause r (getD names i NtVer))) ++ contents source r (drop (i + 1) names)
+  -- the equality of the i-th name
+  abbrev equalityAt : ℕ → List ℕ
+  equalityAt i = equalityFor (clauseNameAt i) (octetsOf source (clause r (clauseNameAt i)))
+
+  pub contents-next : (i : ℕ) → i < 8 → contents source r (drop i names) ≡ equalityAt i ++ contents source r (drop (i + 1) names)
   unfolding flatMap
   contents-next i h = rw (add-one) (ap (contents source r) (drop-cons names i NtVer h))
 
   pub contents-size-next : (i : ℕ) → i < 8
-      → length (contents source r (drop i names)) ≡ length (equalityFor (getD names i NtVer) (octetsOf source (clause r (getD names i NtVer)))) + length (contents source r (drop (i + 1) names))
+      → length (contents source r (drop i names)) ≡ length (equalityAt i) + length (contents source r (drop (i + 1) names))
   contents-size-next i h =
       ap length (contents-next i h)
-      ∙ length-append (equalityFor (getD names i NtVer) (octetsOf source (clause r (getD names i NtVer)))) (contents source r (drop (i + 1) names))
+      ∙ length-append (equalityAt i) (contents source r (drop (i + 1) names))
 
   pub contents-end : (i : ℕ) → 8 ≤ i → length (contents source r (drop i names)) ≡ 0
   unfolding flatMap
   contents-end i h = ap (λ (l : List ClauseName). length (contents source r l)) (drop-of-length-le names h)
 
-  -- contents written as far as the i-th name, and that name's equality behind them
-  abbrev part-of : ℕ → List ℕ
-  part-of i = equalityFor (getD names i NtVer) (octetsOf source (clause r (getD names i NtVer)))
-
+  -- contents written as far as the i-th name, and that name's equality after them
   module _ (w : List ℕ) (i : ℕ) (e : w ++ contents source r (drop i names) ≡ contents source r names) where
-    pub written-next : i < 8 → (w ++ equalityFor (getD names i NtVer) (octetsOf source (clause r (getD names i NtVer)))) ++ contents source r (drop (i + 1) names) ≡ contents source r names
-    written-next h = append-assoc w (part-of i) (contents source r (drop (i + 1) names)) ∙ ap (λ (l : List ℕ). w ++ l) (sym (contents-next i h)) ∙ e
+    pub written-next : i < 8 → (w ++ equalityAt i) ++ contents source r (drop (i + 1) names) ≡ contents source r names
+    written-next h = append-assoc w (equalityAt i) (contents source r (drop (i + 1) names)) ∙ ap (λ (l : List ℕ). w ++ l) (sym (contents-next i h)) ∙ e
 
     pub written-within : length w ≤ length (contents source r names)
     written-within =
         let l = sym (length-append w (contents source r (drop i names))) ∙ ap length e in
         omega arith
 
-    pub written-fits : i < 8 → length w + length (equalityFor (getD names i NtVer) (octetsOf source (clause r (getD names i NtVer)))) ≤ length (contents source r names)
+    pub written-fits : i < 8 → length w + length (equalityAt i) ≤ length (contents source r names)
     written-fits h =
         let l = sym (length-append w (contents source r (drop i names))) ∙ ap length e in
         let n = contents-size-next i h in
@@ -107,14 +110,14 @@ module _ (source : List ℕ) (r : Request) where
     written-all h = sym (append-nil w) ∙ ap (λ (l : List ClauseName). w ++ contents source r l) (sym (drop-of-length-le names h)) ∙ e
 
 -- a size that stops at 4,096 tells what is over 2,048 and what is not
-pub capped-long : (n m : ℕ) → m ≡ min n 4096 → 2048 < elementSize m → 2048 < elementSize n
+pub capped-long : (n m : ℕ) → m ≡ min n 4096 → filterLimit < elementSize m → filterLimit < elementSize n
 capped-long n m e h = by (decLt 4096 n)
   where
-    by : Dec (4096 < n) → 2048 < elementSize n
+    by : Dec (4096 < n) → filterLimit < elementSize n
     by (yes l) = let b = head-bounds n in omega arith
     by (no l) = let q : m ≡ n = omega arith in rw q at h
 
-pub capped-short : (n m : ℕ) → m ≡ min n 4096 → elementSize m ≤ 2048 → m ≡ n
+pub capped-short : (n m : ℕ) → m ≡ min n 4096 → elementSize m ≤ filterLimit → m ≡ n
 capped-short n m e h =
     let b = head-bounds m in
     omega arith
@@ -123,22 +126,22 @@ capped-short n m e h =
 module _ (source : List ℕ) (r : Request) (room : ℕ) where
   pub filter-length : length (filterOctets source r) ≡ elementSize (length (contents source r names))
   unfolding filterOctets
-  filter-length = element-length 0xA0 (contents source r names)
+  filter-length = element-length andTag (contents source r names)
 
   pub answer-none : any (λ name. isPresent (clause r name)) names ≡ false → filterFor source r room ≡ refused FilterShape
   unfolding filterFor
   answer-none e = rw (filterFor, e)
 
   module _ (e : any (λ name. isPresent (clause r name)) names ≡ true) where
-    pub answer-long : 2048 < elementSize (length (contents source r names)) → filterFor source r room ≡ refused FilterLength
+    pub answer-long : filterLimit < elementSize (length (contents source r names)) → filterFor source r room ≡ refused FilterLength
     unfolding filterFor
-    answer-long h = rw (filterFor, e, filter-length, lt-ltb 2048 _ h)
+    answer-long h = rw (filterFor, e, filter-length, lt-ltb filterLimit _ h)
 
-    module _ (h : elementSize (length (contents source r names)) ≤ 2048) where
+    module _ (h : elementSize (length (contents source r names)) ≤ filterLimit) where
       pub answer-room : room < elementSize (length (contents source r names)) → filterFor source r room ≡ refused NoRoom
       unfolding filterFor
-      answer-room k = rw (filterFor, e, filter-length, le-ltb 2048 _ h, lt-ltb room _ k)
+      answer-room k = rw (filterFor, e, filter-length, le-ltb filterLimit _ h, lt-ltb room _ k)
 
       pub answer-good : elementSize (length (contents source r names)) ≤ room → filterFor source r room ≡ good (filterOctets source r)
       unfolding filterFor
-      answer-good k = rw (filterFor, e, filter-length, le-ltb 2048 _ h, le-ltb room _ k)
+      answer-good k = rw (filterFor, e, filter-length, le-ltb filterLimit _ h, le-ltb room _ k)

@@ -1,17 +1,17 @@
--- The walk as a relation: sound and complete for the function, and blind to octets appended behind.
+-- The relation is sound and complete for the function, and blind to octets appended.
 use mathlib.Core.Path.{_≡_, refl, ap, _∙_, subst}
 use mathlib.Core.Bool.{Bool, true, false}
 use mathlib.Core.List.{List, [], _∷_, _++_}
-use mathlib.Core.Option.{Option, none, some}
+use mathlib.Core.Option.{Option, none, some, Option·map}
 use Prim.Native.Nat.{ℕ, zero, suc, _+_, _*_, _-_, _/_, _<_, _≤_}
 use native.Mathlib.Nat.{mul-le-mul-right, suc-mul}
 use native.Mathlib.Omega.{arith}
 use lib.Dec.{eqb, leb, ltb}
 use lib.ListN.{length, getD, length-append, List·getD-append}
 use borrow.Author.Tests.{eq-eqb, ne-eqb, lt-ltb, le-leb, ltb-true, eqb-true, eqb-false, leb-true}
-use Rattle.octets.specs.Lists.{cut}
 use Rattle.octets.proofs.Laws.Lists.{cut-longer, none-not-some, cond-has}
-use Rattle.names.specs.Walk.{Look, end, label, pointer, missing, reserved, ifThere, aim, lookAt, Name, withLabel, withPointer, onLook, walkFrom, steps, walk}
+use Rattle.names.specs.Walk.{Look, end, label, pointer, missing, reserved, ifThere, aim, lookAt, onLook, labelAt, WalkedName, withLabel, withPointer, walkFrom, steps, walk}
+use Rattle.names.specs.WalkRelation.{Walks, ends, reads, points, WalkFinds, WalkFound, WalkLonger}
 
 -- ---- what stands at an offset
 
@@ -73,20 +73,6 @@ look-pointer s at t f =
 
 -- ---- the relation
 
--- the octets of a label of n, behind its length
-abbrev taken : List ℕ → ℕ → ℕ → List ℕ
-taken s at n = cut s (at + 1) n
-
-taken-longer : (s t : List ℕ) (at n : ℕ) → at + 1 + n ≤ length s → taken (s ++ t) at n ≡ taken s at n
-taken-longer s t at n h = cut-longer s t (at + 1) n h
-
--- from `at`, in a run that starts at `run`: the labels read, the pointers followed, and where the name's field ends
-pub data Walks (s : List ℕ) : ℕ → ℕ → List (List ℕ) → ℕ → ℕ → Type 0 where
-  ends : {run at : ℕ} → lookAt s at ≡ end → Walks s run at [] 0 (at + 1)
-  reads : {run at n c next : ℕ} {l : List ℕ} {ls : List (List ℕ)} → lookAt s at ≡ label n → at + 1 + n ≤ length s → taken s at n ≡ l
-      → Walks s run (at + 1 + n) ls c next → Walks s run at (l ∷ ls) c next
-  points : {run at t c next : ℕ} {ls : List (List ℕ)} → lookAt s at ≡ pointer t → t < run → Walks s t t ls c next → Walks s run at ls (suc c) (at + 2)
-
 -- a walk starts within the octets
 pub walk-inside : {s : List ℕ} {run at c next : ℕ} {ls : List (List ℕ)} → Walks s run at ls c next → at < length s
 walk-inside {s} {at = at} (ends e) = seen s at end e .0
@@ -115,14 +101,19 @@ seen-longer s t at (pointer p) f =
 seen-longer s t at missing f = tt
 seen-longer s t at reserved f = tt
 
--- appending octets to a reply changes no walk in it
+label-longer : (s t : List ℕ) (at n : ℕ) → at + 1 + n ≤ length s → labelAt (s ++ t) at n ≡ labelAt s at n
+label-longer s t at n h = cut-longer s t (at + 1) n h
+
 pub longer : {s : List ℕ} {run at c next : ℕ} {ls : List (List ℕ)} (t : List ℕ) → Walks s run at ls c next → Walks (s ++ t) run at ls c next
 longer {s} {at = at} t (ends e) = ends (look-end (s ++ t) at (seen-longer s t at end (seen s at end e)))
 longer {s} {at = at} t (reads {n = n} e h l w) =
     let k : at + 1 + n ≤ length (s ++ t) = simp length-append (omega arith) in
-    reads (look-label (s ++ t) at n (seen-longer s t at (label n) (seen s at (label n) e))) k (taken-longer s t at n h ∙ l) (longer t w)
+    reads (look-label (s ++ t) at n (seen-longer s t at (label n) (seen s at (label n) e))) k (label-longer s t at n h ∙ l) (longer t w)
 longer {s} {at = at} t (points {t = p} e h w) =
     points (look-pointer (s ++ t) at p (seen-longer s t at (pointer p) (seen s at (pointer p) e))) h (longer t w)
+
+pub walk-longer : WalkLonger
+walk-longer s t run at c next ls w = longer t w
 
 -- ---- from the relation to the function
 
@@ -145,7 +136,7 @@ bound-steps s at h =
     let q : suc (length s) * suc (length s) ≡ length s * suc (length s) + suc (length s) = suc-mul (length s) (suc (length s)) in
     omega arith
 
-when-true : (b : Bool) (x : Option Name) → b ≡ true → elim b as (λ y. Option Name) [ true ↦ x | false ↦ none ] ≡ x
+when-true : (b : Bool) (x : Option WalkedName) → b ≡ true → elim b as (λ y. Option WalkedName) [ true ↦ x | false ↦ none ] ≡ x
 when-true true x e = refl
 when-true false x e = let z : _≡_ {A = ℕ} 0 1 = cc in absurd (omega arith)
 
@@ -154,11 +145,11 @@ module _ (s : List ℕ) (run at k : ℕ) where
   unfolding walkFrom
   from-end e = rw e
 
-  from-label : (n : ℕ) → lookAt s at ≡ label n → at + 1 + n ≤ length s → walkFrom (suc k) s run at ≡ withLabel (taken s at n) (walkFrom k s run (at + 1 + n))
+  from-label : (n : ℕ) → lookAt s at ≡ label n → at + 1 + n ≤ length s → walkFrom (suc k) s run at ≡ Option·map (withLabel (labelAt s at n)) (walkFrom k s run (at + 1 + n))
   unfolding walkFrom
   from-label n e h = rw e (when-true (leb (at + 1 + n) (length s)) _ (le-leb (at + 1 + n) (length s) h))
 
-  from-pointer : (t : ℕ) → lookAt s at ≡ pointer t → t < run → walkFrom (suc k) s run at ≡ withPointer (walkFrom k s t t)
+  from-pointer : (t : ℕ) → lookAt s at ≡ pointer t → t < run → walkFrom (suc k) s run at ≡ Option·map withPointer (walkFrom k s t t)
   unfolding walkFrom
   from-pointer t e h = rw e (when-true (ltb t run) _ (lt-ltb t run h))
 
@@ -170,57 +161,60 @@ complete {s} {run} {at} (reads {n = n} {c = c} {ls = ls} e h l w) (suc k) b =
     rw (from-label s run at k n e h, complete w k (bound-read s run at n k h b)) (ap (λ (x : List ℕ). some (record { labels = x ∷ ls; pointers = c })) l)
 complete {s} {run} {at} (points {t = t} e h w) (suc k) b = rw (from-pointer s run at k t e h, complete w k (bound-jump s run at t k h b))
 
--- the walk as a function finds what the relation says
-pub walk-finds : {s : List ℕ} {at c next : ℕ} {ls : List (List ℕ)} → Walks s at at ls c next → walk s at ≡ some (record { labels = ls; pointers = c })
+pub finds : {s : List ℕ} {at c next : ℕ} {ls : List (List ℕ)} → Walks s at at ls c next → walk s at ≡ some (record { labels = ls; pointers = c })
 unfolding walk
-walk-finds {s} {at} w = complete w (steps s) (bound-steps s at (walk-inside w))
+finds {s} {at} w = complete w (steps s) (bound-steps s at (walk-inside w))
+
+pub walk-finds : WalkFinds
+walk-finds s at c next ls w = finds w
 
 -- ---- from the function to the relation
 
 -- a walk by the relation, that ends somewhere with this name
-abbrev Found : List ℕ → ℕ → ℕ → Name → Type 0
-Found s run at m = (next : ℕ) × Walks s run at (m .labels) (m .pointers) next
+abbrev WalksTo : List ℕ → ℕ → ℕ → WalkedName → Type 0
+WalksTo s run at m = (next : ℕ) × Walks s run at (m .labels) (m .pointers) next
 
-pub sound : (k : ℕ) (s : List ℕ) (run at : ℕ) (m : Name) → walkFrom k s run at ≡ some m → Found s run at m
+pub sound : (k : ℕ) (s : List ℕ) (run at : ℕ) (m : WalkedName) → walkFrom k s run at ≡ some m → WalksTo s run at m
 unfolding walkFrom
 sound zero s run at m e = absurd (none-not-some m e)
 sound (suc k) s run at m e = go (lookAt s at) refl e (λ r a n q. sound k s r a n q)
   where
     Deeper : Type 0
-    Deeper = (r a : ℕ) (n : Name) → walkFrom k s r a ≡ some n → Found s r a n
+    Deeper = (r a : ℕ) (n : WalkedName) → walkFrom k s r a ≡ some n → WalksTo s r a n
 
-    after-label : (n : ℕ) → lookAt s at ≡ label n → (b : Bool) → leb (at + 1 + n) (length s) ≡ b → (r : Option Name)
-        → elim b as (λ y. Option Name) [ true ↦ withLabel (taken s at n) r | false ↦ none ] ≡ some m
-        → ((y : Name) → r ≡ some y → Found s run (at + 1 + n) y) → Found s run at m
+    after-label : (n : ℕ) → lookAt s at ≡ label n → (b : Bool) → leb (at + 1 + n) (length s) ≡ b → (r : Option WalkedName)
+        → elim b as (λ y. Option WalkedName) [ true ↦ Option·map (withLabel (labelAt s at n)) r | false ↦ none ] ≡ some m
+        → ((y : WalkedName) → r ≡ some y → WalksTo s run (at + 1 + n) y) → WalksTo s run at m
     after-label n v false h r q f = absurd (none-not-some m q)
     after-label n v true h none q f = absurd (none-not-some m q)
     after-label n v true h (some y) q f =
         let d = f y refl in
-        let z : record { labels = taken s at n ∷ y .labels; pointers = y .pointers } ≡ m = cc in
-        subst (Found s run at) z (d .0, reads v (leb-true (at + 1 + n) (length s) h) refl (d .1))
+        let z : record { labels = labelAt s at n ∷ y .labels; pointers = y .pointers } ≡ m = cc in
+        subst (WalksTo s run at) z (d .0, reads v (leb-true (at + 1 + n) (length s) h) refl (d .1))
 
-    after-pointer : (t : ℕ) → lookAt s at ≡ pointer t → (b : Bool) → ltb t run ≡ b → (r : Option Name)
-        → elim b as (λ y. Option Name) [ true ↦ withPointer r | false ↦ none ] ≡ some m
-        → ((y : Name) → r ≡ some y → Found s t t y) → Found s run at m
+    after-pointer : (t : ℕ) → lookAt s at ≡ pointer t → (b : Bool) → ltb t run ≡ b → (r : Option WalkedName)
+        → elim b as (λ y. Option WalkedName) [ true ↦ Option·map withPointer r | false ↦ none ] ≡ some m
+        → ((y : WalkedName) → r ≡ some y → WalksTo s t t y) → WalksTo s run at m
     after-pointer t v false h r q f = absurd (none-not-some m q)
     after-pointer t v true h none q f = absurd (none-not-some m q)
     after-pointer t v true h (some y) q f =
         let d = f y refl in
         let z : record { labels = y .labels; pointers = suc (y .pointers) } ≡ m = cc in
-        subst (Found s run at) z (at + 2, points v (ltb-true t run h) (d .1))
+        subst (WalksTo s run at) z (at + 2, points v (ltb-true t run h) (d .1))
 
     go : (v : Look) → lookAt s at ≡ v
         → onLook v (some (record { labels = []; pointers = 0 }))
-        (λ n. elim (leb (at + 1 + n) (length s)) as (λ y. Option Name) [ true ↦ withLabel (taken s at n) (walkFrom k s run (at + 1 + n)) | false ↦ none ])
-        (λ t. elim (ltb t run) as (λ y. Option Name) [ true ↦ withPointer (walkFrom k s t t) | false ↦ none ])
+        (λ n. elim (leb (at + 1 + n) (length s)) as (λ y. Option WalkedName) [ true ↦ Option·map (withLabel (labelAt s at n)) (walkFrom k s run (at + 1 + n)) | false ↦ none ])
+        (λ t. elim (ltb t run) as (λ y. Option WalkedName) [ true ↦ Option·map withPointer (walkFrom k s t t) | false ↦ none ])
+        none none
         ≡ some m
-        → Deeper → Found s run at m
-    go end v q f = let z : record { labels = []; pointers = 0 } ≡ m = cc in subst (Found s run at) z (at + 1, ends v)
+        → Deeper → WalksTo s run at m
+    go end v q f = let z : record { labels = []; pointers = 0 } ≡ m = cc in subst (WalksTo s run at) z (at + 1, ends v)
     go (label n) v q f = after-label n v (leb (at + 1 + n) (length s)) refl (walkFrom k s run (at + 1 + n)) q (λ y r. f run (at + 1 + n) y r)
     go (pointer t) v q f = after-pointer t v (ltb t run) refl (walkFrom k s t t) q (λ y r. f t t y r)
     go missing v q f = absurd (none-not-some m q)
     go reserved v q f = absurd (none-not-some m q)
 
-pub walk-found : (s : List ℕ) (at : ℕ) (m : Name) → walk s at ≡ some m → (next : ℕ) × Walks s at at (m .labels) (m .pointers) next
+pub walk-found : WalkFound
 unfolding walk
 walk-found s at m e = sound (steps s) s at at m e

@@ -1,4 +1,4 @@
--- Laws of what writing leaves in a buffer: octet by octet, and one write behind the other.
+-- Laws of what writing leaves in a buffer: octet by octet, and one write after the other.
 use mathlib.Core.Path.{_≡_, refl, sym, ap, _∙_}
 use mathlib.Core.List.{List, [], _∷_, _++_, append-assoc, append-nil}
 use Prim.Native.Nat.{ℕ, suc, _+_, _-_, _≤_, _<_}
@@ -23,7 +23,7 @@ over-more xs d n v e h =
     let k : length xs < length d = omega arith in
     rw (← e, drop-cons d (length xs) 0 k, set-append-seam, length-append, add-one) (sym (append-assoc xs (v ∷ []) (drop (suc (length xs)) d)))
 
--- octets laid over what comes behind those laid before
+-- octets laid over what comes after those laid before
 pub over-then : (xs ys d : List ℕ) (n : ℕ) → length xs ≡ n → take n (over xs d) ++ over ys (drop n (over xs d)) ≡ over (xs ++ ys) d
 unfolding over
 over-then xs ys d n e =

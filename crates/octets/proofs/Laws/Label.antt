@@ -21,7 +21,7 @@ Dotless = Every (λ x. eqb x dot ≡ false)
 abbrev pub Plain : List (List ℕ) → Type 0
 Plain = Every (λ l. (1 ≤ length l) × (length l ≤ 63) × Dotless l)
 
--- the octets of labels written out: each behind its length, and the final zero
+-- the octets of labels written out: each after its length, and the final zero
 abbrev pub size : List (List ℕ) → ℕ
 size [] = 1
 size (l ∷ ls) = 1 + length l + size ls
@@ -113,7 +113,7 @@ size-parts (x ∷ xs) = go (eqb x dot) (parts-made xs) (size-parts xs)
         let k : size (r .0 ∷ r .1) ≡ length xs + 2 = rw (r .2) at e in
         rw (r .2) (omega arith)
 
--- a text's labels take two octets more than the text: a length before the first and a zero behind the last
+-- a text's labels take two octets more than the text: a length before the first and a zero after the last
 pub size-labels : (s : List ℕ) → size (labels s) ≤ length s + 2
 unfolding labels
 size-labels [] = omega arith

@@ -1,8 +1,8 @@
 -- The labels that are left are good exactly where the steps say so.
-use mathlib.Core.Path.{_≡_, refl, sym, ap, ap₂, _∙_}
-use mathlib.Core.Bool.{Bool, true, false, cond, _&&_}
+use mathlib.Core.Path.{_≡_, refl, sym, ap, _∙_}
+use mathlib.Core.Bool.{Bool, true, false, _&&_}
 use mathlib.Core.List.{List, [], _∷_}
-use Prim.Native.Nat.{ℕ, zero, suc, _+_, _≤_, _<_}
+use Prim.Native.Nat.{ℕ, suc, _+_, _≤_, _<_}
 use native.Mathlib.Nat.{add-zero, zero-add}
 use native.Mathlib.Numerals.{add-one}
 use native.Mathlib.Omega.{arith}
@@ -67,16 +67,16 @@ too-long n xs h = go (parts-some xs)
     go : Parts xs → goodFrom (n + 1) (parts xs) ≡ false
     go (first {l = l} {ls = ls} e) = rw (e, lt-leb (n + 1 + length l) 63 (omega arith), le-leb 1 (n + 1 + length l) (omega arith))
 
--- what is left behind an octet, by the step that it is
-abbrev pub behind : LabelStep → List ℕ → Bool
-behind Bad xs = false
-behind (Length n) xs = goodLabels n xs
+-- what is left after an octet, by the step that it is
+abbrev pub after : LabelStep → List ℕ → Bool
+after Bad xs = false
+after (Length n) xs = goodLabels n xs
 
-step-cons : (n x : ℕ) (xs : List ℕ) → n ≤ 63 → behind (labelStep n x) xs ≡ goodLabels n (x ∷ xs)
+step-cons : (n x : ℕ) (xs : List ℕ) → n ≤ 63 → after (labelStep n x) xs ≡ goodLabels n (x ∷ xs)
 unfolding labelStep goodLabels parts
 step-cons n x xs short = go (eqb x 46) (eqb n 0) (leb 63 n) refl refl refl
   where
-    go : (t u v : Bool) → eqb x 46 ≡ t → eqb n 0 ≡ u → leb 63 n ≡ v → behind (labelStep n x) xs ≡ goodFrom n (onDot (eqb x 46) x (parts xs))
+    go : (t u v : Bool) → eqb x 46 ≡ t → eqb n 0 ≡ u → leb 63 n ≡ v → after (labelStep n x) xs ≡ goodFrom n (onDot (eqb x 46) x (parts xs))
     go true true v et eu ev = rw (et, eu, at-dot n xs, lt-leb 1 n (omega (arith, eqb-true n 0 eu)))
     go true false v et eu ev =
         let h : n ≡ 0 → ⊥ = eqb-false n 0 eu in
@@ -85,7 +85,7 @@ step-cons n x xs short = go (eqb x 46) (eqb n 0) (leb 63 n) refl refl refl
     go false u false et eu ev = rw (et, ev, past-octet n x xs)
 
 -- what is left at i, by the octet there
-pub step-good : (n : ℕ) (s : List ℕ) (i : ℕ) → n ≤ 63 → i < length s → behind (labelStep n (getD s i 0)) (drop (i + 1) s) ≡ goodLabels n (drop i s)
+pub step-good : (n : ℕ) (s : List ℕ) (i : ℕ) → n ≤ 63 → i < length s → after (labelStep n (getD s i 0)) (drop (i + 1) s) ≡ goodLabels n (drop i s)
 step-good n s i short h = rw (drop-cons s i 0, add-one) (step-cons n (getD s i 0) (drop (suc i) s) short)
 
 pub end-good : (n : ℕ) (s : List ℕ) (i : ℕ) → n ≤ 63 → length s ≤ i → leb 1 n ≡ goodLabels n (drop i s)

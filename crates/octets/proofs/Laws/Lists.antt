@@ -8,7 +8,7 @@ use native.Mathlib.Nat.{mul-zero, mul-suc, sub-zero, zero-sub, suc-sub-suc, add-
 use native.Mathlib.Omega.{arith}
 use native.Mathlib.Numerals.{add-one}
 use lib.ListN.{length, getD, take, drop, length-take, length-drop, drop-of-length-le}
-use lib.Seq.{drop-cons, getD-take, getD-drop, take-take, drop-drop, take-nil, drop-nil, take-all, take-append-seam, drop-append-seam, take-append-le, drop-append-le, length-take-le}
+use lib.Seq.{drop-cons, take-take, drop-drop, take-nil, take-all, take-append-seam, drop-append-seam, take-append-le, drop-append-le, length-take-le}
 use Rattle.octets.specs.Lists.{all, any, first, firstOr, keep, keepIf, cut, pieces, unique, isSome}
 
 module _ {A : Type 0} where
@@ -21,7 +21,7 @@ module _ {A : Type 0} where
     pub all-fails : p (getD s i d) ≡ false → false ≡ all p (drop i s)
     all-fails e = sym (all-step ∙ ap (λ b. b && all p (drop (i + 1) s)) e)
 
-    -- it passes, and what is left behind it decides
+    -- it passes, and what is left after it decides
     pub all-next : p (getD s i d) ≡ true → all p (drop (i + 1) s) ≡ all p (drop i s)
     all-next e = sym (all-step ∙ ap (λ b. b && all p (drop (i + 1) s)) e)
 
@@ -68,7 +68,7 @@ module _ {A : Type 0} where
   getD-pieces (suc n) w s (suc i) h =
       getD-pieces n w (drop w s) i (le-of-suc-le-suc h) ∙ ap (take w) (drop-drop (w * i) w s ∙ ap (λ k. drop k s) (add-comm w (w * i) ∙ sym (mul-suc w i)))
 
-  -- tests and searches over two lists, one behind the other
+  -- tests and searches over two lists, one after the other
   pub all-append : (p : A → Bool) (s t : List A) → all p (s ++ t) ≡ (all p s && all p t)
   unfolding all
   all-append p [] t = refl
@@ -228,7 +228,7 @@ unfolding any
 none-any p [] h = refl
 none-any p (x ∷ xs) h = rw (h .0, none-any p xs (h .1))
 
--- no two alike, one list behind the other: each by itself, and none of the one like any of the other
+-- no two alike, one list after the other: each by itself, and none of the one like any of the other
 module _ {A : Type 0} (alike : A → A → Bool) where
   abbrev pub Unique : List A → Type 0
   Unique [] = Unit {0}
@@ -258,9 +258,9 @@ every-flat f P Q g (x ∷ xs) h = every-append Q (f x) (flatMap f xs) (g x (h .0
 -- ---- stretches
 
 module _ {A : Type 0} where
-  -- what stands behind a front
-  pub cut-behind : (p x q : List A) → cut (p ++ (x ++ q)) (length p) (length x) ≡ x
-  cut-behind p x q = rw (drop-append-seam p (x ++ q), take-append-seam x q)
+  -- what stands after a front
+  pub cut-after : (p x q : List A) → cut (p ++ (x ++ q)) (length p) (length x) ≡ x
+  cut-after p x q = rw (drop-append-seam p (x ++ q), take-append-seam x q)
 
   -- what is appended changes no stretch that was all there
   pub cut-longer : (s t : List A) (at n : ℕ) → at + n ≤ length s → cut (s ++ t) at n ≡ cut s at n
@@ -310,7 +310,7 @@ module _ {A : Type 0} where
   any-never [] = refl
   any-never (x ∷ xs) = any-never xs
 
-  -- a test of each element, at one place
+  -- a test of each element, at one index
   pub any-false : (p : A → Bool) (xs : List A) (i : ℕ) (d : A) → i < length xs → any p xs ≡ false → p (getD xs i d) ≡ false
   unfolding any
   any-false p [] i d h e = absurd (not-suc-le-zero h)
@@ -383,7 +383,7 @@ module _ {A : Type 0} where
     pub any-holds : p (getD s i d) ≡ true → true ≡ any p (drop i s)
     any-holds e = sym (any-step ∙ ap (λ b. b || any p (drop (i + 1) s)) e)
 
-    -- it fails, and what is left behind it decides
+    -- it fails, and what is left after it decides
     pub any-next : p (getD s i d) ≡ false → any p (drop (i + 1) s) ≡ any p (drop i s)
     any-next e = sym (any-step ∙ ap (λ b. b || any p (drop (i + 1) s)) e)
 
@@ -391,16 +391,33 @@ module _ {A : Type 0} where
   unfolding any
   any-end p s i h = rw (drop-of-length-le s)
 
+  module _ (p : A → Bool) (s : List A) (i : ℕ) (d : A) (h : i < length s) where
+    first-step : first p (drop i s) ≡ firstOr (p (getD s i d)) (getD s i d) (first p (drop (i + 1) s))
+    unfolding first
+    first-step = rw (add-one, drop-cons s i d)
+
+    -- what is left at i: the element there is the first that passes the test
+    pub first-here : p (getD s i d) ≡ true → some (getD s i d) ≡ first p (drop i s)
+    first-here e = sym (first-step ∙ ap (λ b. firstOr b (getD s i d) (first p (drop (i + 1) s))) e)
+
+    -- it fails, and what is left after it decides
+    pub first-next : p (getD s i d) ≡ false → first p (drop (i + 1) s) ≡ first p (drop i s)
+    first-next e = sym (first-step ∙ ap (λ b. firstOr b (getD s i d) (first p (drop (i + 1) s))) e)
+
+  pub first-end : (p : A → Bool) (s : List A) (i : ℕ) → length s ≤ i → none ≡ first p (drop i s)
+  unfolding first
+  first-end p s i h = rw (drop-of-length-le s)
+
   module _ (alike : A → A → Bool) (s : List A) (i : ℕ) (d : A) (h : i < length s) where
     unique-step : unique alike (drop i s) ≡ (not (any (alike (getD s i d)) (drop (i + 1) s)) && unique alike (drop (i + 1) s))
     unfolding unique
     unique-step = rw (add-one, drop-cons s i d)
 
-    -- what is left at i: one behind the element there is like it
+    -- what is left at i: one after the element there is like it
     pub unique-fails : any (alike (getD s i d)) (drop (i + 1) s) ≡ true → false ≡ unique alike (drop i s)
     unique-fails e = sym (unique-step ∙ ap (λ b. not b && unique alike (drop (i + 1) s)) e)
 
-    -- none is, and what is left behind it decides
+    -- none is, and what is left after it decides
     pub unique-next : any (alike (getD s i d)) (drop (i + 1) s) ≡ false → unique alike (drop (i + 1) s) ≡ unique alike (drop i s)
     unique-next e = sym (unique-step ∙ ap (λ b. not b && unique alike (drop (i + 1) s)) e)
 

@@ -1,23 +1,18 @@
--- What the rules for names give: labels that a name can be written with, and texts that UTF-16 can say.
-use mathlib.Core.Path.{_≡_, refl, sym, subst}
+-- What the rules for names give: labels that a name can be written with.
+use mathlib.Core.Path.{_≡_, sym, subst}
 use mathlib.Core.Bool.{true, false, _&&_, not}
 use mathlib.Core.List.{List, [], _∷_}
-use mathlib.Core.Option.{Option, none, some}
-use Prim.Native.Nat.{ℕ, _<_, _≤_}
+use Prim.Native.Nat.{ℕ, _≤_}
 use native.Mathlib.Omega.{arith}
 use lib.Dec.{eqb}
 use lib.ListN.{length}
-use borrow.Author.Tests.{not-true, eqb-false}
+use borrow.Author.Tests.{not-true}
 use Rattle.octets.specs.Label.{parts, labels}
 use Rattle.octets.proofs.Laws.Label.{Dotless, Plain, parts-whole, labels-plain, label-short, size-labels}
-use Rattle.octets.specs.Lists.{all, isSome}
-use Rattle.octets.proofs.Laws.Lists.{Every, every-all, every-weaken, both-left, both-right, true-not-false}
+use Rattle.octets.specs.Lists.{all}
+use Rattle.octets.proofs.Laws.Lists.{Every, every-all, both-left, both-right}
 use Rattle.octets.specs.NameRule.{sized, printable, without, isDnsName, isPlainName, isNetbiosName, isSiteName}
-use Rattle.octets.specs.Text.{within}
 use Rattle.octets.proofs.Laws.Text.{within-low, within-high}
-use Rattle.octets.specs.Utf8.{points, isUtf8}
-use Rattle.octets.proofs.Laws.Utf8.{points-ascii}
-use Rattle.octets.proofs.Laws.Utf16.{Spoken, spoken}
 
 -- a text that can be written as a name of at most n octets
 pub record Writable (n : ℕ) (s : List ℕ) : Type 0 where
@@ -72,31 +67,9 @@ pub site-writable : (s : List ℕ) → isSiteName s ≡ true → Writable 63 s
 unfolding isPlainName
 site-writable s e = undotted-there 63 s e (omega arith)
 
-printable-spoken : (s : List ℕ) → printable s ≡ true → Spoken s
-printable-spoken s e =
-    let a : Every (λ x. (0x21 ≤ x) × (x ≤ 0x7E)) s = every-all (within 0x21 0x7E) (λ x. (0x21 ≤ x) × (x ≤ 0x7E)) (λ x q. (within-low 0x21 0x7E x q, within-high 0x21 0x7E x q)) s e in
-    let b : Every (λ x. 1 ≤ x) s = every-weaken (λ x. (0x21 ≤ x) × (x ≤ 0x7E)) (λ x. 1 ≤ x) (λ x q. omega arith) s a in
-    let c : Every (λ x. x < 0x80) s = every-weaken (λ x. (0x21 ≤ x) × (x ≤ 0x7E)) (λ x. x < 0x80) (λ x q. omega arith) s a in
-    spoken s s b (points-ascii s c)
-
-pub netbios-spoken : (s : List ℕ) → isNetbiosName s ≡ true → Spoken s
+pub netbios-printable : (s : List ℕ) → isNetbiosName s ≡ true → printable s ≡ true
 unfolding isPlainName
-netbios-spoken s e = printable-spoken s (printable-there 15 s e)
-
-pub empty-spoken : Spoken []
-empty-spoken = printable-spoken [] (unfold all in refl)
-
--- UTF-8 without zero octets, as account names and users are
-pub utf8-spoken : (s : List ℕ) → isUtf8 s ≡ true → without 0 s ≡ true → Spoken s
-unfolding isUtf8
-utf8-spoken s u w = go (points s) refl u
-  where
-    z : Every (λ x. 1 ≤ x) s
-    z = every-all (λ y. not (eqb y 0)) (λ y. 1 ≤ y) (λ y q. let n : y ≡ 0 → ⊥ = eqb-false y 0 (not-true (eqb y 0) q) in omega arith) s w
-
-    go : (p : Option (List ℕ)) → points s ≡ p → isSome p ≡ true → Spoken s
-    go none q e = absurd (true-not-false (sym e))
-    go (some cs) q e = spoken s cs z q
+netbios-printable s e = printable-there 15 s e
 
 -- a text of at most 63 octets with no empty label
 pub short-writable : (s : List ℕ) → length s ≤ 63 → Every (λ l. 1 ≤ length l) (labels s) → Writable 63 s

@@ -1,8 +1,8 @@
 -- Laws of comparing texts: over what is left at an index, for any way of folding an octet.
 use mathlib.Core.Path.{_≡_, refl, sym, ap, _∙_}
-use mathlib.Core.Bool.{Bool, true, false, _&&_, and-false}
+use mathlib.Core.Bool.{Bool, true, false, _&&_}
 use mathlib.Core.List.{List, [], _∷_, map}
-use Prim.Native.Nat.{ℕ, zero, suc, _+_, _≤_, _<_}
+use Prim.Native.Nat.{ℕ, suc, _+_, _≤_, _<_}
 use native.Mathlib.Numerals.{add-one}
 use lib.Dec.{eqb, leb}
 use lib.ListN.{length, getD, drop, drop-of-length-le}
@@ -10,7 +10,6 @@ use lib.Seq.{drop-cons}
 use borrow.Author.Tests.{eq-eqb, ne-eqb, eqb-true, leb-true, eqb-false}
 use Rattle.octets.specs.Text.{same, within, lower, sameFolded}
 use Rattle.octets.proofs.Laws.Lists.{both-left, both-right, true-not-false}
-use native.Mathlib.Omega.{arith}
 
 -- texts of other lengths are not the same
 pub same-lengths : (x y : List ℕ) → (length x ≡ length y → ⊥) → same x y ≡ false
@@ -34,7 +33,7 @@ module _ (f : ℕ → ℕ) where
     pub same-fails : (f (getD a i 0) ≡ f (getD b i 0) → ⊥) → false ≡ same (map f (drop i a)) (map f (drop i b))
     same-fails n = sym (same-step ∙ ap (λ t. t && same (map f (drop (i + 1) a)) (map f (drop (i + 1) b))) (ne-eqb (f (getD a i 0)) (f (getD b i 0)) n))
 
-    -- they agree, and what is left behind them decides
+    -- they agree, and what is left after them decides
     pub same-next : f (getD a i 0) ≡ f (getD b i 0) → same (map f (drop (i + 1) a)) (map f (drop (i + 1) b)) ≡ same (map f (drop i a)) (map f (drop i b))
     same-next e = sym (same-step ∙ ap (λ t. t && same (map f (drop (i + 1) a)) (map f (drop (i + 1) b))) (eq-eqb (f (getD a i 0)) (f (getD b i 0)) e))
 
@@ -47,8 +46,7 @@ pub map-id : (s : List ℕ) → map (λ x. x) s ≡ s
 map-id [] = refl
 map-id (x ∷ s) = ap (λ (l : List ℕ). x ∷ l) (map-id s)
 
--- The same text is the same list.
-
+-- octets that test as the same are the same
 pub same-equal : (x y : List ℕ) → same x y ≡ true → x ≡ y
 unfolding same
 same-equal [] [] e = refl
@@ -70,21 +68,6 @@ within-low low high n e = leb-true low n (both-left (leb low n) (leb n high) e)
 pub within-high : (low high n : ℕ) → within low high n ≡ true → n ≤ high
 within-high low high n e = leb-true n high (both-right (leb low n) (leb n high) e)
 
--- octets that test as the same are the same
-pub same-eq : (xs ys : List ℕ) → same xs ys ≡ true → xs ≡ ys
-unfolding same
-same-eq [] [] e = refl
-same-eq [] (y ∷ ys) e = let z : _≡_ {A = ℕ} 0 1 = cc in absurd (omega arith)
-same-eq (x ∷ xs) [] e = let z : _≡_ {A = ℕ} 0 1 = cc in absurd (omega arith)
-same-eq (x ∷ xs) (y ∷ ys) e = both (eqb x y) refl e (same-eq xs ys)
-  where
-    both : (b : Bool) → eqb x y ≡ b → (b && same xs ys) ≡ true → (same xs ys ≡ true → xs ≡ ys) → x ∷ xs ≡ y ∷ ys
-    both true q t rest =
-        let h : x ≡ y = eqb-true x y q in
-        let r : xs ≡ ys = rest t in
-        cc
-    both false q t rest = let z : _≡_ {A = ℕ} 0 1 = cc in absurd (omega arith)
-
 pub same-sym : (xs ys : List ℕ) → same xs ys ≡ same ys xs
 unfolding same
 same-sym [] [] = refl
@@ -102,7 +85,7 @@ same-sym (x ∷ xs) (y ∷ ys) = heads (eqb x y) refl (same-sym xs ys)
 
 -- texts that are the same with case ignored compare alike
 pub folded-left : (xs ys zs : List ℕ) → sameFolded xs ys ≡ true → sameFolded xs zs ≡ sameFolded ys zs
-folded-left xs ys zs e = ap (λ (l : List ℕ). same l (map lower zs)) (same-eq (map lower xs) (map lower ys) e)
+folded-left xs ys zs e = ap (λ (l : List ℕ). same l (map lower zs)) (same-equal (map lower xs) (map lower ys) e)
 
 pub folded-sym : (xs ys : List ℕ) → sameFolded xs ys ≡ sameFolded ys xs
 folded-sym xs ys = same-sym (map lower xs) (map lower ys)

@@ -10,12 +10,12 @@ use borrow.Author.Tests.{ne-eqb, le-leb, lt-leb, ltb-true, ltb-false}
 use Rattle.answers.specs.Try.{Try, good}
 use Rattle.octets.proofs.Laws.Lists.{Every}
 use Rattle.octets.specs.Number.{little, littleOctets}
-use Rattle.octets.proofs.Laws.Utf8.{Scalar}
-use Rattle.octets.specs.Utf16.{pointOctets, pointsOctets, isHigh, isLow}
-use Rattle.octets.proofs.Laws.Utf16.{highUnit, lowUnit, one-unit, two-units}
+use Rattle.unicode.proofs.Laws.Utf8.{Scalar}
+use Rattle.unicode.specs.Utf16.{pointOctets, pointsOctets, isHigh, isLow}
+use Rattle.unicode.proofs.Laws.Utf16.{highUnit, lowUnit, one-unit, two-units}
 use Rattle.reader.specs.Field.{Read}
-use Rattle.reader.proofs.Laws.Field.{Left, octets-here, left-behind, left-next, left-length}
-use Rattle.reader.specs.Text.{Stretch, ends, plain, high, low, unitOf, go, turn, textFrom, textAt}
+use Rattle.reader.proofs.Laws.Field.{Left, octets-here, left-after, left-next, left-length}
+use Rattle.reader.specs.Text.{Stretch, ends, plain, high, low, unitOf, go, turn, readTextFrom, readText}
 
 -- ---- units
 
@@ -55,32 +55,32 @@ Got start at n = good (record { value = record { start = start; len = at + n - s
 
 module _ {s : List ℕ} (start : ℕ) where
   unit-step : (k at a b u : ℕ) (rest : List ℕ) (h g : Bool) → Left s at ((a ∷ b ∷ []) ++ rest) → little (a ∷ b ∷ []) ≡ u → turn h (unitOf u) ≡ go g
-      → textFrom (suc k) s start at h ≡ textFrom k s start (at + 2) g
-  unfolding textFrom
+      → readTextFrom (suc k) s start at h ≡ readTextFrom k s start (at + 2) g
+  unfolding readTextFrom
   unit-step k at a b u rest h g l e t = rw (octets-here (a ∷ b ∷ []) rest 2 refl l, e, t)
 
-  zero-step : (k at : ℕ) (rest : List ℕ) → Left s at (littleOctets 2 0 ++ rest) → textFrom (suc k) s start at false ≡ Got start at 0
-  unfolding textFrom littleOctets little unitOf
+  zero-step : (k at : ℕ) (rest : List ℕ) → Left s at (littleOctets 2 0 ++ rest) → readTextFrom (suc k) s start at false ≡ Got start at 0
+  unfolding readTextFrom littleOctets little unitOf
   zero-step k at rest l =
       let e : at ≡ at + 0 = omega arith in
       rw (octets-here (littleOctets 2 0) rest 2 refl l) (ap (λ (x : ℕ). good (record { value = record { start = start; len = x - start }; next = x + 2 })) e)
 
   units-read : (cs : List ℕ) (k at : ℕ) (rest : List ℕ) → length (pointsOctets cs) < k → Every Scalar cs → Left s at (pointsOctets cs ++ (littleOctets 2 0 ++ rest))
-      → textFrom k s start at false ≡ Got start at (length (pointsOctets cs))
+      → readTextFrom k s start at false ≡ Got start at (length (pointsOctets cs))
   unfolding pointsOctets
   units-read [] zero at rest f ok l = absurd (omega arith)
   units-read [] (suc k) at rest f ok l = zero-step k at rest l
   units-read (c ∷ cs) zero at rest f ok l = absurd (omega arith)
   units-read (c ∷ cs) (suc k) at rest f ok l = split (ltb c 0x10000) refl (λ j a p q. units-read cs j a rest p (ok .1) q)
     where
-      behind : List ℕ
-      behind = pointsOctets cs ++ (littleOctets 2 0 ++ rest)
+      after : List ℕ
+      after = pointsOctets cs ++ (littleOctets 2 0 ++ rest)
 
       Deeper : Type 0
-      Deeper = (j a : ℕ) → length (pointsOctets cs) < j → Left s a behind → textFrom j s start a false ≡ Got start a (length (pointsOctets cs))
+      Deeper = (j a : ℕ) → length (pointsOctets cs) < j → Left s a after → readTextFrom j s start a false ≡ Got start a (length (pointsOctets cs))
 
       Due : ℕ → Type 0
-      Due k = textFrom (suc k) s start at false ≡ Got start at (length (pointOctets c ++ pointsOctets cs))
+      Due k = readTextFrom (suc k) s start at false ≡ Got start at (length (pointOctets c ++ pointsOctets cs))
 
       moved : (n : ℕ) → length (pointOctets c) ≡ n → Got start (at + n) (length (pointsOctets cs)) ≡ Got start at (length (pointOctets c ++ pointsOctets cs))
       moved n e =
@@ -88,33 +88,33 @@ module _ {s : List ℕ} (start : ℕ) where
           let y : at + n + length (pointsOctets cs) ≡ at + length (pointOctets c ++ pointsOctets cs) = omega arith in
           ap (λ (z : ℕ). good (record { value = record { start = start; len = z - start }; next = z + 2 })) y
 
-      here : Left s at (pointOctets c ++ behind)
+      here : Left s at (pointOctets c ++ after)
       here = rw (append-assoc (pointOctets c) (pointsOctets cs) (littleOctets 2 0 ++ rest)) at l
 
       one : c < 0x10000 → Deeper → Due k
       one h d =
           let u = one-unit c h in
-          let m : Left s at ((u .0 ∷ u .1 ∷ []) ++ behind) = rw (u .2) at here in
+          let m : Left s at ((u .0 ∷ u .1 ∷ []) ++ after) = rw (u .2) at here in
           let t : turn false (unitOf c) ≡ go false = rw (plain-unit c (ok .0)) in
           let n : length (pointOctets c) ≡ 2 = ap length (u .2) in
           let fewer : length (pointsOctets cs) < k = omega (arith, length-append (pointOctets c) (pointsOctets cs)) in
-          unit-step k at (u .0) (u .1) c behind false false m (u .3) t ∙ d k (at + 2) fewer (left-next (u .0 ∷ u .1 ∷ []) behind 2 refl m) ∙ moved 2 n
+          unit-step k at (u .0) (u .1) c after false false m (u .3) t ∙ d k (at + 2) fewer (left-next (u .0 ∷ u .1 ∷ []) after 2 refl m) ∙ moved 2 n
 
       two : (k : ℕ) → length (pointOctets c ++ pointsOctets cs) < suc k → 0x10000 ≤ c → Deeper → Due k
       two zero f h d = absurd (omega (arith, length-append (pointOctets c) (pointsOctets cs), ap length (two-units c h (ok .0 .below) .4)))
       two (suc k) f h d =
           let u = two-units c h (ok .0 .below) in
-          let m : Left s at ((u .0 ∷ u .1 ∷ []) ++ ((u .2 ∷ u .3 ∷ []) ++ behind)) = rw (u .4) at here in
-          let m2 : Left s (at + 2) ((u .2 ∷ u .3 ∷ []) ++ behind) = left-next (u .0 ∷ u .1 ∷ []) ((u .2 ∷ u .3 ∷ []) ++ behind) 2 refl m in
-          let m3 : Left s (at + 2 + 2) behind = left-next (u .2 ∷ u .3 ∷ []) behind 2 refl m2 in
+          let m : Left s at ((u .0 ∷ u .1 ∷ []) ++ ((u .2 ∷ u .3 ∷ []) ++ after)) = rw (u .4) at here in
+          let m2 : Left s (at + 2) ((u .2 ∷ u .3 ∷ []) ++ after) = left-next (u .0 ∷ u .1 ∷ []) ((u .2 ∷ u .3 ∷ []) ++ after) 2 refl m in
+          let m3 : Left s (at + 2 + 2) after = left-next (u .2 ∷ u .3 ∷ []) after 2 refl m2 in
           let below : c < 0x110000 = ok .0 .below in
           let hi : turn false (unitOf (highUnit c)) ≡ go true = rw (high-unit (highUnit c) (omega arith) (omega arith)) in
           let lo : turn true (unitOf (lowUnit c)) ≡ go false = rw (low-unit (lowUnit c) (omega arith) (omega arith)) in
           let n : length (pointOctets c) ≡ 4 = ap length (u .4) in
           let fewer : length (pointsOctets cs) < k = omega (arith, length-append (pointOctets c) (pointsOctets cs)) in
           let four : at + 2 + 2 ≡ at + 4 = omega arith in
-          unit-step (suc k) at (u .0) (u .1) (highUnit c) ((u .2 ∷ u .3 ∷ []) ++ behind) false true m (u .5) hi
-          ∙ unit-step k (at + 2) (u .2) (u .3) (lowUnit c) behind true false m2 (u .6) lo
+          unit-step (suc k) at (u .0) (u .1) (highUnit c) ((u .2 ∷ u .3 ∷ []) ++ after) false true m (u .5) hi
+          ∙ unit-step k (at + 2) (u .2) (u .3) (lowUnit c) after true false m2 (u .6) lo
           ∙ d k (at + 2 + 2) fewer m3
           ∙ ap (λ (x : ℕ). Got start x (length (pointsOctets cs))) four
           ∙ moved 4 n
@@ -123,16 +123,16 @@ module _ {s : List ℕ} (start : ℕ) where
       split true e d = one (ltb-true c 0x10000 e) d
       split false e d = two k f (ltb-false c 0x10000 e) d
 
--- the text that stands here, as its stretch, and what is left behind it
+-- the text that stands here, as its stretch, and what is left after it
 pub text-here : {s : List ℕ} {at : ℕ} (cs rest : List ℕ) → Every Scalar cs → Left s at (pointsOctets cs ++ (littleOctets 2 0 ++ rest))
-    → textAt s at ≡ good (record { value = record { start = at; len = length (pointsOctets cs) }; next = at + length (pointsOctets cs) + 2 })
-unfolding textAt
+    → readText s at ≡ good (record { value = record { start = at; len = length (pointsOctets cs) }; next = at + length (pointsOctets cs) + 2 })
+unfolding readText
 text-here {s} {at} cs rest ok l =
     let n : length s ≡ at + (length (pointsOctets cs) + length (littleOctets 2 0 ++ rest)) = left-length (pointsOctets cs ++ (littleOctets 2 0 ++ rest)) l ∙ simp length-append in
     let e : at + length (pointsOctets cs) - at ≡ length (pointsOctets cs) = omega arith in
     units-read at cs (suc (length s)) at rest (omega arith) ok l
     ∙ ap (λ (x : ℕ). good (record { value = record { start = at; len = x }; next = at + length (pointsOctets cs) + 2 })) e
 
-pub text-behind : {s : List ℕ} {at : ℕ} (x rest : List ℕ) → Left s at (x ++ (littleOctets 2 0 ++ rest)) → Left s (at + length x + 2) rest
+pub text-after : {s : List ℕ} {at : ℕ} (x rest : List ℕ) → Left s at (x ++ (littleOctets 2 0 ++ rest)) → Left s (at + length x + 2) rest
 unfolding littleOctets
-text-behind x rest l = left-next (littleOctets 2 0) rest 2 refl (left-behind x (littleOctets 2 0 ++ rest) l)
+text-after x rest l = left-next (littleOctets 2 0) rest 2 refl (left-after x (littleOctets 2 0 ++ rest) l)

@@ -1,12 +1,19 @@
--- Room that ends where it starts, or before, is no room.
-use mathlib.Core.Path.{_≡_}
-use mathlib.Core.Bool.{true}
-use mathlib.Core.List.{List}
-use Prim.Native.Nat.{ℕ, _-_, _≤_}
+-- Numbers where octets are missing: those count as 0.
+use mathlib.Core.Path.{_≡_, refl, ap, _∙_}
+use mathlib.Core.List.{List, [], _∷_}
+use Prim.Native.Nat.{ℕ, _+_, _*_}
 use native.Mathlib.Omega.{arith}
-use Rattle.octets.specs.Lists.{all}
-use Rattle.table.specs.Field.{zeros}
+use lib.ListN.{take, drop}
+use lib.Seq.{drop-drop}
+use Rattle.octets.specs.Number.{little, u16At, u32At}
 
-pub zeros-none : (s : List ℕ) (at end : ℕ) → end ≤ at → true ≡ zeros s at end
-unfolding zeros all
-zeros-none s at end h = let e : end - at ≡ 0 = omega arith in rw e
+pub u32-anywhere : (s : List ℕ) (offset : ℕ) → u32At s offset ≡ u16At s offset + 65536 * u16At s (offset + 2)
+unfolding little
+u32-anywhere s offset = halves (drop offset s) ∙ ap (λ (l : List ℕ). u16At s offset + 65536 * little (take 2 l)) (drop-drop 2 offset s)
+  where
+    halves : (l : List ℕ) → little (take 4 l) ≡ little (take 2 l) + 65536 * little (take 2 (drop 2 l))
+    halves [] = refl
+    halves (x ∷ []) = omega arith
+    halves (x ∷ y ∷ []) = omega arith
+    halves (x ∷ y ∷ z ∷ []) = omega arith
+    halves (x ∷ y ∷ z ∷ w ∷ l) = omega arith

@@ -10,49 +10,49 @@ use lib.ListN.{length, getD, drop, drop-of-length-le}
 use lib.Seq.{drop-cons}
 use Rattle.octets.specs.Lists.{keep, keepIf}
 use Rattle.octets.proofs.Laws.Lists.{length-pieces, getD-pieces, cut-length}
-use Rattle.table.specs.Layout.{body}
-use Rattle.table.specs.Table.{blockAt, blocksOf, bodies}
+use Rattle.table.specs.Block.{blockSize, blockAt, blocksOf, kindIn, bodyOffset, bodySize, body}
+use Rattle.table.specs.Countings.{blockPlace}
+use Rattle.table.specs.Table.{bodies}
 
-pub length-blocks : (image : List ℕ) → length (blocksOf image) ≡ length image / 512
+pub length-blocks : (image : List ℕ) → length (blocksOf image) ≡ length image / blockSize
 unfolding blocksOf
-length-blocks image = length-pieces (length image / 512) 512 image
+length-blocks image = length-pieces (length image / blockSize) blockSize image
 
--- what is left at a place: the block there, and what is left behind it
-module _ (image : List ℕ) (i : ℕ) (h : i < length image / 512) where
-  pub block-there : getD (blocksOf image) i [] ≡ blockAt image i
+-- what is left at a place: the block there, and what is left after it
+module _ (image : List ℕ) (i : ℕ) (h : i < length image / blockSize) where
+  pub block-there : getD (blocksOf image) i [] ≡ blockAt image (blockPlace i)
   unfolding blocksOf
-  block-there = getD-pieces (length image / 512) 512 image i h
+  block-there = getD-pieces (length image / blockSize) blockSize image i h
 
-  pub blocks-step : drop i (blocksOf image) ≡ blockAt image i ∷ drop (i + 1) (blocksOf image)
+  pub blocks-step : drop i (blocksOf image) ≡ blockAt image (blockPlace i) ∷ drop (i + 1) (blocksOf image)
   blocks-step =
       let k : i < length (blocksOf image) = rw (length-blocks image) h in
       rw (add-one, drop-cons (blocksOf image) i [], block-there)
 
-  pub block-length : length (blockAt image i) ≡ 512
-  block-length = cut-length image (512 * i) 512 (omega arith)
+  pub block-length : length (blockAt image (blockPlace i)) ≡ blockSize
+  block-length = cut-length image (blockSize * i) blockSize (omega arith)
 
-pub blocks-end : (image : List ℕ) (i : ℕ) → length image / 512 ≤ i → drop i (blocksOf image) ≡ []
+  -- its body
+  pub body-there : body (blockAt image (blockPlace i)) ≡ body (getD (blocksOf image) i [])
+  body-there = ap body (sym block-there)
+
+  pub body-length : length (body (blockAt image (blockPlace i))) ≡ bodySize
+  body-length = cut-length (blockAt image (blockPlace i)) bodyOffset bodySize (omega (arith, block-length))
+
+pub blocks-end : (image : List ℕ) (i : ℕ) → length image / blockSize ≤ i → drop i (blocksOf image) ≡ []
 blocks-end image i h =
     let k : length (blocksOf image) ≤ i = rw (length-blocks image) h in
     drop-of-length-le (blocksOf image) k
 
--- the body that a block adds to those of a kind, and the used records that it adds
+-- the body that a block adds to those of a kind
 abbrev pub bodyIf : Bool → List ℕ → List (List ℕ)
 bodyIf true block = body block ∷ []
 bodyIf false block = []
 
-pub bodies-cons : (kind : ℕ) (block : List ℕ) (blocks : List (List ℕ)) → bodies kind (block ∷ blocks) ≡ bodyIf (eqb (getD block 0 0) kind) block ++ bodies kind blocks
+pub bodies-cons : (kind : ℕ) (block : List ℕ) (blocks : List (List ℕ)) → bodies kind (block ∷ blocks) ≡ bodyIf (eqb (kindIn block) kind) block ++ bodies kind blocks
 unfolding bodies keep
-bodies-cons kind block blocks = go (eqb (getD block 0 0) kind)
+bodies-cons kind block blocks = go (eqb (kindIn block) kind)
   where
-    go : (b : Bool) → map body (keepIf b block (keep (λ c. eqb (getD c 0 0) kind) blocks)) ≡ bodyIf b block ++ map body (keep (λ c. eqb (getD c 0 0) kind) blocks)
+    go : (b : Bool) → map body (keepIf b block (keep (λ c. eqb (kindIn c) kind) blocks)) ≡ bodyIf b block ++ map body (keep (λ c. eqb (kindIn c) kind) blocks)
     go true = refl
     go false = refl
-
--- the body of the block at a place
-module _ (image : List ℕ) (i : ℕ) (h : i < length image / 512) where
-  pub body-there : body (blockAt image i) ≡ body (getD (blocksOf image) i [])
-  body-there = ap body (sym (block-there image i h))
-
-  pub body-length : length (body (blockAt image i)) ≡ 504
-  body-length = cut-length (blockAt image i) 4 504 (omega (arith, block-length image i h))

@@ -1,70 +1,59 @@
 -- Each lookup of the table is the search by its key; and when the client's site is the only one.
-use mathlib.Core.Path.{_≡_, refl, sym, ap, ap₂, _∙_}
+use mathlib.Core.Path.{_≡_, refl, sym, ap, _∙_}
 use mathlib.Core.Bool.{Bool, true, false, not, _&&_}
-use mathlib.Core.List.{List, [], _∷_, _++_, map, flatMap}
+use mathlib.Core.List.{List, [], _∷_, map, flatMap}
 use mathlib.Core.Option.{none, some, Option·map}
-use Prim.Native.Nat.{ℕ, _≤_}
+use Prim.Native.Nat.{ℕ}
 use native.Mathlib.Omega.{arith}
-use lib.Dec.{eqb}
-use lib.ListN.{length, getD, length-take}
 use borrow.Author.Tests.{eq-eqb, ne-eqb, eqb-false}
-use Rattle.octets.specs.Lists.{first, keep, any, unique, pieces}
-use Rattle.octets.proofs.Laws.Lists.{first-map, first-keep, pieces-one}
-use Rattle.octets.specs.Text.{allZero}
+use Rattle.octets.specs.Lists.{first, keep, any, unique}
+use Rattle.octets.proofs.Laws.Lists.{first-map, first-keep}
+use Rattle.table.specs.declared.Caller.{Caller}
 use Rattle.table.specs.declared.ContextNumber.{ContextNumber}
-use Rattle.table.specs.Address.{addressNumber, sharePrefix}
-use Rattle.table.specs.Layout.{body}
-use Rattle.table.specs.Records.{Site, sameContext, sameSite, contextOf, accountOf, siteOf, subnetOf}
-use Rattle.table.specs.Table.{Table, bodies, recordsOf, tableOf}
+use Rattle.table.specs.declared.record.RecordKind.{RecordKind}
+use Rattle.table.specs.declared.record.RecordKind.the-variants as kind
+use Rattle.table.specs.Account.{accountOf}
+use Rattle.table.specs.Address.{addressNumber}
+use Rattle.table.specs.Context.{contextOf}
+use Rattle.table.specs.Countings.{sameContext, sameSite}
+use Rattle.table.specs.Format.{formatOf, recordsIn}
 use Rattle.table.specs.SameName.{sameAccountName}
+use Rattle.table.specs.Site.{Site, siteOf}
+use Rattle.table.specs.Subnet.{subnetOf}
+use Rattle.table.specs.Table.{Table, isUsed, bodies, recordsOf, tableOf}
 use Rattle.table_whole.specs.Whole.{sitesUnique}
 use Rattle.table_find.specs.declared.search.ContextKey.{ContextKey}
 use Rattle.table_find.specs.declared.search.SiteKey.{SiteKey}
 use Rattle.table_find.specs.declared.search.SiteKey.the-variants.{Any, OtherThan}
-use Rattle.table_find.specs.declared.search.RecordKey.the-variants as by
 use Rattle.table_find.specs.declared.search.Key.the-variants as key
-use Rattle.table_find.specs.Find.{contextsSearched, accountByName, subnetFor, siteOfSubnet, siteFor}
-use Rattle.table_find.specs.Internal.Key.{isContext, isSite, inSubnet}
+use Rattle.table_find.specs.Find.{contextsSearched, accountByName, inSubnet, subnetFor, siteOfSubnet, siteFor}
+use Rattle.table_find.specs.Internal.Key.{isContext, isSite}
 use Rattle.table_find.specs.Internal.Search.{firstIn}
-use Rattle.table.specs.declared.Caller.{Caller}
-
--- a context is the whole of its body
-bodies-whole : (kind : ℕ) (blocks : List (List ℕ)) → flatMap (pieces 1 504) (bodies kind blocks) ≡ bodies kind blocks
-unfolding bodies flatMap
-bodies-whole kind blocks = go (keep (λ block. eqb (getD block 0 0) kind) blocks)
-  where
-    go : (found : List (List ℕ)) → flatMap (pieces 1 504) (map body found) ≡ map body found
-    go [] = refl
-    go (block ∷ found) =
-        let short : length (body block) ≤ 504 = simp length-take (omega arith) in
-        ap₂ (λ (s t : List (List ℕ)). s ++ t) (pieces-one 504 (body block) short) (go found)
 
 module _ (asked : List ℕ) (blocks : List (List ℕ)) where
+  -- a search in the used records of a kind, read as f does
+  used-search : {A : Type 0} (f : List ℕ → A) (p : A → Bool) (k : RecordKind)
+      → Option·map f (first (λ r. isUsed r && p (f r)) (flatMap (recordsIn (formatOf k)) (bodies (formatOf k .kind) blocks))) ≡ first p (map f (recordsOf k blocks))
+  unfolding recordsOf
+  used-search f p k =
+      let records = flatMap (recordsIn (formatOf k)) (bodies (formatOf k .kind) blocks) in
+      sym (first-map f p (keep isUsed records) ∙ ap (Option·map f) (first-keep (λ r. p (f r)) isUsed records))
+
   pub context-search : (k : ContextKey) → Option·map contextOf (firstIn (key.Context k) asked blocks) ≡ first (isContext k asked) (contextsSearched (tableOf blocks))
   unfolding firstIn contextsSearched tableOf
-  context-search k =
-      ap (λ (bs : List (List ℕ)). Option·map contextOf (first (λ b. isContext k asked (contextOf b)) bs)) (bodies-whole 3 blocks)
-      ∙ sym (first-map contextOf (isContext k asked) (bodies 3 blocks))
+  context-search k = used-search contextOf (isContext k asked) kind.Context
 
-  -- a search in the used records of a kind, read as f does
-  used-search : {A : Type 0} (f : List ℕ → A) (p : A → Bool) (kind n w : ℕ)
-      → Option·map f (first (λ r. not (allZero r) && p (f r)) (flatMap (pieces n w) (bodies kind blocks))) ≡ first p (map f (recordsOf kind n w blocks))
-  unfolding recordsOf
-  used-search f p kind n w =
-      let records = flatMap (pieces n w) (bodies kind blocks) in
-      sym (first-map f p (keep (λ r. not (allZero r)) records) ∙ ap (Option·map f) (first-keep (λ r. p (f r)) (λ r. not (allZero r)) records))
-
-  pub account-search : (n : ContextNumber) → Option·map accountOf (firstIn (key.Used (by.Account n)) asked blocks) ≡ accountByName (tableOf blocks) n asked
+  pub account-search : (n : ContextNumber) → Option·map accountOf (firstIn (key.Account n) asked blocks) ≡ accountByName (tableOf blocks) n asked
   unfolding firstIn accountByName tableOf
-  account-search n = used-search accountOf (λ a. sameContext (a .context) n && sameAccountName (a .name) asked) 4 6 84
+  account-search n = used-search accountOf (λ a. sameContext (a .context) n && sameAccountName (a .name) asked) kind.Account
 
-  pub site-search : (k : SiteKey) → Option·map siteOf (firstIn (key.Used (by.Site k)) asked blocks) ≡ first (isSite k) (tableOf blocks .sites)
+  pub site-search : (k : SiteKey) → Option·map siteOf (firstIn (key.Site k) asked blocks) ≡ first (isSite k) (tableOf blocks .sites)
   unfolding firstIn tableOf
-  site-search k = used-search siteOf (isSite k) 5 7 72
+  site-search k = used-search siteOf (isSite k) kind.Site
 
-  pub subnet-search : (caller : Caller) → Option·map subnetOf (firstIn (key.Used (by.Subnet (addressNumber (caller .address)))) asked blocks) ≡ subnetFor (tableOf blocks) caller
-  unfolding firstIn subnetFor tableOf inSubnet sharePrefix
-  subnet-search caller = used-search subnetOf (λ n. sharePrefix (n .prefix) (caller .address) (n .address)) 6 42 12
+  pub subnet-search : (caller : Caller) → Option·map subnetOf (firstIn (key.Subnet (addressNumber (caller .address))) asked blocks) ≡ subnetFor (tableOf blocks) caller
+  unfolding firstIn subnetFor tableOf
+  subnet-search caller = used-search subnetOf (inSubnet (addressNumber (caller .address))) kind.Subnet
 
 -- the first site is no other than itself
 skip-own : (q s : Site) (rest : List Site) → some s ≡ some q → first (isSite (OtherThan (s .number))) (q ∷ rest) ≡ first (isSite (OtherThan (s .number))) rest

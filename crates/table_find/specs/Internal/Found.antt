@@ -1,31 +1,37 @@
--- What a lookup found: where the record stands in the image, as the enum that the code returns.
+-- What a lookup found: the offset of the record in the image, as the enum that the code returns.
 use mathlib.Core.List.{List}
 use mathlib.Core.Option.{Option, none, some, Option·map}
 use Prim.Native.Nat.{ℕ, _+_, _≤_}
 use lib.ListN.{length}
 use Rattle.octets.specs.Lists.{cut}
-use Rattle.table.specs.Records.{Context, Account, Site, Subnet, contextOf, accountOf, siteOf, subnetOf}
+use Rattle.table.specs.declared.record.RecordKind.{RecordKind}
+use Rattle.table.specs.declared.record.RecordKind.the-variants as kind
+use Rattle.table.specs.Account.{Account, accountOf}
+use Rattle.table.specs.Context.{Context, contextOf}
+use Rattle.table.specs.Format.{formatOf}
+use Rattle.table.specs.Site.{Site, siteOf}
+use Rattle.table.specs.Subnet.{Subnet, subnetOf}
 use Rattle.table_find.specs.declared.search.Found.{Found}
 use Rattle.table_find.specs.declared.search.Found.the-variants.{At, Nothing}
 
--- the record of w octets that was found
-abbrev pub recordAt : List ℕ → ℕ → Found → Option (List ℕ)
-recordAt image w Nothing = none
-recordAt image w (At o) = some (cut image o w)
+-- the record of a kind that was found
+abbrev pub recordAt : List ℕ → RecordKind → Found → Option (List ℕ)
+recordAt image k Nothing = none
+recordAt image k (At offset) = some (cut image offset (formatOf k .width))
 
 -- it lies in the image
-abbrev pub LiesIn : List ℕ → ℕ → Found → Type 0
-LiesIn image w Nothing = Unit {0}
-LiesIn image w (At o) = o + w ≤ length image
+abbrev pub LiesIn : List ℕ → RecordKind → Found → Type 0
+LiesIn image k Nothing = Unit {0}
+LiesIn image k (At offset) = offset + formatOf k .width ≤ length image
 
 abbrev pub contextAt : List ℕ → Found → Option Context
-contextAt image f = Option·map contextOf (recordAt image 504 f)
+contextAt image f = Option·map contextOf (recordAt image kind.Context f)
 
 abbrev pub accountAt : List ℕ → Found → Option Account
-accountAt image f = Option·map accountOf (recordAt image 84 f)
+accountAt image f = Option·map accountOf (recordAt image kind.Account f)
 
 abbrev pub siteAt : List ℕ → Found → Option Site
-siteAt image f = Option·map siteOf (recordAt image 72 f)
+siteAt image f = Option·map siteOf (recordAt image kind.Site f)
 
 abbrev pub subnetAt : List ℕ → Found → Option Subnet
-subnetAt image f = Option·map subnetOf (recordAt image 12 f)
+subnetAt image f = Option·map subnetOf (recordAt image kind.Subnet f)

@@ -1,227 +1,162 @@
--- Laws of the two halves: from what is found at places and among marks to what is said of the table.
+-- Laws of the two halves: from what is found at offsets and among marks to what is said of the table.
 use mathlib.Core.Path.{_≡_, refl, sym, ap, ap₂, _∙_, fun-ext}
-use mathlib.Core.Bool.{Bool, true, false, cond, not, _&&_, _||_, and-true, and-false, and-comm}
+use mathlib.Core.Bool.{Bool, true, false, not, _&&_, _||_, and-false, and-comm}
 use mathlib.Core.List.{List, map}
-use mathlib.Core.Option.{none, some}
+use mathlib.Core.Option.{Option, none, some}
 use Prim.Native.Nat.{ℕ, _/_, _≤_, _<_}
 use native.Mathlib.Omega.{arith}
-use lib.Dec.{eqb, leb}
-use lib.ListN.{length, getD, length-map}
+use lib.Dec.{leb}
+use lib.ListN.{length, take, length-map}
+use lib.Seq.{length-take-le}
 use borrow.Author.Tests.{le-leb, lt-leb}
-use Rattle.octets.specs.Lists.{all, any, unique, cut, holds}
+use Rattle.octets.specs.Lists.{all, any, unique, holds}
 use Rattle.octets.proofs.Laws.Lists.{all-map, any-map, unique-map, all-both, unique-either}
-use Rattle.octets.specs.Number.{u16At}
 use Rattle.octets.specs.Text.{same, within}
-use Rattle.table.specs.SameName.{sameDnsName}
-use Rattle.table.specs.Layout.{body}
-use Rattle.table.specs.Records.{contextOf, accountOf, siteOf, subnetOf, serverOf, contextNumber, siteNumber, siteOrNone, sameContext, sameSite}
-use Rattle.table.specs.Table.{Table, blockAt, blocksOf, bodies, recordsOf, tableOf, tableFrom}
+use Rattle.table.specs.declared.ContextNumber.{ContextNumber}
+use Rattle.table.specs.declared.SiteNumber.{SiteNumber}
+use Rattle.table.specs.declared.record.RecordKind.{RecordKind}
+use Rattle.table.specs.declared.record.RecordKind.the-variants as kind
+use Rattle.table.specs.Account.{accountOf}
+use Rattle.table.specs.Block.{blockAt, blocksOf, body}
+use Rattle.table.specs.Context.{contextOf}
+use Rattle.table.specs.Countings.{sameContext, sameSite}
+use Rattle.table.specs.SameName.{sameSid, sameDnsName}
+use Rattle.table.specs.Server.{serverOf, serverPlace}
+use Rattle.table.specs.Site.{siteOf}
+use Rattle.table.specs.Subnet.{subnetOf}
+use Rattle.table.specs.Table.{Table, recordsOf, tableOf, tableFrom}
+use Rattle.table.specs.Internal.RecordAt.{recordAt}
 use Rattle.table.proofs.Laws.Table.{block-there}
-use Rattle.table_whole.specs.Whole.{sameSid, contextsUnique, accountsUnique, sitesUnique, hasContext, hasSite, noneOr, refersRightly, goodWhole}
-use Rattle.table_whole.specs.declared.alike.Likeness.the-variants.{Contexts, Accounts}
-use Rattle.table_whole.specs.declared.refer.Reference.the-variants.{AccountContext, NextSite, SubnetSite}
-use Rattle.table_whole.specs.Internal.Alike.{alikeAt, contextsAlike}
-use Rattle.table_whole.specs.Internal.Half.{ContextMarks, SiteMarks, serverNumber, goodAccounts, goodContexts, contextHalf, goodNext, goodSubnets, goodSites, siteHalf}
-use Rattle.table_whole.specs.Internal.Mark.{Marked, sameNumber}
-use Rattle.table_whole.specs.Internal.Place.{recordsAt}
-use Rattle.table_whole.specs.Internal.Refer.{refersAt, markedOrNone, nextMarked}
+use Rattle.table_records.specs.declared.alike.Likeness.the-variants.{Contexts, Accounts}
+use Rattle.table_records.specs.Internal.Alike.{alikeAt, contextsAlike}
+use Rattle.table_whole.specs.Whole.{contextsUnique, accountsUnique, sitesUnique, hasContext, hasSite, noneOr, refersRightly, goodWhole}
+use Rattle.table_whole.specs.declared.refer.Referrer.the-variants.{Site, Subnet}
+use Rattle.table_whole.specs.Internal.Half.{AllOf, SiteMarks, goodAccounts, goodContexts, contextHalf, goodNext, goodSubnets, goodReferences, goodSites, siteHalf}
+use Rattle.table_whole.specs.Internal.Mark.{isMarked, Marked, sameSiteAt}
+use Rattle.table_whole.specs.Internal.Refer.{hasNumber, inContexts, isMarkedOrNone, isOtherOrNone, refersAt}
 
--- tests of what is made from records, over the places of these records
-module _ {A : Type 0} (f : List ℕ → A) (image : List ℕ) (w : ℕ) (places : List ℕ) (records : List (List ℕ)) (e : recordsAt image w places ≡ records) where
-  all-at : (p : A → Bool) → all (λ q. p (f (cut image q w))) places ≡ all p (map f records)
-  all-at p = sym (ap (λ (rs : List (List ℕ)). all p (map f rs)) (sym e) ∙ all-map f p (recordsAt image w places) ∙ all-map (λ q. cut image q w) (λ r. p (f r)) places)
+-- tests of what is made from the records of a kind, over their offsets
+module _ {A : Type 0} (f : List ℕ → A) (kind : RecordKind) (image offsets : List ℕ) (e : AllOf kind image offsets) where
+  all-at : (p : A → Bool) → all (λ q. p (f (recordAt image kind q))) offsets ≡ all p (map f (recordsOf kind (blocksOf image)))
+  all-at p = sym (ap (λ (rs : List (List ℕ)). all p (map f rs)) (sym e) ∙ all-map f p (map (recordAt image kind) offsets) ∙ all-map (recordAt image kind) (λ r. p (f r)) offsets)
 
-  any-at : (p : A → Bool) → any (λ q. p (f (cut image q w))) places ≡ any p (map f records)
-  any-at p = sym (ap (λ (rs : List (List ℕ)). any p (map f rs)) (sym e) ∙ any-map f p (recordsAt image w places) ∙ any-map (λ q. cut image q w) (λ r. p (f r)) places)
+  any-at : (p : A → Bool) → any (λ q. p (f (recordAt image kind q))) offsets ≡ any p (map f (recordsOf kind (blocksOf image)))
+  any-at p = sym (ap (λ (rs : List (List ℕ)). any p (map f rs)) (sym e) ∙ any-map f p (map (recordAt image kind) offsets) ∙ any-map (recordAt image kind) (λ r. p (f r)) offsets)
 
-  unique-at : (alike : A → A → Bool) → unique (λ p q. alike (f (cut image p w)) (f (cut image q w))) places ≡ unique alike (map f records)
-  unique-at alike = sym (ap (λ (rs : List (List ℕ)). unique alike (map f rs)) (sym e) ∙ unique-map f alike (recordsAt image w places) ∙ unique-map (λ q. cut image q w) (λ r s. alike (f r) (f s)) places)
+  unique-at : (alike : A → A → Bool) → unique (λ p q. alike (f (recordAt image kind p)) (f (recordAt image kind q))) offsets ≡ unique alike (map f (recordsOf kind (blocksOf image)))
+  unique-at alike = sym (ap (λ (rs : List (List ℕ)). unique alike (map f rs)) (sym e) ∙ unique-map f alike (map (recordAt image kind) offsets) ∙ unique-map (recordAt image kind) (λ r s. alike (f r) (f s)) offsets)
 
-pub server-number : (image : List ℕ) (at : ℕ) → 512 ≤ length image → u16At (body (blockAt image 0)) at ≡ serverNumber (blocksOf image) at
-unfolding serverNumber
-server-number image at h =
+  count-at : length (map f (recordsOf kind (blocksOf image))) ≡ length offsets
+  count-at = length-map (recordsOf kind (blocksOf image)) f ∙ ap length (sym e) ∙ length-map offsets (recordAt image kind)
+
+-- as many of the offsets as were found
+pub found-count : (n most : ℕ) (s : List ℕ) → length s ≡ most → n ≤ most → n ≡ length (take n s)
+found-count n most s e h = sym (length-take-le n s (rw e h))
+
+pub server-there : (image : List ℕ) → 512 ≤ length image → serverOf (body (blockAt image serverPlace)) ≡ tableFrom image .server
+unfolding tableOf
+server-there image h =
     let h0 : 0 < length image / 512 = omega arith in
-    ap (λ (b : List ℕ). u16At (body b) at) (sym (block-there image 0 h0))
+    ap (λ (b : List ℕ). serverOf (body b)) (sym (block-there image 0 h0))
 
--- accounts
-module _ (marks : List Bool) (image : List ℕ) (places : List ℕ) (e : recordsAt image 84 places ≡ recordsOf 4 6 84 (blocksOf image)) where
-  accounts-refer : ContextMarks marks (tableFrom image) → all (refersAt AccountContext marks image 84) places ≡ all (λ a. hasContext (tableFrom image) (a .context)) (tableFrom image .accounts)
-  unfolding tableOf accountOf
-  accounts-refer m =
-      ap (λ (p : ℕ → Bool). all p places) (fun-ext (λ q. m .say (contextNumber (u16At (cut image q 84) 0))))
-      ∙ all-at accountOf image 84 places (recordsOf 4 6 84 (blocksOf image)) e (λ a. hasContext (tableFrom image) (a .context))
+-- contexts and their accounts
+module _ (image contexts : List ℕ) (e : AllOf kind.Context image contexts) where
+  pub context-found : (n : ContextNumber) → hasNumber image contexts n ≡ hasContext (tableFrom image) n
+  unfolding hasNumber hasContext tableOf
+  context-found n = any-at contextOf kind.Context image contexts e (λ c. sameContext (c .number) n)
 
-  accounts-unique : unique (alikeAt Accounts image 84) places ≡ accountsUnique (tableFrom image .accounts)
-  unfolding tableOf accountsUnique
-  accounts-unique = unique-at accountOf image 84 places (recordsOf 4 6 84 (blocksOf image)) e _
-
-  pub lost-account : ContextMarks marks (tableFrom image) → all (refersAt AccountContext marks image 84) places ≡ false → false ≡ goodAccounts (tableFrom image)
-  unfolding goodAccounts
-  lost-account m f = sym (ap (λ (b : Bool). b && accountsUnique (tableFrom image .accounts)) (sym (accounts-refer m) ∙ f))
-
-  pub accounts-left : ContextMarks marks (tableFrom image) → all (refersAt AccountContext marks image 84) places ≡ true → unique (alikeAt Accounts image 84) places ≡ goodAccounts (tableFrom image)
-  unfolding goodAccounts
-  accounts-left m f = accounts-unique ∙ sym (ap (λ (b : Bool). b && accountsUnique (tableFrom image .accounts)) (sym (accounts-refer m) ∙ f))
-
--- marks of context numbers, and of site numbers
-module _ (marks : List Bool) (image : List ℕ) (places : List ℕ) (size : length marks ≡ 65536) where
-  pub context-marks : recordsAt image 504 places ≡ bodies 3 (blocksOf image) → Marked marks image 504 places → ContextMarks marks (tableFrom image)
-  unfolding tableOf contextOf hasContext
-  context-marks e seen =
-      record {
-        size = size;
-        say = λ n. seen (n .0) ∙ any-at contextOf image 504 places (bodies 3 (blocksOf image)) e (λ c. sameContext (c .number) n);
-      }
-
-  pub site-marks : recordsAt image 72 places ≡ recordsOf 5 7 72 (blocksOf image) → Marked marks image 72 places → SiteMarks marks (tableFrom image)
-  unfolding tableOf siteOf hasSite
-  site-marks e seen =
-      record {
-        size = size;
-        say = λ n. seen (n .0) ∙ any-at siteOf image 72 places (recordsOf 5 7 72 (blocksOf image)) e (λ s. sameSite (s .number) n);
-      }
-
--- contexts, test by test
-module _ (image : List ℕ) (places : List ℕ) (e : recordsAt image 504 places ≡ bodies 3 (blocksOf image)) where
-  contexts-unique : contextsUnique (tableFrom image .contexts) ≡ (unique (sameNumber image 504) places && unique (alikeAt Contexts image 504) places)
-  unfolding tableOf contextOf contextsUnique
-  contexts-unique =
+  pub contexts-alike : unique (alikeAt Contexts image) contexts ≡ contextsUnique (tableFrom image .contexts)
+  unfolding tableOf contextsUnique
+  contexts-alike =
       let cs = tableFrom image .contexts in
-      let number = unique (λ c d. sameContext (c .number) (d .number)) cs in
-      let guid = unique (λ c d. same (c .guid) (d .guid)) cs in
-      let sid = unique (λ c d. sameSid (c .sid) (d .sid)) cs in
-      let dns = unique (λ c d. sameDnsName (c .dns) (d .dns)) cs in
-      shift number guid sid dns
-      ∙ ap₂ (λ (m n : Bool). m && n)
-      (sym (unique-at contextOf image 504 places (bodies 3 (blocksOf image)) e (λ c d. sameContext (c .number) (d .number))))
-      (ap (λ (b : Bool). b && dns) (unique-either (λ c d. same (c .guid) (d .guid)) (λ c d. sameSid (c .sid) (d .sid)) cs)
-      ∙ unique-either (λ c d. same (c .guid) (d .guid) || sameSid (c .sid) (d .sid)) (λ c d. sameDnsName (c .dns) (d .dns)) cs
-      ∙ sym (unique-at contextOf image 504 places (bodies 3 (blocksOf image)) e contextsAlike))
-    where
-      shift : (a b c d : Bool) → (((a && b) && c) && d) ≡ (a && ((b && c) && d))
-      shift true b c d = refl
-      shift false b c d = refl
+      unique-at contextOf kind.Context image contexts e contextsAlike
+      ∙ sym (ap (λ (b : Bool). (b && unique (λ c d. sameSid (c .sid) (d .sid)) cs) && unique (λ c d. sameDnsName (c .dns) (d .dns)) cs) (unique-either (λ c d. sameContext (c .number) (d .number)) (λ c d. same (c .guid) (d .guid)) cs)
+      ∙ ap (λ (b : Bool). b && unique (λ c d. sameDnsName (c .dns) (d .dns)) cs) (unique-either (λ c d. sameContext (c .number) (d .number) || same (c .guid) (d .guid)) (λ c d. sameSid (c .sid) (d .sid)) cs)
+      ∙ unique-either (λ c d. (sameContext (c .number) (d .number) || same (c .guid) (d .guid)) || sameSid (c .sid) (d .sid)) (λ c d. sameDnsName (c .dns) (d .dns)) cs)
 
-  contexts-tests : goodContexts (tableFrom image)
-      ≡ (((unique (sameNumber image 504) places && unique (alikeAt Contexts image 504) places) && hasContext (tableFrom image) (tableFrom image .server .defaultContext)) && goodAccounts (tableFrom image))
-  unfolding goodContexts
-  contexts-tests = ap (λ (b : Bool). (b && hasContext (tableFrom image) (tableFrom image .server .defaultContext)) && goodAccounts (tableFrom image)) contexts-unique
+  pub accounts-good : (accounts : List ℕ) → AllOf kind.Account image accounts
+      → (all (inContexts image contexts) accounts && unique (alikeAt Accounts image) accounts) ≡ goodAccounts (tableFrom image)
+  unfolding tableOf goodAccounts accountsUnique
+  accounts-good accounts a =
+      ap₂ (λ (p q : Bool). p && q)
+      (ap (λ (p : ℕ → Bool). all p accounts) (fun-ext (λ q. context-found (accountOf (recordAt image kind.Account q) .context))) ∙ all-at accountOf kind.Account image accounts a (λ a. hasContext (tableFrom image) (a .context)))
+      (unique-at accountOf kind.Account image accounts a _)
 
-  pub contexts-number : unique (sameNumber image 504) places ≡ false → false ≡ goodContexts (tableFrom image)
-  contexts-number a = rw (contexts-tests, a)
-
-  module _ (a : unique (sameNumber image 504) places ≡ true) where
-    pub contexts-alike : unique (alikeAt Contexts image 504) places ≡ false → false ≡ goodContexts (tableFrom image)
-    contexts-alike b = rw (contexts-tests, a, b)
-
-    module _ (b : unique (alikeAt Contexts image 504) places ≡ true) where
-      pub contexts-default : hasContext (tableFrom image) (tableFrom image .server .defaultContext) ≡ false → false ≡ goodContexts (tableFrom image)
-      contexts-default d = rw (contexts-tests, a, b, d)
-
-      pub contexts-accounts : hasContext (tableFrom image) (tableFrom image .server .defaultContext) ≡ true → goodAccounts (tableFrom image) ≡ goodContexts (tableFrom image)
-      contexts-accounts d = rw (contexts-tests, a, b, d)
-
-  contexts-count : length (tableFrom image .contexts) ≡ length places
+  contexts-count : length (tableFrom image .contexts) ≡ length contexts
   unfolding tableOf
-  contexts-count = length-map (bodies 3 (blocksOf image)) contextOf ∙ ap length (sym e) ∙ length-map places (λ q. cut image q 504)
+  contexts-count = count-at contextOf kind.Context image contexts e
 
-  pub no-context : length places ≡ 0 → false ≡ contextHalf (tableFrom image)
+  pub no-context : length contexts ≡ 0 → false ≡ contextHalf (tableFrom image)
   unfolding contextHalf
   no-context z = rw (contexts-count, z)
 
-  pub many-contexts : 16 < length places → false ≡ contextHalf (tableFrom image)
+  pub many-contexts : 16 < length contexts → false ≡ contextHalf (tableFrom image)
   unfolding contextHalf
-  many-contexts h = rw (contexts-count, lt-leb (length places) 16 h, le-leb 1 (length places) (omega arith))
+  many-contexts h = rw (contexts-count, lt-leb (length contexts) 16 h, le-leb 1 (length contexts) (omega arith))
 
-  pub some-contexts : (length places ≡ 0 → ⊥) → length places ≤ 16 → goodContexts (tableFrom image) ≡ contextHalf (tableFrom image)
+  pub some-contexts : (length contexts ≡ 0 → ⊥) → length contexts ≤ 16 → goodContexts (tableFrom image) ≡ contextHalf (tableFrom image)
   unfolding contextHalf
-  some-contexts n h = rw (contexts-count, le-leb (length places) 16 h, le-leb 1 (length places) (omega arith))
+  some-contexts n h = rw (contexts-count, le-leb (length contexts) 16 h, le-leb 1 (length contexts) (omega arith))
 
-pub default-marked : (marks : List Bool) (image : List ℕ) → ContextMarks marks (tableFrom image)
-    → getD marks (serverNumber (blocksOf image) 14) false ≡ hasContext (tableFrom image) (tableFrom image .server .defaultContext)
-unfolding tableOf serverOf serverNumber
-default-marked marks image m = m .say (contextNumber (serverNumber (blocksOf image) 14))
+-- sites referred to, where there is one
+module _ (marks : List ℕ) (t : Table) (m : SiteMarks marks t) where
+  none-or-marked : (o : Option SiteNumber) → isMarkedOrNone marks o ≡ noneOr (hasSite t) o
+  none-or-marked none = refl
+  none-or-marked (some n) = m .say n
 
-pub own-marked : (marks : List Bool) (image : List ℕ) → SiteMarks marks (tableFrom image)
-    → getD marks (serverNumber (blocksOf image) 12) false ≡ hasSite (tableFrom image) (tableFrom image .server .site)
-unfolding tableOf serverOf serverNumber
-own-marked marks image m = m .say (siteNumber (serverNumber (blocksOf image) 12))
+other-or-none : (own : SiteNumber) (o : Option SiteNumber) → isOtherOrNone own o ≡ not (holds (sameSite own) o)
+other-or-none own none = refl
+other-or-none own (some n) = refl
 
--- sites referred to: 0 means none
-module _ (marks : List Bool) (t : Table) (m : SiteMarks marks t) where
-  none-or-marked : (n : ℕ) → markedOrNone marks n ≡ noneOr (hasSite t) (siteOrNone n)
-  none-or-marked n = go (eqb n 0)
-    where
-      go : (b : Bool) → cond b true (getD marks n false) ≡ noneOr (hasSite t) (cond b none (some (siteNumber n)))
-      go true = refl
-      go false = m .say (siteNumber n)
+pub subnets-refer : (marks image subnets : List ℕ) → AllOf kind.Subnet image subnets → SiteMarks marks (tableFrom image)
+    → all (refersAt Subnet marks image) subnets ≡ goodSubnets (tableFrom image)
+unfolding tableOf goodSubnets
+subnets-refer marks image subnets e m =
+    ap (λ (p : ℕ → Bool). all p subnets) (fun-ext (λ q. none-or-marked marks (tableFrom image) m (subnetOf (recordAt image kind.Subnet q) .site)))
+    ∙ all-at subnetOf kind.Subnet image subnets e (λ n. noneOr (hasSite (tableFrom image)) (n .site))
 
-  next-marked : (own next : ℕ) → nextMarked marks own next ≡ (noneOr (hasSite t) (siteOrNone next) && not (holds (sameSite (siteNumber own)) (siteOrNone next)))
-  next-marked own next = go (eqb next 0)
-    where
-      other : (b : Bool) → cond b false (getD marks next false) ≡ (hasSite t (siteNumber next) && not b)
-      other true = sym (and-false (hasSite t (siteNumber next)))
-      other false = m .say (siteNumber next) ∙ sym (and-true (hasSite t (siteNumber next)))
+-- sites
+module _ (image sites : List ℕ) (e : AllOf kind.Site image sites) where
+  pub site-marks : (marks : List ℕ) → length marks ≡ 8192 → Marked marks image sites → SiteMarks marks (tableFrom image)
+  unfolding tableOf hasSite
+  site-marks marks size seen = record { size = size; say = λ n. seen n ∙ any-at siteOf kind.Site image sites e (λ s. sameSite (s .number) n) }
 
-      go : (b : Bool) → cond b true (cond (eqb own next) false (getD marks next false)) ≡ (noneOr (hasSite t) (cond b none (some (siteNumber next))) && not (holds (sameSite (siteNumber own)) (cond b none (some (siteNumber next)))))
-      go true = refl
-      go false = other (eqb own next)
-
-pub subnets-refer : (marks : List Bool) (image : List ℕ) (places : List ℕ) → recordsAt image 12 places ≡ recordsOf 6 42 12 (blocksOf image) → SiteMarks marks (tableFrom image)
-    → all (refersAt SubnetSite marks image 12) places ≡ goodSubnets (tableFrom image)
-unfolding tableOf subnetOf goodSubnets
-subnets-refer marks image places e m =
-    ap (λ (p : ℕ → Bool). all p places) (fun-ext (λ q. none-or-marked marks (tableFrom image) m (u16At (cut image q 12) 6)))
-    ∙ all-at subnetOf image 12 places (recordsOf 6 42 12 (blocksOf image)) e (λ n. noneOr (hasSite (tableFrom image)) (n .site))
-
--- sites, test by test
-module _ (image : List ℕ) (places : List ℕ) (e : recordsAt image 72 places ≡ recordsOf 5 7 72 (blocksOf image)) where
-  sites-unique : sitesUnique (tableFrom image .sites) ≡ unique (sameNumber image 72) places
-  unfolding tableOf siteOf sitesUnique
-  sites-unique = sym (unique-at siteOf image 72 places (recordsOf 5 7 72 (blocksOf image)) e (λ s t. sameSite (s .number) (t .number)))
-
-  pub next-refer : (marks : List Bool) → SiteMarks marks (tableFrom image) → all (refersAt NextSite marks image 72) places ≡ goodNext (tableFrom image)
-  unfolding tableOf siteOf goodNext
-  next-refer marks m =
+  pub sites-refer : (marks : List ℕ) → SiteMarks marks (tableFrom image) → all (refersAt Site marks image) sites ≡ goodNext (tableFrom image)
+  unfolding tableOf goodNext
+  sites-refer marks m =
       let t = tableFrom image in
-      ap (λ (p : ℕ → Bool). all p places) (fun-ext (λ q. next-marked marks t m (u16At (cut image q 72) 0) (u16At (cut image q 72) 66)))
-      ∙ all-at siteOf image 72 places (recordsOf 5 7 72 (blocksOf image)) e (λ s. noneOr (hasSite t) (s .next) && not (holds (sameSite (s .number)) (s .next)))
+      ap (λ (p : ℕ → Bool). all p sites)
+      (fun-ext (λ q. let s = siteOf (recordAt image kind.Site q) in ap₂ (λ (a b : Bool). a && b) (none-or-marked marks t m (s .next)) (other-or-none (s .number) (s .next))))
+      ∙ all-at siteOf kind.Site image sites e (λ s. noneOr (hasSite t) (s .next) && not (holds (sameSite (s .number)) (s .next)))
       ∙ sym (all-both (λ s. noneOr (hasSite t) (s .next)) (λ s. not (holds (sameSite (s .number)) (s .next))) (t .sites))
 
-  sites-tests : goodSites (tableFrom image)
-      ≡ (((unique (sameNumber image 72) places && hasSite (tableFrom image) (tableFrom image .server .site)) && goodNext (tableFrom image)) && goodSubnets (tableFrom image))
+  sites-unique : unique (sameSiteAt image) sites ≡ sitesUnique (tableFrom image .sites)
+  unfolding tableOf sitesUnique
+  sites-unique = unique-at siteOf kind.Site image sites e (λ s t. sameSite (s .number) (t .number))
+
+  pub sites-twice : unique (sameSiteAt image) sites ≡ false → false ≡ goodSites (tableFrom image)
   unfolding goodSites
-  sites-tests = ap (λ (b : Bool). ((b && hasSite (tableFrom image) (tableFrom image .server .site)) && goodNext (tableFrom image)) && goodSubnets (tableFrom image)) sites-unique
+  sites-twice f = rw (sym sites-unique ∙ f)
 
-  pub sites-number : unique (sameNumber image 72) places ≡ false → false ≡ goodSites (tableFrom image)
-  sites-number a = rw (sites-tests, a)
+  pub sites-once : unique (sameSiteAt image) sites ≡ true → goodReferences (tableFrom image) ≡ goodSites (tableFrom image)
+  unfolding goodSites
+  sites-once t = rw (sym sites-unique ∙ t)
 
-  module _ (a : unique (sameNumber image 72) places ≡ true) where
-    pub sites-own : hasSite (tableFrom image) (tableFrom image .server .site) ≡ false → false ≡ goodSites (tableFrom image)
-    sites-own b = rw (sites-tests, a, b)
-
-    module _ (b : hasSite (tableFrom image) (tableFrom image .server .site) ≡ true) where
-      pub sites-next : goodNext (tableFrom image) ≡ false → false ≡ goodSites (tableFrom image)
-      sites-next d = rw (sites-tests, a, b, d)
-
-      pub sites-subnets : goodNext (tableFrom image) ≡ true → goodSubnets (tableFrom image) ≡ goodSites (tableFrom image)
-      sites-subnets d = rw (sites-tests, a, b, d)
-
-  sites-count : length (tableFrom image .sites) ≡ length places
+  sites-count : length (tableFrom image .sites) ≡ length sites
   unfolding tableOf
-  sites-count = length-map (recordsOf 5 7 72 (blocksOf image)) siteOf ∙ ap length (sym e) ∙ length-map places (λ q. cut image q 72)
+  sites-count = count-at siteOf kind.Site image sites e
 
-  pub no-site : length places ≡ 0 → false ≡ siteHalf (tableFrom image)
+  pub no-site : length sites ≡ 0 → false ≡ siteHalf (tableFrom image)
   unfolding siteHalf
   no-site z = rw (sites-count, z)
 
-  pub some-sites : (length places ≡ 0 → ⊥) → goodSites (tableFrom image) ≡ siteHalf (tableFrom image)
+  pub some-sites : (length sites ≡ 0 → ⊥) → goodSites (tableFrom image) ≡ siteHalf (tableFrom image)
   unfolding siteHalf
-  some-sites n = rw (sites-count, le-leb 1 (length places) (omega arith))
+  some-sites n = rw (sites-count, le-leb 1 (length sites) (omega arith))
 
 -- the two halves are the whole
 halves : (t : Table) → (contextHalf t && siteHalf t) ≡ goodWhole t
-unfolding contextHalf goodContexts goodAccounts siteHalf goodSites goodNext goodSubnets goodWhole refersRightly
+unfolding contextHalf goodContexts goodAccounts siteHalf goodSites goodReferences goodNext goodSubnets goodWhole refersRightly
 halves t =
     go
     (within 1 16 (length (t .contexts)))
@@ -244,7 +179,7 @@ halves t =
     rest true true true true sr ns = and-comm ns sr
 
     go : (w l ca sa aa hs hc ar nr sr ns : Bool)
-        → ((w && ((ca && hc) && (ar && aa))) && (l && (((sa && hs) && (nr && ns)) && sr))) ≡ ((((((w && l) && ca) && sa) && aa) && ((((hs && hc) && ar) && nr) && sr)) && ns)
+        → ((w && ((ca && hc) && (ar && aa))) && (l && (sa && ((hs && (nr && ns)) && sr)))) ≡ ((((((w && l) && ca) && sa) && aa) && ((((hs && hc) && ar) && nr) && sr)) && ns)
     go false l ca sa aa hs hc ar nr sr ns = refl
     go true false ca sa aa hs hc ar nr sr ns = and-false ((ca && hc) && (ar && aa))
     go true true false sa aa hs hc ar nr sr ns = refl

@@ -1,25 +1,36 @@
--- Numbers marked as seen: one mark for each of 65,536.
+-- Site numbers marked as seen: a bit for each of 65,536, eight in an octet.
 use mathlib.Core.Path.{_≡_}
-use mathlib.Core.Bool.{Bool, true, false}
+use mathlib.Core.Bool.{Bool, true}
 use mathlib.Core.List.{List}
-use Prim.Native.Nat.{ℕ}
+use Prim.Native.Nat.{ℕ, _/_, _%_, _^_}
+use lib.Bits.{bitOr}
 use lib.Dec.{eqb}
-use lib.ListN.{getD, drop}
-use Rattle.octets.specs.Lists.{any, unique, cut}
-use Rattle.octets.specs.Number.{u16At}
+use lib.ListN.{getD, set, drop}
+use Rattle.octets.specs.Lists.{any, unique}
+use Rattle.table.specs.declared.SiteNumber.{SiteNumber}
+use Rattle.table.specs.declared.record.RecordKind.the-variants as kind
+use Rattle.table.specs.Countings.{sameSite}
+use Rattle.table.specs.Site.{Site, siteOf}
+use Rattle.table.specs.Internal.RecordAt.{recordAt}
 
--- the number that the record at a place starts with
-abbrev pub numberAt : List ℕ → ℕ → ℕ → ℕ
-numberAt image w place = u16At (cut image place w) 0
+unfoldable pub isMarked : List ℕ → SiteNumber → Bool
+isMarked marks n = eqb (getD marks (n .0 / 8) 0 / 2 ^ (n .0 % 8) % 2) 1
 
-abbrev pub sameNumber : List ℕ → ℕ → ℕ → ℕ → Bool
-sameNumber image w p q = eqb (numberAt image w p) (numberAt image w q)
+unfoldable pub withMark : List ℕ → SiteNumber → List ℕ
+withMark marks n = set marks (n .0 / 8) (bitOr (getD marks (n .0 / 8) 0) (2 ^ (n .0 % 8)))
 
--- a number is marked exactly where a record at one of the places has it
-abbrev pub Marked : List Bool → List ℕ → ℕ → List ℕ → Type 0
-Marked marks image w places = (k : ℕ) → getD marks k false ≡ any (λ p. eqb (numberAt image w p) k) places
+-- the number of the site at an offset
+abbrev pub numberAt : List ℕ → ℕ → SiteNumber
+numberAt image offset = siteOf (recordAt image kind.Site offset) .number
 
--- from a place on, all numbers are marked, and no two are the same
-pub record Seen (marks : List Bool) (image : List ℕ) (w : ℕ) (places : List ℕ) (left : ℕ) : Type 0 where
-  pub marked : Marked marks image w (drop left places)
-  pub unique : unique (sameNumber image w) (drop left places) ≡ true
+abbrev pub sameSiteAt : List ℕ → ℕ → ℕ → Bool
+sameSiteAt image p q = sameSite (numberAt image p) (numberAt image q)
+
+-- a number is marked exactly where a site at one of the offsets has it
+abbrev pub Marked : List ℕ → List ℕ → List ℕ → Type 0
+Marked marks image offsets = (n : SiteNumber) → isMarked marks n ≡ any (λ p. sameSite (numberAt image p) n) offsets
+
+-- from an index on, all numbers are marked, and no two are the same
+pub record Seen (marks : List ℕ) (image : List ℕ) (offsets : List ℕ) (left : ℕ) : Type 0 where
+  pub marked : Marked marks image (drop left offsets)
+  pub uniquely : unique (sameSiteAt image) (drop left offsets) ≡ true

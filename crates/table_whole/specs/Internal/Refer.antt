@@ -1,27 +1,46 @@
--- References of records, as they are looked up among marks.
-use mathlib.Core.Bool.{Bool, true, false, cond}
+-- References of records, by what is found of the contexts and among the marks.
+use mathlib.Core.Bool.{Bool, not, _&&_}
 use mathlib.Core.List.{List}
+use mathlib.Core.Option.{Option}
 use Prim.Native.Nat.{ℕ}
-use lib.Dec.{eqb}
-use lib.ListN.{getD}
-use Rattle.octets.specs.Lists.{cut}
-use Rattle.octets.specs.Number.{u16At}
-use Rattle.table_whole.specs.declared.refer.Reference.{Reference}
-use Rattle.table_whole.specs.declared.refer.Reference.the-variants.{AccountContext, NextSite, SubnetSite}
+use Rattle.octets.specs.Lists.{any}
+use Rattle.table.specs.declared.ContextNumber.{ContextNumber}
+use Rattle.table.specs.declared.SiteNumber.{SiteNumber}
+use Rattle.table.specs.declared.record.RecordKind.{RecordKind}
+use Rattle.table.specs.declared.record.RecordKind.the-variants as kind
+use Rattle.table.specs.Account.{accountOf}
+use Rattle.table.specs.Context.{contextOf}
+use Rattle.table.specs.Countings.{sameContext, sameSite}
+use Rattle.table.specs.Site.{siteOf}
+use Rattle.table.specs.Subnet.{subnetOf}
+use Rattle.table.specs.Internal.RecordAt.{recordAt}
+use Rattle.table_whole.specs.declared.refer.Referrer.{Referrer}
+use Rattle.table_whole.specs.declared.refer.Referrer.the-variants.{Site, Subnet}
+use Rattle.table_whole.specs.Whole.{noneOr}
+use Rattle.table_whole.specs.Internal.Mark.{isMarked}
 
--- 0 means none
-abbrev pub markedOrNone : List Bool → ℕ → Bool
-markedOrNone marks n = cond (eqb n 0) true (getD marks n false)
+-- one of the contexts at offsets has a number
+unfoldable pub hasNumber : List ℕ → List ℕ → ContextNumber → Bool
+hasNumber image contexts n = any (λ q. sameContext (contextOf (recordAt image kind.Context q) .number) n) contexts
 
--- a site's next closest one: none, or another that is marked
-abbrev pub nextMarked : List Bool → ℕ → ℕ → Bool
-nextMarked marks own next = cond (eqb next 0) true (cond (eqb own next) false (getD marks next false))
+-- the context of the account at an offset is one of them
+abbrev pub inContexts : List ℕ → List ℕ → ℕ → Bool
+inContexts image contexts p = hasNumber image contexts (accountOf (recordAt image kind.Account p) .context)
 
-abbrev pub refersBy : Reference → List Bool → List ℕ → Bool
-refersBy AccountContext marks r = getD marks (u16At r 0) false
-refersBy NextSite marks r = nextMarked marks (u16At r 0) (u16At r 66)
-refersBy SubnetSite marks r = markedOrNone marks (u16At r 6)
+abbrev pub isMarkedOrNone : List ℕ → Option SiteNumber → Bool
+isMarkedOrNone marks = noneOr (isMarked marks)
 
--- of the record at a place
-abbrev pub refersAt : Reference → List Bool → List ℕ → ℕ → ℕ → Bool
-refersAt reference marks image w p = refersBy reference marks (cut image p w)
+abbrev pub isOtherOrNone : SiteNumber → Option SiteNumber → Bool
+isOtherOrNone own = noneOr (λ n. not (sameSite own n))
+
+abbrev pub kindOf : Referrer → RecordKind
+kindOf Site = kind.Site
+kindOf Subnet = kind.Subnet
+
+abbrev pub refersBy : Referrer → List ℕ → List ℕ → Bool
+refersBy Site marks r = isMarkedOrNone marks (siteOf r .next) && isOtherOrNone (siteOf r .number) (siteOf r .next)
+refersBy Subnet marks r = isMarkedOrNone marks (subnetOf r .site)
+
+-- of the record at an offset
+abbrev pub refersAt : Referrer → List ℕ → List ℕ → ℕ → Bool
+refersAt referrer marks image p = refersBy referrer marks (recordAt image (kindOf referrer) p)

@@ -1,7 +1,7 @@
 -- Elements that were written, read back where they stand.
 use mathlib.Core.Path.{_≡_, refl, sym, ap, _∙_}
 use mathlib.Core.List.{List, [], _∷_, _++_, append-assoc}
-use mathlib.Core.Option.{some}
+use mathlib.Core.Option.{some, bind}
 use Prim.Native.Nat.{ℕ, _+_, _-_, _/_, _%_, _≤_, _<_}
 use native.Mathlib.Nat.{add-zero}
 use native.Mathlib.Omega.{arith}
@@ -10,21 +10,21 @@ use lib.ListN.{length, getD, take, drop, length-append}
 use lib.Seq.{getD-drop, drop-drop, drop-append-seam, take-append-seam}
 use Rattle.octets.specs.Lists.{cut}
 use Rattle.octets.specs.Number.{little, big}
-use Rattle.filter.specs.declared.Found.{Found}
-use Rattle.filter.specs.declared.ClauseName.{ClauseName}
-use Rattle.filter.specs.declared.Size.the-variants as size
+use Rattle.filter.specs.declared.position.ElementLength.the-variants as length
+use Rattle.filter.specs.declared.position.RawClause.{RawClause}
+use Rattle.filter.specs.declared.request.ClauseName.{ClauseName}
 use Rattle.filter.specs.Request.{spelling}
-use Rattle.filter.specs.Shape.{Element, elementAt, equality, lengthWidth}
-use Rattle.filter.specs.Internal.Step.{sizeAt}
-use Rattle.filter.proofs.Laws.Step.{width-one, width-two, size-of, value-at, element-sized, ends-within}
+use Rattle.filter.specs.Filter.{equalityTag, stringTag, Element, elementAt, equality, lengthWidth}
+use Rattle.filter.specs.Internal.Position.{lengthAt}
+use Rattle.filter.proofs.Laws.Position.{width-one, width-two, length-of, value-at, element-known, ends-within}
 use Rattle.filter_write.specs.Write.{lengthOctets, element, equalityFor}
 use Rattle.filter_write.proofs.Laws.Write.{octets-one, octets-two, octets-three}
 use Rattle.filter_write.specs.Internal.Size.{headSize, elementSize}
 use Rattle.filter_write.proofs.Laws.Size.{by-size, head-two, head-three, head-four, head-length, head-bounds, element-length}
 
--- what stands behind the first octets of a stretch
-pub behind : (s xs ys : List ℕ) (at n : ℕ) → drop at s ≡ xs ++ ys → length xs ≡ n → drop (at + n) s ≡ ys
-behind s xs ys at n e l =
+-- what stands after the first octets of a stretch
+pub after : (s xs ys : List ℕ) (at n : ℕ) → drop at s ≡ xs ++ ys → length xs ≡ n → drop (at + n) s ≡ ys
+after s xs ys at n e l =
     sym (drop-drop n at s) ∙ ap (drop n) e ∙ ap (λ (k : ℕ). drop k (xs ++ ys)) (sym l) ∙ drop-append-seam xs ys
 
 -- the octets themselves
@@ -46,81 +46,81 @@ module _ (s : List ℕ) (at end tag : ℕ) (xs rest : List ℕ) (here : drop at 
   by-octets : (first : ℕ) (more : List ℕ) → lengthOctets n ≡ first ∷ more → (getD s (at + 1) 0 ≡ first) × (drop (at + 2) s ≡ more ++ (xs ++ rest))
   by-octets first more e =
       let d : drop at s ≡ tag ∷ first ∷ (more ++ (xs ++ rest)) = opened ∙ ap (λ (l : List ℕ). (tag ∷ l) ++ (xs ++ rest)) e in
-      (octet s (tag ∷ first ∷ (more ++ (xs ++ rest))) at 1 d, behind s (tag ∷ first ∷ []) (more ++ (xs ++ rest)) at 2 d refl)
+      (octet s (tag ∷ first ∷ (more ++ (xs ++ rest))) at 1 d, after s (tag ∷ first ∷ []) (more ++ (xs ++ rest)) at 2 d refl)
 
   -- the length is read as it was written
-  pub size-back : n < 65536 → at + headSize n ≤ end → sizeAt s at end ≡ size.Of (at + headSize n) n
+  pub length-back : n < 65536 → at + headSize n ≤ end → lengthAt s at end ≡ length.Of (at + headSize n) n
   unfolding big little
-  size-back below fits =
-      by-size n (sizeAt s at end ≡ size.Of (at + headSize n) n)
+  length-back below fits =
+      by-size n (lengthAt s at end ≡ length.Of (at + headSize n) n)
       (λ h.
       let o = by-octets n [] (octets-one n h) in
       let w : lengthWidth (getD s (at + 1) 0) ≡ some 0 = ap lengthWidth (o .0) ∙ rw (lt-ltb n 0x80 h) in
       let z = head-two n h in
-      size-of s at end 0 (at + headSize n) n w (omega arith) (o .0) fits)
+      length-of s at end 0 (at + headSize n) n w (omega arith) (o .0) fits)
       (λ h k.
       let o = by-octets 0x81 (n ∷ []) (octets-two n h k) in
       let v : big (cut s (at + 2) 1) ≡ n = ap big (stands s (n ∷ []) (xs ++ rest) (at + 2) 1 (o .1) refl) ∙ omega arith in
       let z = head-three n h k in
-      size-of s at end 1 (at + headSize n) n (width-one (o .0)) (omega arith) (value-at s at end 0 ∙ v) fits)
+      length-of s at end 1 (at + headSize n) n (width-one (o .0)) (omega arith) (value-at s at end 0 ∙ v) fits)
       (λ h.
       let o = by-octets 0x82 ((n / 256 % 256) ∷ (n % 256) ∷ []) (octets-three n h) in
       let v : big (cut s (at + 2) 2) ≡ n = ap big (stands s ((n / 256 % 256) ∷ (n % 256) ∷ []) (xs ++ rest) (at + 2) 2 (o .1) refl) ∙ omega arith in
       let z = head-four n h in
-      size-of s at end 2 (at + headSize n) n (width-two (o .0)) (omega arith) (value-at s at end 1 ∙ v) fits)
+      length-of s at end 2 (at + headSize n) n (width-two (o .0)) (omega arith) (value-at s at end 1 ∙ v) fits)
 
   -- and so is the element
   pub element-back : n < 65536 → at + elementSize n ≤ end → elementAt s at end ≡ some (record { tag = tag; start = at + headSize n; next = at + headSize n + n })
   element-back below fits =
       let b = head-bounds n in
       let t : getD s at 0 ≡ tag = ap (λ (k : ℕ). getD s k 0) (sym (add-zero at)) ∙ octet s ((tag ∷ lengthOctets n) ++ (xs ++ rest)) at 0 opened in
-      element-sized s at end (at + headSize n) n (omega arith) (size-back below (omega arith))
+      element-known s at end (at + headSize n) n (omega arith) (length-back below (omega arith))
       ∙ ends-within (getD s at 0) (at + headSize n) n end (omega arith)
       ∙ (λ i. some (record { tag = t i; start = at + headSize n; next = at + headSize n + n }))
 
-  -- the contents, and what stands behind them
+  -- the contents, and what stands after them
   pub contents-back : drop (at + headSize n) s ≡ xs ++ rest
-  contents-back = behind s (tag ∷ lengthOctets n) (xs ++ rest) at (headSize n) opened (head-length tag n)
+  contents-back = after s (tag ∷ lengthOctets n) (xs ++ rest) at (headSize n) opened (head-length tag n)
 
 -- a clause that was written, as it is found again: its element, its name and its value
 pub record Again (s : List ℕ) (at end : ℕ) (name : ClauseName) (value : List ℕ) : Type 0 where
   pub element : Element
-  pub found : Found
+  pub clause : RawClause
   pub there : elementAt s at end ≡ some element
-  pub tagged : element .tag ≡ 0xA3
+  pub tagged : element .tag ≡ equalityTag
   pub ends : element .next ≡ at + length (equalityFor name (some value))
-  pub reads : equality s (element .start) (element .next) ≡ some found
-  pub named : cut s (found .«name_start») (found .«name_len») ≡ spelling name
-  pub valued : cut s (found .start) (found .len) ≡ value
+  pub reads : equality s (element .start) (element .next) ≡ some clause
+  pub named : cut s (clause .«name_start») (clause .«name_len») ≡ spelling name
+  pub valued : cut s (clause .start) (clause .len) ≡ value
 
 pub equality-back : (s : List ℕ) (at end : ℕ) (name : ClauseName) (value rest : List ℕ) → drop at s ≡ equalityFor name (some value) ++ rest → at + length (equalityFor name (some value)) ≤ end → end < 65536 → Again s at end name value
-unfolding equality
+unfolding equality bind
 equality-back s at end name value rest here fits below =
-    let x : List ℕ = element 0x04 (spelling name) in
-    let y : List ℕ = element 0x04 value in
-    let lx : length x ≡ elementSize (length (spelling name)) = element-length 0x04 (spelling name) in
-    let ly : length y ≡ elementSize (length value) = element-length 0x04 value in
+    let x : List ℕ = element stringTag (spelling name) in
+    let y : List ℕ = element stringTag value in
+    let lx : length x ≡ elementSize (length (spelling name)) = element-length stringTag (spelling name) in
+    let ly : length y ≡ elementSize (length value) = element-length stringTag value in
     let lxy : length (x ++ y) ≡ length x + length y = length-append x y in
-    let l : length (equalityFor name (some value)) ≡ elementSize (length (x ++ y)) = element-length 0xA3 (x ++ y) in
+    let l : length (equalityFor name (some value)) ≡ elementSize (length (x ++ y)) = element-length equalityTag (x ++ y) in
     let b = head-bounds (length (spelling name)) in
     let c = head-bounds (length value) in
     let start : ℕ = at + headSize (length (x ++ y)) in
     let next : ℕ = start + length (x ++ y) in
-    let e = element-back s at end 0xA3 (x ++ y) rest here (omega arith) (omega arith) in
-    let names : drop start s ≡ x ++ (y ++ rest) = contents-back s at end 0xA3 (x ++ y) rest here ∙ append-assoc x y rest in
+    let e = element-back s at end equalityTag (x ++ y) rest here (omega arith) (omega arith) in
+    let names : drop start s ≡ x ++ (y ++ rest) = contents-back s at end equalityTag (x ++ y) rest here ∙ append-assoc x y rest in
     let ns : ℕ = start + headSize (length (spelling name)) in
-    let n = element-back s start next 0x04 (spelling name) (y ++ rest) names (omega arith) (omega arith) in
-    let spelled : drop ns s ≡ spelling name ++ (y ++ rest) = contents-back s start next 0x04 (spelling name) (y ++ rest) names in
-    let values : drop (ns + length (spelling name)) s ≡ y ++ rest = behind s (spelling name) (y ++ rest) ns (length (spelling name)) spelled refl in
+    let n = element-back s start next stringTag (spelling name) (y ++ rest) names (omega arith) (omega arith) in
+    let spelled : drop ns s ≡ spelling name ++ (y ++ rest) = contents-back s start next stringTag (spelling name) (y ++ rest) names in
+    let values : drop (ns + length (spelling name)) s ≡ y ++ rest = after s (spelling name) (y ++ rest) ns (length (spelling name)) spelled refl in
     let vs : ℕ = ns + length (spelling name) + headSize (length value) in
-    let v = element-back s (ns + length (spelling name)) next 0x04 value rest values (omega arith) (omega arith) in
-    let given : drop vs s ≡ value ++ rest = contents-back s (ns + length (spelling name)) next 0x04 value rest values in
+    let v = element-back s (ns + length (spelling name)) next stringTag value rest values (omega arith) (omega arith) in
+    let given : drop vs s ≡ value ++ rest = contents-back s (ns + length (spelling name)) next stringTag value rest values in
     let filled : vs + length value ≡ next = omega arith in
     let nl : ns + length (spelling name) - ns ≡ length (spelling name) = omega arith in
     let vl : vs + length value - vs ≡ length value = omega arith in
     record {
-      element = record { tag = 0xA3; start = start; next = next };
-      found = record { «name_start» = ns; «name_len» = ns + length (spelling name) - ns; start = vs; len = vs + length value - vs };
+      element = record { tag = equalityTag; start = start; next = next };
+      clause = record { «name_start» = ns; «name_len» = ns + length (spelling name) - ns; start = vs; len = vs + length value - vs };
       there = e;
       tagged = refl;
       ends = omega arith;

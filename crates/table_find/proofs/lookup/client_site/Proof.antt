@@ -3,10 +3,11 @@ use mathlib.Core.Option.{some, Option·map}
 use mathlib.Core.List.{List}
 use mathlib.Core.Path.{_≡_, sym, ap, subst, _∙_}
 use lib.ListN.{length}
-use Rattle.octets.proofs.Laws.Lists.{cut-length}
 use Rattle.octets.specs.Lists.{first, cut}
-use Rattle.table.specs.Records.{siteOf}
-use Rattle.table.specs.Table.{blocksOf, tableOf, tableFrom}
+use Rattle.table.specs.Site.{siteOf}
+use Rattle.table.specs.declared.record.RecordKind.the-variants as kind
+use Rattle.table.specs.Table.{tableFrom}
+use Rattle.table_whole.proofs.Laws.Judgement.{accepted-sites}
 use Rattle.table.specs.declared.SiteNumber.{SiteNumber}
 use Rattle.table_find.specs.Internal.Key.{isSite}
 use Rattle.table_find.specs.Internal.Found.{LiesIn, siteAt}
@@ -18,28 +19,28 @@ use Rattle.table_find.proofs.lookup.client_site.Statement.{statement}
 use Rattle.table_find.proofs.lookup.client_site.Tie as tie
 
 -- the first site, where it stands
-first-there : (c : tie.After-at)
-    → some (siteOf (cut (c .before .before .before .before .before .args .image .now) (c .at .given .0 .0) 72))
+first-there : (c : tie.After-offset)
+    → some (siteOf (cut (c .before .before .before .before .before .args .image .now) (c .offset .given .0 .0) 72))
     ≡ first (isSite Any) (tableFrom (c .before .before .before .before .before .args .image .now) .sites)
 first-there c =
-    ap (siteAt (c .before .before .before .before .before .args .image .now)) (sym (c .at .given .1))
+    ap (siteAt (c .before .before .before .before .before .args .image .now)) (sym (c .offset .given .1))
     ∙ ap (Option·map siteOf) (c .before .before .first-record .ensures .0)
     ∙ site-search _ _ Any
 
-lies-there : (c : tie.After-at) → c .at .given .0 .0 + 72 ≤ length (c .before .before .before .before .before .args .image .now)
-lies-there c = subst (LiesIn (c .before .before .before .before .before .args .image .now) 72) (c .at .given .1) (c .before .before .first-record .ensures .1)
+lies-there : (c : tie.After-offset) → c .offset .given .0 .0 + 72 ≤ length (c .before .before .before .before .before .args .image .now)
+lies-there c = subst (LiesIn (c .before .before .before .before .before .args .image .now) kind.Site) (c .offset .given .1) (c .before .before .first-record .ensures .1)
 
 -- the first site of another number
 another : (c : tie.After-first-record2)
     → siteAt (c .before .before .before .before .before .before .before .before .before .before .args .image .now) (c .first-record2 .result)
     ≡ first
-    (isSite (OtherThan (siteOf (cut (c .before .before .before .before .before .before .before .before .before .before .args .image .now) (c .before .before .before .before .before .at .given .0 .0) 72) .number)))
+    (isSite (OtherThan (siteOf (cut (c .before .before .before .before .before .before .before .before .before .before .args .image .now) (c .before .before .before .before .before .offset .given .0 .0) 72) .number)))
     (tableFrom (c .before .before .before .before .before .before .before .before .before .before .args .image .now) .sites)
 another c =
     let s = c .before .before .before .before .before .before .before .before .before .before .args .image .now in
-    let number = c .before .before .site-number .ensures ∙ ap (λ (r : List ℕ). siteOf r .number) (c .before .before .before .part .ensures) in
+    let number = c .before .before .number .ensures ∙ ap (λ (r : List ℕ). siteOf r .number) (c .before .before .before .part .ensures) in
     ap (Option·map siteOf) (c .first-record2 .ensures .0)
-    ∙ site-search _ _ (OtherThan (c .before .before .site-number .result))
+    ∙ site-search _ _ (OtherThan (c .before .before .number .result))
     ∙ ap (λ (n : SiteNumber). first (isSite (OtherThan n)) (tableFrom s .sites)) number
 
 slice-aggregate-first-record : tie.Need-slice-aggregate-first-record
@@ -48,8 +49,8 @@ slice-aggregate-first-record c = search needs
 first-record-requires : tie.Need-first-record-requires
 first-record-requires c κs = search needs
 
-enum-known-at : tie.Need-enum-known-at
-enum-known-at c = search needs
+enum-known-offset : tie.Need-enum-known-offset
+enum-known-offset c = search needs
 
 enum-told : tie.Need-enum-told
 enum-told c = search needs
@@ -65,8 +66,8 @@ returns c =
 part-requires : tie.Need-part-requires
 part-requires c κs = search needs
 
-site-number-requires : tie.Need-site-number-requires
-site-number-requires c κs = ap length (c .part .ensures) ∙ cut-length _ _ 72 (lies-there (c .before .before))
+number-requires : tie.Need-number-requires
+number-requires c κs = search needs
 
 slice-aggregate-first-record-2 : tie.Need-slice-aggregate-first-record-2
 slice-aggregate-first-record-2 c = search needs
@@ -98,7 +99,7 @@ returns-3 c =
     let t = tableFrom (a .image .now) in
     let p = c .before .before .before .before .before .before .before in
     let none-other = ap (siteAt (a .image .now)) (sym (c .enum-told3 .given .1)) ∙ another (c .before .before) in
-    (lone-site t (a .caller) (t .sites) _ (p .before .before .before .before .before .pre .1) (first-there p) none-other, lies-there p)
+    (lone-site t (a .caller) (t .sites) _ (accepted-sites (a .image .now) (p .before .before .before .before .before .pre)) (first-there p) none-other, lies-there p)
 
 pub client-site-spec : {M : Type 1} → statement M
 client-site-spec =
@@ -106,11 +107,11 @@ client-site-spec =
     (tie.spec
     slice-aggregate-first-record
     first-record-requires
-    enum-known-at
+    enum-known-offset
     enum-told
     returns
     part-requires
-    site-number-requires
+    number-requires
     slice-aggregate-first-record-2
     first-record-requires-2
     enum-told-2

@@ -1,5 +1,5 @@
 use mathlib.Core.Path.{ap, _∙_}
-use Rattle.table.specs.Records.{Server}
+use Rattle.table.specs.Server.{Server}
 use Rattle.table.specs.Table.{tableFrom}
 use Rattle.table_find.specs.Find.{contextByNumber, defaultContext}
 use borrow.Author.Needs.{needs}
@@ -9,8 +9,8 @@ use Rattle.table_find.proofs.lookup.default_context.Tie as tie
 server-of-requires : tie.Need-server-of-requires
 server-of-requires c κs = search needs
 
-default-context-number-requires : tie.Need-default-context-number-requires
-default-context-number-requires c κs = search needs
+default-context-requires : tie.Need-default-context-requires
+default-context-requires c κs = search needs
 
 context-by-number-requires : tie.Need-context-by-number-requires
 context-by-number-requires c κs = search needs
@@ -19,7 +19,7 @@ returns : tie.Need-returns
 unfolding defaultContext
 returns c =
     let t = tableFrom (c .before .before .before .before .args .image .now) in
-    let number = c .before .default-context-number .ensures ∙ ap (λ (s : Server). s .defaultContext) (c .before .before .server-of .ensures .0) in
+    let number = c .before .default-context .ensures ∙ ap (λ (s : Server). s .defaultContext) (c .before .before .server-of .ensures) in
     (c .context-by-number .ensures .0 ∙ ap (contextByNumber t) number, c .context-by-number .ensures .1)
 
 pub default-context-spec : {M : Type 1} → statement M
@@ -27,6 +27,6 @@ default-context-spec =
     tie.close
     (tie.spec
     server-of-requires
-    default-context-number-requires
+    default-context-requires
     context-by-number-requires
     returns)

@@ -1,6 +1,6 @@
 use mathlib.Core.Option.{Option·map}
 use mathlib.Core.Path.{ap, _∙_}
-use Rattle.table.specs.Records.{siteOf}
+use Rattle.table.specs.Site.{siteOf}
 use Rattle.table_find.specs.Find.{siteByNumber}
 use Rattle.table_find.proofs.Laws.Find.{site-search}
 use borrow.Author.Needs.{needs}

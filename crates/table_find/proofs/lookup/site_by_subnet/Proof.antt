@@ -1,11 +1,9 @@
 use Prim.Native.Nat.{ℕ}
 use mathlib.Core.List.{List}
-use mathlib.Core.Path.{sym, ap, subst, _∙_}
-use lib.ListN.{length}
-use Rattle.octets.proofs.Laws.Lists.{cut-length}
-use Rattle.table.specs.Records.{subnetOf}
+use mathlib.Core.Path.{sym, ap, _∙_}
+use Rattle.table.specs.Subnet.{subnetOf}
 use Rattle.table.specs.Table.{tableFrom}
-use Rattle.table_find.specs.Internal.Found.{LiesIn, subnetAt}
+use Rattle.table_find.specs.Internal.Found.{subnetAt}
 use Rattle.table_find.specs.Find.{siteIfAny, siteOfSubnet}
 use borrow.Author.Needs.{needs}
 use Rattle.table_find.proofs.lookup.site_by_subnet.Statement.{statement}
@@ -14,16 +12,14 @@ use Rattle.table_find.proofs.lookup.site_by_subnet.Tie as tie
 subnet-for-requires : tie.Need-subnet-for-requires
 subnet-for-requires c κs = search needs
 
-enum-known-at : tie.Need-enum-known-at
-enum-known-at c = search needs
+enum-known-offset : tie.Need-enum-known-offset
+enum-known-offset c = search needs
 
 part-requires : tie.Need-part-requires
 part-requires c κs = search needs
 
-subnet-site-requires : tie.Need-subnet-site-requires
-subnet-site-requires c κs =
-    let s = c .before .before .before .before .before .before .args .image .now in
-    ap length (c .part .ensures) ∙ cut-length s (c .before .before .at .given .0 .0) 12 (subst (LiesIn s 12) (c .before .before .at .given .1) (c .before .before .before .before .subnet-for .ensures .1))
+site-requires : tie.Need-site-requires
+site-requires c κs = search needs
 
 site-if-any-requires : tie.Need-site-if-any-requires
 site-if-any-requires c κs = search needs
@@ -35,8 +31,8 @@ returns : tie.Need-returns
 returns c =
     let s = c .before .before .before .before .before .before .before .before .args .image .now in
     let t = tableFrom s in
-    let site = c .before .subnet-site .ensures ∙ ap (λ (r : List ℕ). subnetOf r .site) (c .before .before .part .ensures) in
-    let subnet = ap (subnetAt s) (sym (c .before .before .before .before .at .given .1)) ∙ c .before .before .before .before .before .before .subnet-for .ensures .0 in
+    let site = c .before .site .ensures ∙ ap (λ (r : List ℕ). subnetOf r .site) (c .before .before .part .ensures) in
+    let subnet = ap (subnetAt s) (sym (c .before .before .before .before .offset .given .1)) ∙ c .before .before .before .before .before .before .subnet-for .ensures .0 in
     (c .site-if-any .ensures .0 ∙ ap (siteIfAny t) site ∙ ap (siteOfSubnet t) subnet, c .site-if-any .ensures .1)
 
 returns-2 : tie.Need-returns-2
@@ -50,9 +46,9 @@ site-by-subnet-spec =
     tie.close
     (tie.spec
     subnet-for-requires
-    enum-known-at
+    enum-known-offset
     part-requires
-    subnet-site-requires
+    site-requires
     site-if-any-requires
     enum-told
     returns

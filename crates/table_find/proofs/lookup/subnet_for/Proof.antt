@@ -1,12 +1,11 @@
 use Prim.Native.Nat.{ℕ}
 use lib.ListN.{take}
-use Rattle.table.specs.Table.{blocksOf}
+use Rattle.table.specs.Block.{blocksOf}
 use Rattle.table_find.specs.Internal.Search.{firstIn}
 use Rattle.table_find.specs.declared.search.Key.the-variants as key
-use Rattle.table_find.specs.declared.search.RecordKey.the-variants as by
 use mathlib.Core.Option.{Option·map}
 use mathlib.Core.Path.{ap, _∙_}
-use Rattle.table.specs.Records.{subnetOf}
+use Rattle.table.specs.Subnet.{subnetOf}
 use Rattle.table_find.proofs.Laws.Find.{subnet-search}
 use borrow.Author.Needs.{needs}
 use Rattle.table_find.proofs.lookup.subnet_for.Statement.{statement}
@@ -24,7 +23,7 @@ first-record-requires c κs = search needs
 returns : tie.Need-returns
 returns c =
     let a = c .before .before .before .before .args in
-    let found = c .first-record .ensures .0 ∙ ap (λ (n : ℕ). firstIn (key.Used (by.Subnet n)) (take 0 (a .image .now)) (blocksOf (a .image .now))) (c .before .before .caller-number .ensures) in
+    let found = c .first-record .ensures .0 ∙ ap (λ (n : ℕ). firstIn (key.Subnet n) (take 0 (a .image .now)) (blocksOf (a .image .now))) (c .before .before .caller-number .ensures) in
     (ap (Option·map subnetOf) found ∙ subnet-search _ _ (a .caller), c .first-record .ensures .1)
 
 pub subnet-for-spec : {M : Type 1} → statement M

@@ -1,47 +1,53 @@
-use lib.ListN.{getD}
-use borrow.Author.Tests.{not-true, not-false}
-use Rattle.table_whole.specs.Internal.Refer.{refersBy, refersAt}
-use Rattle.octets.proofs.Laws.Lists.{all-fails, all-next, all-end}
-use Rattle.octets.specs.Lists.{all}
-use native.Mathlib.Omega.{arith}
-use lib.ListN.{length, drop}
 use mathlib.Core.Path.{_≡_, refl, sym, ap, _∙_}
 use Prim.Native.Nat.{_-_, _≤_}
+use native.Mathlib.Omega.{arith}
+use lib.ListN.{length, getD, drop}
 use borrow.Author.Needs.{needs}
+use borrow.Author.Tests.{not-true, not-false}
+use Rattle.octets.specs.Lists.{all}
+use Rattle.octets.proofs.Laws.Lists.{all-fails, all-next, all-end}
+use Rattle.table.specs.declared.record.RecordKind.{RecordKind}
+use Rattle.table.specs.Internal.RecordAt.{recordAt}
+use Rattle.table_whole.specs.Internal.Refer.{refersBy, refersAt}
 use Rattle.table_whole.proofs.refer.all_refer.Statement.{statement}
 use Rattle.table_whole.proofs.refer.all_refer.Tie as tie
 
 abbrev Inv-loop : tie.InvT-loop
-Inv-loop image places w reference marks i₀ i = let t = refersAt reference marks image w in (i ≤ length places) × (all t (drop i places) ≡ all t places)
+Inv-loop image offsets referrer marks i₀ i = let t = refersAt referrer marks image in (i ≤ length offsets) × (all t (drop i offsets) ≡ all t offsets)
 
 abbrev μ-loop : tie.MeasureT-loop
-μ-loop image places w reference marks i₀ i = length places - i
+μ-loop image offsets referrer marks i₀ i = length offsets - i
 
 loop-holds : tie.Need-loop-holds Inv-loop μ-loop
 loop-holds c = (omega arith, refl)
 
-mul-part : tie.Need-mul-part Inv-loop μ-loop
-mul-part c = search needs
+kind-of-requires : tie.Need-kind-of-requires Inv-loop μ-loop
+kind-of-requires c κs = search needs
 
-shared-slice-read-part : tie.Need-shared-slice-read-part Inv-loop μ-loop
-shared-slice-read-part c = search needs
+mul-record-at : tie.Need-mul-record-at Inv-loop μ-loop
+mul-record-at c = search needs
 
-part-requires : tie.Need-part-requires Inv-loop μ-loop
-part-requires c κs = search needs
+shared-slice-read-record-at : tie.Need-shared-slice-read-record-at Inv-loop μ-loop
+shared-slice-read-record-at c = search needs
+
+record-at-requires : tie.Need-record-at-requires Inv-loop μ-loop
+record-at-requires c κs = search needs
 
 refers-requires : tie.Need-refers-requires Inv-loop μ-loop
 refers-requires c κs = search needs
 
 -- what was found of the record at i
-here : (c : tie.After-refers Inv-loop μ-loop)
-    → let a = c .before .before .before .before .before .before .before .before .args in refersAt (a .reference) (a .marks .now) (a .image .now) (a .w) (getD (a .places .now) (c .before .before .before .before .loop .i) 0) ≡ c .refers .result
-here c = let a = c .before .before .before .before .before .before .before .before .args in sym (c .refers .ensures ∙ ap (refersBy (a .reference) (a .marks .now)) (c .before .part .ensures))
+here : (c : tie.After-refers Inv-loop μ-loop) → let a = c .before .before .before .before .before .before .before .before .before .args in refersAt (a .referrer) (a .marks .now) (a .image .now) (getD (a .offsets .now) (c .before .before .before .before .before .loop .i) 0) ≡ c .refers .result
+here c =
+    let a = c .before .before .before .before .before .before .before .before .before .args in
+    let offset = getD (a .offsets .now) (c .before .before .before .before .before .loop .i) 0 in
+    sym (c .refers .ensures ∙ ap (refersBy (a .referrer) (a .marks .now)) (c .before .record-at .ensures ∙ ap (λ (k : RecordKind). recordAt (a .image .now) k offset) (c .before .before .before .kind-of .ensures)))
 
 returns : tie.Need-returns Inv-loop μ-loop
 returns c =
-    let a = c .before .before .before .before .before .before .before .before .before .args in
-    let l = c .before .before .before .before .before .loop in
-    all-fails (refersAt (a .reference) (a .marks .now) (a .image .now) (a .w)) (a .places .now) (l .i) 0 (omega arith) (here (c .before) ∙ not-true _ (c .if1 .taken)) ∙ l .inv .1
+    let a = c .before .before .before .before .before .before .before .before .before .before .args in
+    let l = c .before .before .before .before .before .before .loop in
+    all-fails (refersAt (a .referrer) (a .marks .now) (a .image .now)) (a .offsets .now) (l .i) 0 (omega arith) (here (c .before) ∙ not-true _ (c .if1 .taken)) ∙ l .inv .1
 
 add-i : tie.Need-add-i Inv-loop μ-loop
 add-i c = search needs
@@ -51,15 +57,15 @@ loop-less c = search needs
 
 loop-again : tie.Need-loop-again Inv-loop μ-loop
 loop-again c =
-    let a = c .before .before .before .before .before .before .before .before .before .args in
-    let l = c .before .before .before .before .before .loop in
-    (omega arith, all-next (refersAt (a .reference) (a .marks .now) (a .image .now) (a .w)) (a .places .now) (l .i) 0 (omega arith) (here (c .before) ∙ not-false _ (c .if1 .left)) ∙ l .inv .1)
+    let a = c .before .before .before .before .before .before .before .before .before .before .args in
+    let l = c .before .before .before .before .before .before .loop in
+    (omega arith, all-next (refersAt (a .referrer) (a .marks .now) (a .image .now)) (a .offsets .now) (l .i) 0 (omega arith) (here (c .before) ∙ not-false _ (c .if1 .left)) ∙ l .inv .1)
 
 returns-2 : tie.Need-returns-2 Inv-loop μ-loop
 returns-2 c =
     let a = c .before .before .before .before .before .args in
     let l = c .before .loop in
-    all-end (refersAt (a .reference) (a .marks .now) (a .image .now) (a .w)) (a .places .now) (l .i) (omega arith) ∙ l .inv .1
+    all-end (refersAt (a .referrer) (a .marks .now) (a .image .now)) (a .offsets .now) (l .i) (omega arith) ∙ l .inv .1
 
 pub all-refer-spec : {M : Type 1} → statement M
 all-refer-spec =
@@ -68,9 +74,10 @@ all-refer-spec =
     Inv-loop
     μ-loop
     loop-holds
-    mul-part
-    shared-slice-read-part
-    part-requires
+    kind-of-requires
+    mul-record-at
+    shared-slice-read-record-at
+    record-at-requires
     refers-requires
     returns
     add-i

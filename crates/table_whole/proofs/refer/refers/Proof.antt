@@ -1,8 +1,7 @@
-use Rattle.table_whole.specs.Internal.Refer.{markedOrNone, nextMarked}
-use lib.ListN.{getD}
-use Prim.Native.Nat.{ℕ}
-use mathlib.Core.Bool.{false}
-use mathlib.Core.Path.{ap, ap₂, _∙_}
+use mathlib.Core.Path.{sym, ap, ap₂, _∙_}
+use mathlib.Core.Bool.{Bool, _&&_}
+use Rattle.table_whole.specs.declared.refer.Referrer.{Referrer}
+use Rattle.table_whole.specs.Internal.Refer.{isMarkedOrNone, isOtherOrNone, refersBy}
 use borrow.Author.Needs.{needs}
 use Rattle.table_whole.proofs.refer.refers.Statement.{statement}
 use Rattle.table_whole.proofs.refer.refers.Tie as tie
@@ -10,62 +9,52 @@ use Rattle.table_whole.proofs.refer.refers.Tie as tie
 enum-told : tie.Need-enum-told
 enum-told c = search needs
 
-number-in-requires : tie.Need-number-in-requires
-number-in-requires c κs = search needs
+next-requires : tie.Need-next-requires
+next-requires c κs = search needs
 
-has-context-requires : tie.Need-has-context-requires
-has-context-requires c κs = search needs
+is-marked-or-none-requires : tie.Need-is-marked-or-none-requires
+is-marked-or-none-requires c κs = search needs
+
+number-requires : tie.Need-number-requires
+number-requires c κs = search needs
+
+is-other-or-none-requires : tie.Need-is-other-or-none-requires
+is-other-or-none-requires c κs = search needs
 
 enum-told-2 : tie.Need-enum-told-2
 enum-told-2 c = search needs
 
-number-in-requires-2 : tie.Need-number-in-requires-2
-number-in-requires-2 c κs = search needs
+site-requires : tie.Need-site-requires
+site-requires c κs = search needs
 
-number-in-requires-3 : tie.Need-number-in-requires-3
-number-in-requires-3 c κs = search needs
-
-has-next-requires : tie.Need-has-next-requires
-has-next-requires c κs = search needs
-
-enum-told-3 : tie.Need-enum-told-3
-enum-told-3 c = search needs
-
-number-in-requires-4 : tie.Need-number-in-requires-4
-number-in-requires-4 c κs = search needs
-
-has-site-or-none-requires : tie.Need-has-site-or-none-requires
-has-site-or-none-requires c κs = search needs
+is-marked-or-none-requires-2 : tie.Need-is-marked-or-none-requires-2
+is-marked-or-none-requires-2 c κs = search needs
 
 returns : tie.Need-returns
 returns c =
-    let m = c .before .before .before .before .before .before .args .marks .now in
-    rw (c .before .before .enum-told .given .1) (c .has-context .ensures ∙ ap (λ (k : ℕ). getD m k false) (c .before .number-in .ensures))
+    let a = c .before .before .before .before .before .before .before .before .args in
+    let next = c .before .before .before .next in
+    let other = c .is-other-or-none .ensures ∙ ap₂ isOtherOrNone (c .before .number .ensures) (next .ensures) in
+    ap₂ (λ (p q : Bool). p && q) (c .before .before .is-marked-or-none .ensures ∙ ap (isMarkedOrNone (a .marks .now)) (next .ensures)) other
+    ∙ ap (λ (k : Referrer). refersBy k (a .marks .now) (a .octets .now)) (sym (c .before .before .before .before .enum-told .given .1))
 
 returns-2 : tie.Need-returns-2
 returns-2 c =
-    let m = c .before .before .before .before .before .before .before .args .marks .now in
-    rw (c .before .before .before .enum-told2 .given .1) (c .has-next .ensures ∙ ap₂ (nextMarked m) (c .before .before .number-in2 .ensures) (c .before .number-in3 .ensures))
-
-returns-3 : tie.Need-returns-3
-returns-3 c =
-    let m = c .before .before .before .before .before .before .args .marks .now in
-    rw (c .before .before .enum-told3 .given .1) (c .has-site-or-none .ensures ∙ ap (markedOrNone m) (c .before .number-in4 .ensures))
+    let a = c .before .before .before .before .before .before .args in
+    c .is-marked-or-none2 .ensures ∙ ap (isMarkedOrNone (a .marks .now)) (c .before .site .ensures)
+    ∙ ap (λ (k : Referrer). refersBy k (a .marks .now) (a .octets .now)) (sym (c .before .before .enum-told2 .given .1))
 
 pub refers-spec : {M : Type 1} → statement M
 refers-spec =
     tie.close
     (tie.spec
     enum-told
-    number-in-requires
-    has-context-requires
+    next-requires
+    is-marked-or-none-requires
+    number-requires
+    is-other-or-none-requires
     enum-told-2
-    number-in-requires-2
-    number-in-requires-3
-    has-next-requires
-    enum-told-3
-    number-in-requires-4
-    has-site-or-none-requires
+    site-requires
+    is-marked-or-none-requires-2
     returns
-    returns-2
-    returns-3)
+    returns-2)

@@ -1,0 +1,109 @@
+//! The cost of judging a table image, as a ratio to the block checks of the same image in the same run, and the stack it takes.
+mod image;
+
+use image::{account, site, subnet, Image};
+use std::hint::black_box;
+use std::process::Command;
+use std::time::Instant;
+
+#[link(name = "bench", kind = "static")]
+extern "C" {
+    fn bench_judge(image: *const u8, length: usize) -> u8;
+    fn bench_checks(image: *const u8, length: usize) -> bool;
+}
+
+fn judge(image: &[u8]) -> u8 {
+    unsafe { bench_judge(image.as_ptr(), image.len()) }
+}
+
+fn checks(image: &[u8]) -> bool {
+    unsafe { bench_checks(image.as_ptr(), image.len()) }
+}
+
+/// Names of one length that differ at the end alone.
+fn long_name(k: usize) -> Vec<u8> {
+    format!("{:059}{:04}", 0, k).into_bytes()
+}
+
+/// Names as people have them: of several lengths, differing early.
+fn ordinary_name(k: usize) -> Vec<u8> {
+    let given = ["ann", "berit", "carl", "dagny", "erik", "frida", "gunnar", "helga", "ivar", "johanna"];
+    format!("{}.{}{}", given[k % 10], given[(k / 10) % 10], k / 100).into_bytes()
+}
+
+fn images() -> Vec<(&'static str, Image)> {
+    vec![
+        ("5 blocks, the sample table", Image::sample()),
+        ("128 blocks, sites", Image::full(5, 72, |k| site(k as u16 + 2, 1))),
+        ("128 blocks, subnets", Image::full(6, 12, |k| subnet(k, 1))),
+        ("128 blocks, ordinary accounts", Image::full(4, 84, |k| account(&ordinary_name(k * 7919 % 1000)))),
+        ("128 blocks, accounts that differ at the end", Image::full(4, 84, |k| account(&long_name(k * 7919 % 1000)))),
+        ("128 blocks, the same in order", Image::full(4, 84, |k| account(&long_name(k)))),
+        ("128 blocks, the same in falling order", Image::full(4, 84, |k| account(&long_name(999 - k)))),
+        ("128 blocks, the last account twice", Image::full(4, 84, |k| account(&long_name(k.min(741))))),
+    ]
+}
+
+/// The least time of 15 runs, each of several calls, in nanoseconds a call.
+fn least(calls: u32, work: impl Fn()) -> f64 {
+    (0..15)
+        .map(|_| {
+            let start = Instant::now();
+            for _ in 0..calls {
+                work();
+            }
+            start.elapsed().as_nanos() as f64 / f64::from(calls)
+        })
+        .fold(f64::MAX, f64::min)
+}
+
+fn times() {
+    println!("{:<46} {:>6} {:>12} {:>12} {:>7}", "image", "answer", "checks ns", "judge ns", "ratio");
+    for (name, image) in images() {
+        let octets = image.octets();
+        let calls = (4_000_000 / octets.len() as u32 / 16).max(4);
+        let check = least(calls, || {
+            black_box(checks(black_box(octets)));
+        });
+        let whole = least(calls, || {
+            black_box(judge(black_box(octets)));
+        });
+        println!("{:<46} {:>6} {:>12.0} {:>12.0} {:>7.1}", name, judge(octets), check, whole, whole / check);
+    }
+}
+
+/// Judges every image on a thread of a small stack; a stack too small ends the process.
+fn on_stack(kibibytes: usize) {
+    let run = || images().iter().map(|(_, image)| usize::from(judge(image.octets()))).sum::<usize>();
+    let all = images();
+    let thread = std::thread::Builder::new().stack_size(kibibytes * 1024);
+    let sum = thread
+        .spawn(move || all.iter().map(|(_, image)| usize::from(judge(image.octets()))).sum::<usize>())
+        .expect("a thread")
+        .join()
+        .expect("a sum");
+    assert_eq!(sum, run());
+}
+
+/// The least stack of a thread, a multiple of 4 KiB, on which every image is judged.
+fn stack() {
+    let own = std::env::current_exe().expect("the program's own path");
+    let holds = |kibibytes: usize| {
+        let status = Command::new(&own).arg("--on-stack").arg(kibibytes.to_string()).stderr(std::process::Stdio::null()).status();
+        status.is_ok_and(|s| s.success())
+    };
+    let least = (16..=1024).step_by(4).find(|&k| holds(k));
+    println!("least stack of a thread that judges them all: {:?} KiB (a thread of its own takes some of it)", least);
+}
+
+fn main() {
+    let arguments: Vec<String> = std::env::args().skip(1).collect();
+    if let [flag, kibibytes] = arguments.as_slice() {
+        if flag == "--on-stack" {
+            on_stack(kibibytes.parse().expect("a number of KiB"));
+            return;
+        }
+    }
+    times();
+    stack();
+}

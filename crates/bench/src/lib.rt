@@ -1,0 +1,31 @@
+// The calls that the programs of bench/ time, for Rust to link.
+ghost use mathlib.Core.Path.{_≡_};
+ghost use mathlib.Core.Bool.{_&&_};
+ghost use lib.Dec.{leb};
+ghost use lib.ListN.{length};
+ghost use Rattle.octets.specs.Lists.{all};
+ghost use Rattle.table.specs.Block.{blocksOf};
+ghost use Rattle.table_layout.specs.Check.{goodCheck};
+ghost use Rattle.table_whole.specs.Judgement.{tableIn, judgedAs, numberOf};
+use table_layout::check::good_checks;
+use table_whole::judge::judge;
+use table_whole::judge::judgement_number;
+
+// The number of an image's judgement.
+#[no_mangle]
+pub extern "C" fn bench_judge(image: &[u8]) -> u8
+    ensures { λ r. ⌜ r ≡ numberOf (judgedAs (tableIn (now (image .entry)))) ⌝ }
+{
+    judgement_number(judge(image))
+}
+
+// The checks of its blocks alone, as what the judgement is measured by; false for an image that is too long.
+#[no_mangle]
+pub extern "C" fn bench_checks(image: &[u8]) -> bool
+    ensures { λ r. ⌜ r ≡ (leb (length (now (image .entry))) 65536 && all goodCheck (blocksOf (now (image .entry)))) ⌝ }
+{
+    if 65536 < image.len() {
+        return false;
+    }
+    good_checks(image)
+}

@@ -1,0 +1,82 @@
+// The server, by the octets of its block's body.
+ghost use mathlib.Core.Path.{_≡_};
+ghost use Rattle.table.specs.Server.{serverOf};
+use crate::BlockPlace;
+use crate::ContextNumber;
+use crate::SiteNumber;
+use crate::field::TextField;
+use crate::field::text_in;
+use crate::field::u16_in;
+use crate::field::u32_in;
+use octets::part::part;
+
+pub const KIND: u8 = 1;
+
+pub const PLACE: BlockPlace = BlockPlace(0);
+
+const ROLES: usize = 0;
+
+const STATE: usize = 4;
+
+const ADDRESS: usize = 8;
+
+const SITE: usize = 12;
+
+const DEFAULT_CONTEXT: usize = 14;
+
+pub const NETBIOS: TextField = TextField {
+    offset: 16,
+    room: 15,
+};
+
+pub const HOST: TextField = TextField {
+    offset: 32,
+    room: 253,
+};
+
+// The bits past the twelve roles and past the four states.
+pub const OTHER_ROLES: u32 = 0xFFFFF000;
+
+pub const OTHER_STATE: u32 = 0xFFFFFFF0;
+
+pub fn roles(octets: &[u8]) -> u32
+    ensures { λ r. ⌜ r ≡ serverOf (now (octets .entry)) .roles ⌝ }
+{
+    u32_in(octets, ROLES)
+}
+
+pub fn state(octets: &[u8]) -> u32
+    ensures { λ r. ⌜ r ≡ serverOf (now (octets .entry)) .state ⌝ }
+{
+    u32_in(octets, STATE)
+}
+
+pub fn address(octets: &[u8]) -> &[u8]
+    ensures { λ r. ⌜ now r ≡ serverOf (now (octets .entry)) .address ⌝ }
+{
+    part(octets, ADDRESS, 4)
+}
+
+pub fn own_site(octets: &[u8]) -> SiteNumber
+    ensures { λ r. ⌜ r ≡ serverOf (now (octets .entry)) .site ⌝ }
+{
+    SiteNumber(u16_in(octets, SITE))
+}
+
+pub fn default_context(octets: &[u8]) -> ContextNumber
+    ensures { λ r. ⌜ r ≡ serverOf (now (octets .entry)) .defaultContext ⌝ }
+{
+    ContextNumber(u16_in(octets, DEFAULT_CONTEXT))
+}
+
+pub fn netbios(octets: &[u8]) -> &[u8]
+    ensures { λ r. ⌜ now r ≡ serverOf (now (octets .entry)) .netbios ⌝ }
+{
+    text_in(octets, NETBIOS)
+}
+
+pub fn host(octets: &[u8]) -> &[u8]
+    ensures { λ r. ⌜ now r ≡ serverOf (now (octets .entry)) .host ⌝ }
+{
+    text_in(octets, HOST)
+}
