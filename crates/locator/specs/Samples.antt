@@ -31,9 +31,9 @@ use Rattle.reader.specs.Reader as reader
 use Rattle.reply.specs.Reply.{u16, u32, text16, ending, opening, nt40Octets, responseHead, responseOctets, exHead, exOctets}
 use Rattle.table.specs.Address.{addressNumber, networkOf, isPrefixOnly, sharePrefix}
 use Rattle.table_layout.specs.Check.{grown, checkOf, goodCheck}
-use Rattle.table_layout.specs.Field.{zeros, textField}
+use Rattle.table_layout.specs.Field.{zeros, textField, lastText}
 use Rattle.table_whole.specs.Judgement.{goodLength, tableIn}
-use Rattle.table_layout.specs.Layout.{recordsLayout, serverLayout, forestLayout, contextLayout, accountLayout, siteLayout, subnetLayout, bodyLayout, blockLayout, layoutsFrom}
+use Rattle.table_layout.specs.Layout.{flagsLayout, recordsLayout, serverLayout, forestLayout, contextLayout, accountLayout, siteLayout, subnetLayout, bodyLayout, blockLayout, layoutsFrom}
 use Rattle.table.specs.Forest.{forestOf}
 use Rattle.table.specs.Server.{serverOf}
 use Rattle.table.specs.Context.{contextOf}
@@ -215,5 +215,5 @@ samples =
     ∷ []
 
 pub samples-hold : map (λ r. r .got) samples ≡ map (λ r. r .due) samples
-unfolding samples checked block example corp CORP DC1 dc1 HQ ann guid ipv4 image filter version six caller pings summary refusal P1 asks named elementAt equality one siblings andOf clausesOf isNamed strange twice requestOf requestIn wrongValue versionAsked pingIn lengthOctets element pointer label labelsAt nameAt namesAt lookAt walkFrom walk parts labels joined all any first keep unique pieces isDnsName isPlainName isAccountName little big littleOctets bigOctets has isSid same lower pointOctets pointsOctets utf16 lead follow pointsFrom isUtf8 octetsAt fixedAt reading.nameFrom reading.nameAt reader.namesAt opcodeIn numberAt tokensAt addressAt hasNextSite lastAt readEx text16 ending opening nt40Octets responseHead responseOctets exHead exOctets grown checkOf goodCheck zeros textField goodLength tableIn serverLayout forestLayout contextLayout accountLayout siteLayout subnetLayout recordsLayout bodyLayout blockLayout layoutsFrom serverOf forestOf contextOf accountOf siteOf subnetOf blocksOf bodies recordsOf tableOf sameAccountName contextsUnique accountsUnique sitesUnique hasContext hasSite refersRightly goodWhole answerTo wrongUser replyTo mayLogOn isKnown userUnknown formOf isHeldBack opcodeOf namesApplication exFlags responseFlags nextSite replyFor contextsSearched contextByGuid isNamedBy contextByDnsName holdsSid contextBySid contextByNumber defaultContext accountByName siteByNumber addressNumber networkOf isPrefixOnly sharePrefix inSubnet subnetFor clientSite contextUsed contextIn flatMap
+unfolding samples checked block example corp CORP DC1 dc1 HQ ann guid ipv4 image filter version six caller pings summary refusal P1 asks named elementAt equality one siblings andOf clausesOf isNamed strange twice requestOf requestIn wrongValue versionAsked pingIn lengthOctets element pointer label labelsAt nameAt namesAt lookAt walkFrom walk parts labels joined all any first keep unique pieces isDnsName isPlainName isAccountName little big littleOctets bigOctets has isSid same lower pointOctets pointsOctets utf16 lead follow pointsFrom isUtf8 octetsAt fixedAt reading.nameFrom reading.nameAt reader.namesAt opcodeIn numberAt tokensAt addressAt hasNextSite lastAt readEx text16 ending opening nt40Octets responseHead responseOctets exHead exOctets grown checkOf goodCheck zeros textField lastText goodLength tableIn serverLayout forestLayout contextLayout accountLayout siteLayout subnetLayout flagsLayout recordsLayout bodyLayout blockLayout layoutsFrom serverOf forestOf contextOf accountOf siteOf subnetOf blocksOf bodies recordsOf tableOf sameAccountName contextsUnique accountsUnique sitesUnique hasContext hasSite refersRightly goodWhole answerTo wrongUser replyTo mayLogOn isKnown userUnknown formOf isHeldBack opcodeOf namesApplication exFlags responseFlags nextSite replyFor contextsSearched contextByGuid isNamedBy contextByDnsName holdsSid contextBySid contextByNumber defaultContext accountByName siteByNumber addressNumber networkOf isPrefixOnly sharePrefix inSubnet subnetFor clientSite contextUsed contextIn flatMap
 samples-hold = refl
