@@ -10,7 +10,7 @@ use borrow.Author.Tests.{eqb-true, not-true, not-false, leb-true, le-leb, lt-leb
 use Rattle.answers.specs.declared.Refusal.the-variants.{ImageLength, BlockCheck, BlockLayout, TableWhole}
 use Rattle.answers.specs.Try.{good}
 use Rattle.answers.proofs.Laws.Try.{refusedIf-good}
-use Rattle.octets.specs.Lists.{all, any, cut, keep, holds, pieces}
+use Rattle.octets.specs.Lists.{all, any, keep, holds, pieces}
 use Rattle.octets.proofs.Laws.Lists.{Every, every-all, every-map, every-flat, every-keep, both-left, both-right, other-right, cut-length, pieces-wide}
 use Rattle.octets.specs.NameRule.{isDnsName, isNetbiosName, isSiteName}
 use Rattle.octets.proofs.Laws.NameRule.{Writable, dns-writable, netbios-writable, netbios-spoken, site-writable, empty-writable, empty-spoken}
