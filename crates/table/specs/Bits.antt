@@ -51,6 +51,13 @@ stateRpcInitialized = 0x4
 abbrev pub stateFrsPaused : ℕ
 stateFrsPaused = 0x8
 
+-- twelve roles and four states: numbers below these have no other bit
+abbrev pub rolesBound : ℕ
+rolesBound = 0x1000
+
+abbrev pub stateBound : ℕ
+stateBound = 0x10
+
 -- control bits, under their names in MS-SAMR 2.2.1.12
 abbrev pub USER-ACCOUNT-DISABLED : ℕ
 USER-ACCOUNT-DISABLED = 0x1

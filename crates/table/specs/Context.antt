@@ -11,12 +11,13 @@ use Rattle.octets.specs.Sid.{sidLength}
 use Rattle.table.specs.declared.ContextNumber.{ContextNumber}
 use Rattle.table.specs.declared.field.TextField.{TextField}
 use Rattle.table.specs.declared.record.RecordFormat.{RecordFormat}
+use Rattle.table.specs.Block.{bodySize}
 use Rattle.table.specs.Countings.{contextNumber}
 use Rattle.table.specs.Field.{textAt}
 
--- a context is the one record of its body
+-- a context is the whole of its body
 abbrev pub contextFormat : RecordFormat
-contextFormat = record { kind = 3; count = 1; width = 504 }
+contextFormat = record { kind = 3; count = 1; width = bodySize }
 
 -- an application context has no SID; others may have none too
 pub record Context : Type 0 where

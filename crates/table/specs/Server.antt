@@ -42,10 +42,3 @@ serverOf b =
       netbios = textAt b serverNetbios;
       host = textAt b serverHost;
     }
-
--- twelve roles and four states: numbers below these have no other bit
-abbrev pub rolesBound : ℕ
-rolesBound = 0x1000
-
-abbrev pub stateBound : ℕ
-stateBound = 0x10

@@ -33,7 +33,7 @@ bodies kind blocks = map body (keep (λ block. eqb (kindIn block) kind) blocks)
 abbrev pub isUsed : List ℕ → Bool
 isUsed r = not (allZero r)
 
--- the used records of a kind (a context is always used: its layout allows no number 0)
+-- the used records of a kind; a context's body of zeros is none either, and no table has one: its layout is refused with 3 before
 unfoldable pub recordsOf : RecordKind → List (List ℕ) → List (List ℕ)
 recordsOf kind blocks = keep isUsed (flatMap (recordsIn (formatOf kind)) (bodies (formatOf kind .kind) blocks))
 

@@ -3,6 +3,7 @@ ghost use mathlib.Core.Path.{_≡_};
 ghost use lib.Dec.{eqb};
 ghost use Rattle.table.specs.Context.{applicationOctet, hasSidOctet, sidAt, contextOf};
 use crate::ContextNumber;
+use crate::block::BODY_SIZE;
 use crate::field::TextField;
 use crate::field::octet_in;
 use crate::field::text_in;
@@ -14,7 +15,7 @@ use octets::part::part;
 pub const FORMAT: RecordFormat = RecordFormat {
     kind: 3,
     count: 1,
-    width: 504,
+    width: BODY_SIZE,
 };
 
 const NUMBER: usize = 0;

@@ -10,10 +10,11 @@ use table::ContextNumber;
 use table::account;
 use table::same_name::same_account_name;
 
-// Control bits: an account that is disabled, and the kinds of accounts that AAC speaks of.
-const DISABLED: u32 = 0x1;
+// A control bit, under its name in MS-SAMR 2.2.1.12.
+const USER_ACCOUNT_DISABLED: u32 = 0x1;
 
-const KINDS: u32 = 0x1D8;
+// The kinds of account that an AAC can allow.
+const ACCOUNT_KINDS: u32 = 0x1D8;
 
 // Whether it is the account of a name in a context.
 pub fn is_account(octets: &[u8], context: ContextNumber, name: &[u8]) -> bool
@@ -31,5 +32,5 @@ pub fn may_log_on(octets: &[u8], aac: u32) -> bool
     ensures { λ r. ⌜ r ≡ mayLogOn aac (accountOf (now (octets .entry))) ⌝ }
 {
     let control = account::control(octets);
-    !has_bits(control, DISABLED) & has_bits(aac & control, KINDS)
+    !has_bits(control, USER_ACCOUNT_DISABLED) & has_bits(aac & control, ACCOUNT_KINDS)
 }

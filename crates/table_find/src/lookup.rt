@@ -1,11 +1,13 @@
 // The lookups of document 01, "Choosing the answer", in an accepted image: the offset of a record, or nothing.
 ghost use mathlib.Core.Path.{_≡_};
+ghost use Rattle.octets.specs.Lists.{first};
 ghost use Rattle.table.specs.declared.record.RecordKind.the-variants as kind;
 ghost use Rattle.table.specs.Table.{tableFrom};
 ghost use Rattle.table.specs.Internal.Reference.{referred};
 ghost use Rattle.table_whole.specs.Judgement.{Accepted};
 ghost use Rattle.table_find.specs.Find.{contextByNumber, contextByGuid, contextByDnsName, contextBySid, defaultContext};
 ghost use Rattle.table_find.specs.Find.{accountByName, siteByNumber, siteIfAny, subnetFor, siteOfSubnet, clientSite};
+ghost use Rattle.table_find.specs.Internal.Key.{isSite};
 ghost use Rattle.table_find.specs.Internal.Found.{LiesIn, contextAt, accountAt, siteAt, subnetAt};
 use crate::search::ContextKey;
 use crate::search::Found;
@@ -71,12 +73,20 @@ pub fn account_by_name(image: &[u8], context: ContextNumber, name: &[u8]) -> Fou
     first_record(image, Key::Account(context), name)
 }
 
+fn first_site(image: &[u8], key: SiteKey) -> Found
+    requires { ⌜ Accepted (now image) ⌝ }
+    ensures { λ r. ⌜ siteAt (now (image .entry)) r ≡ first (isSite key) (tableFrom (now (image .entry)) .sites) ⌝ }
+    ensures { λ r. ⌜ LiesIn (now (image .entry)) kind.Site r ⌝ }
+{
+    first_record(image, Key::Site(key), &image[..0])
+}
+
 pub fn site_by_number(image: &[u8], number: SiteNumber) -> Found
     requires { ⌜ Accepted (now image) ⌝ }
     ensures { λ r. ⌜ siteAt (now (image .entry)) r ≡ siteByNumber (tableFrom (now (image .entry))) number ⌝ }
     ensures { λ r. ⌜ LiesIn (now (image .entry)) kind.Site r ⌝ }
 {
-    first_record(image, Key::Site(SiteKey::Number(number)), &image[..0])
+    first_site(image, SiteKey::Number(number))
 }
 
 // The site that is referred to, if any.
@@ -121,13 +131,11 @@ pub fn client_site(image: &[u8], caller: Caller) -> Found
     ensures { λ r. ⌜ siteAt (now (image .entry)) r ≡ clientSite (tableFrom (now (image .entry))) caller ⌝ }
     ensures { λ r. ⌜ LiesIn (now (image .entry)) kind.Site r ⌝ }
 {
-    let any = Key::Site(SiteKey::Any);
-    let Found::At(offset) = first_record(image, any, &image[..0]) else {
+    let Found::At(offset) = first_site(image, SiteKey::Any) else {
         return Found::Nothing;
     };
     let number = site::number(part(image, offset, site::FORMAT.width));
-    let other = Key::Site(SiteKey::OtherThan(number));
-    match first_record(image, other, &image[..0]) {
+    match first_site(image, SiteKey::OtherThan(number)) {
         Found::At(_) => site_by_subnet(image, caller),
         Found::Nothing => Found::At(offset),
     }

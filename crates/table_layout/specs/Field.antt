@@ -19,3 +19,7 @@ textField rule s field =
     leb (getD s (field .offset) 0) (field .room)
     && rule (textAt s field)
     && zeros s (field .offset + 1 + getD s (field .offset) 0) (fieldEnd field)
+
+-- the last text of a body or a record: zeros stand after it, up to the end
+unfoldable pub lastText : (List ℕ → Bool) → List ℕ → TextField → ℕ → Bool
+lastText rule s field end = textField rule s field && zeros s (fieldEnd field) end

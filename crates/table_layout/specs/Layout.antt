@@ -18,13 +18,13 @@ use Rattle.table.specs.Address.{addressNumber, isPrefixOnly}
 use Rattle.table.specs.Block.{kindIn, versionIn, placeIn, bodySize, body}
 use Rattle.table.specs.Context.{contextFormat, applicationOctet, hasSidOctet, sidOffset, sidRoom, contextNetbios, contextDnsName, contextOf}
 use Rattle.table.specs.Countings.{samePlace, nextPlace}
-use Rattle.table.specs.Field.{fieldEnd}
 use Rattle.table.specs.Forest.{forestKind, forestPlace, forestName}
 use Rattle.table.specs.Format.{formatOf, recordKinds, recordsIn}
-use Rattle.table.specs.Server.{serverKind, serverPlace, serverNetbios, serverHost, serverOf, rolesBound, stateBound}
+use Rattle.table.specs.Server.{serverKind, serverPlace, serverNetbios, serverHost, serverOf}
+use Rattle.table.specs.Bits.{rolesBound, stateBound}
 use Rattle.table.specs.Site.{siteFormat, siteName, nextOffset, siteOf}
 use Rattle.table.specs.Subnet.{subnetFormat, inUseOctet, subnetSiteOffset, subnetOf}
-use Rattle.table_layout.specs.Field.{zeros, textField}
+use Rattle.table_layout.specs.Field.{zeros, textField, lastText}
 
 -- a number that must be there is not 0
 abbrev pub nonzero : ℕ → Bool
@@ -39,12 +39,18 @@ serverLayout b =
     && nonzero (s .site .0)
     && nonzero (s .defaultContext .0)
     && textField isNetbiosName b serverNetbios
-    && textField isDnsName b serverHost
-    && zeros b (fieldEnd serverHost) bodySize
+    && lastText isDnsName b serverHost bodySize
 
 -- kind 2
 unfoldable pub forestLayout : List ℕ → Bool
-forestLayout b = textField isDnsName b forestName && zeros b (fieldEnd forestName) bodySize
+forestLayout b = lastText isDnsName b forestName bodySize
+
+-- each flag is 0 or 1, and an application context has no SID
+unfoldable pub flagsLayout : List ℕ → Bool
+flagsLayout b =
+    ltb (applicationOctet b) 2
+    && ltb (hasSidOctet b) 2
+    && not (eqb (applicationOctet b) 1 && eqb (hasSidOctet b) 1)
 
 -- a SID where the context has one; the room that it doesn't use is zero
 abbrev pub sidLayout : Option (List ℕ) → List ℕ → Bool
@@ -64,22 +70,18 @@ unfoldable pub contextLayout : List ℕ → Bool
 contextLayout b =
     let c = contextOf b in
     nonzero (c .number .0)
-    && ltb (applicationOctet b) 2
-    && ltb (hasSidOctet b) 2
-    && not (c .application && eqb (hasSidOctet b) 1)
+    && flagsLayout b
     && not (allZero (c .guid))
     && sidLayout (c .sid) b
     && textField (isContextNetbios (c .application)) b contextNetbios
-    && textField isDnsName b contextDnsName
-    && zeros b (fieldEnd contextDnsName) (contextFormat .width)
+    && lastText isDnsName b contextDnsName (contextFormat .width)
 
 -- kind 4
 unfoldable pub accountLayout : List ℕ → Bool
 accountLayout r =
     nonzero (accountOf r .context .0)
     && zeros r 2 controlOffset
-    && textField isAccountName r accountName
-    && zeros r (fieldEnd accountName) (accountFormat .width)
+    && lastText isAccountName r accountName (accountFormat .width)
 
 -- kind 5
 unfoldable pub siteLayout : List ℕ → Bool

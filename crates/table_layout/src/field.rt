@@ -2,7 +2,7 @@
 ghost use mathlib.Core.Path.{_≡_};
 ghost use Prim.Native.Nat.{_≤_};
 ghost use Rattle.table.specs.Field.{fieldEnd};
-ghost use Rattle.table_layout.specs.Field.{zeros, textField};
+ghost use Rattle.table_layout.specs.Field.{zeros, textField, lastText};
 ghost use Rattle.table_layout.specs.Internal.Rule.{ruleOf};
 use octets::name_rule::is_dns_name;
 use octets::name_rule::is_netbios_name;
@@ -47,7 +47,7 @@ fn keeps(rule: Rule, s: &[u8]) -> bool
 }
 
 // The offset after a field's room.
-pub fn field_end(field: TextField) -> usize
+fn field_end(field: TextField) -> usize
     requires { ⌜ (field .offset ≤ 504) × (field .room ≤ 255) ⌝ }
     ensures { λ r. ⌜ r ≡ fieldEnd field ⌝ }
 {
@@ -64,4 +64,12 @@ pub fn is_text_field(s: &[u8], rule: Rule, field: TextField) -> bool
     (length <= field.room)
         & keeps(rule, text_in(s, field))
         & is_zero_room(s, offset + 1 + length, field_end(field))
+}
+
+// Whether the last text of a body or a record keeps to its rule and its room, with zeros after it up to the end.
+pub fn is_last_text(s: &[u8], rule: Rule, field: TextField, end: usize) -> bool
+    requires { ⌜ (field .offset ≤ 504) × (field .room ≤ 255) ⌝ }
+    ensures { λ r. ⌜ r ≡ lastText (ruleOf rule) (now (s .entry)) field end ⌝ }
+{
+    is_text_field(s, rule, field) & is_zero_room(s, field_end(field), end)
 }

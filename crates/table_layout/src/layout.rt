@@ -7,10 +7,10 @@ ghost use Rattle.table.specs.Block.{blocksOf};
 ghost use Rattle.table.specs.Context.{contextOf};
 ghost use Rattle.table.specs.Format.{formatOf, recordKinds, recordsIn};
 ghost use Rattle.table.specs.Server.{serverPlace};
-ghost use Rattle.table_layout.specs.Layout.{serverLayout, forestLayout, sidLayout, contextLayout, accountLayout, siteLayout, subnetLayout, recordLayout, recordsLayout, bodyLayout, blockLayout, layoutsFrom};
+ghost use Rattle.table_layout.specs.Layout.{serverLayout, forestLayout, flagsLayout, sidLayout, contextLayout, accountLayout, siteLayout, subnetLayout, recordLayout, recordsLayout, bodyLayout, blockLayout, layoutsFrom};
 ghost use Rattle.table_layout.specs.Internal.Rule.{netbiosRule};
 use crate::field::Rule;
-use crate::field::field_end;
+use crate::field::is_last_text;
 use crate::field::is_text_field;
 use crate::field::is_zero_room;
 use octets::name_rule::is_sid;
@@ -46,14 +46,22 @@ fn server_layout(b: &[u8]) -> bool
         & (own_site.0 != 0)
         & (default_context.0 != 0)
         & is_text_field(b, Rule::Netbios, server::NETBIOS)
-        & is_text_field(b, Rule::Dns, server::HOST)
-        & is_zero_room(b, field_end(server::HOST), BODY_SIZE)
+        & is_last_text(b, Rule::Dns, server::HOST, BODY_SIZE)
 }
 
 fn forest_layout(b: &[u8]) -> bool
     ensures { λ r. ⌜ r ≡ forestLayout (now (b .entry)) ⌝ }
 {
-    is_text_field(b, Rule::Dns, forest::NAME) & is_zero_room(b, field_end(forest::NAME), BODY_SIZE)
+    is_last_text(b, Rule::Dns, forest::NAME, BODY_SIZE)
+}
+
+// Each flag is 0 or 1, and an application context has no SID.
+fn flags_layout(b: &[u8]) -> bool
+    ensures { λ r. ⌜ r ≡ flagsLayout (now (b .entry)) ⌝ }
+{
+    let application = context::application_octet(b);
+    let has_sid = context::has_sid_octet(b);
+    (application < 2) & (has_sid < 2) & !((application == 1) & (has_sid == 1))
 }
 
 // A SID where the context has one, and else none.
@@ -84,14 +92,11 @@ fn context_layout(b: &[u8]) -> bool
     let number = context::number(b);
     let application = context::is_application(b);
     (number.0 != 0)
-        & (context::application_octet(b) < 2)
-        & (context::has_sid_octet(b) < 2)
-        & !(application & context::has_sid(b))
+        & flags_layout(b)
         & !all_zero(context::guid(b))
         & sid_layout(b)
         & is_text_field(b, netbios_rule(application), context::NETBIOS)
-        & is_text_field(b, Rule::Dns, context::DNS_NAME)
-        & is_zero_room(b, field_end(context::DNS_NAME), context::FORMAT.width)
+        & is_last_text(b, Rule::Dns, context::DNS_NAME, context::FORMAT.width)
 }
 
 fn account_layout(r: &[u8]) -> bool
@@ -100,8 +105,7 @@ fn account_layout(r: &[u8]) -> bool
     let context = account::context(r);
     (context.0 != 0)
         & is_zero_room(r, 2, account::CONTROL)
-        & is_text_field(r, Rule::Account, account::NAME)
-        & is_zero_room(r, field_end(account::NAME), account::FORMAT.width)
+        & is_last_text(r, Rule::Account, account::NAME, account::FORMAT.width)
 }
 
 fn site_layout(r: &[u8]) -> bool

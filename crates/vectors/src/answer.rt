@@ -1,6 +1,4 @@
 // The answer to one request line.
-ghost use mathlib.Core.Path.{_≡_};
-ghost use Rattle.table_whole.specs.Judgement.{numberOf};
 use crate::filter_lines::answer_filter;
 use crate::filter_lines::answer_values;
 use crate::parse::decode;
@@ -11,10 +9,8 @@ use crate::say::say;
 use crate::say::say_number;
 use crate::say::say_unknown;
 use crate::write::answer_write;
-use answers::number_of;
 use octets::part::part;
 use octets::text::same_octets;
-use table_whole::judge::Judgement;
 
 // The longest line that is read, without its LF.
 const LONGEST: usize = 140100;
@@ -34,20 +30,11 @@ fn answer_check(text: &[u8]) {
     say(b"\n");
 }
 
-fn judgement_number(judgement: Judgement) -> u8
-    ensures { λ r. ⌜ r ≡ numberOf judgement ⌝ }
-{
-    match judgement {
-        Judgement::Passed => 0,
-        Judgement::Refused(r) => number_of(r),
-    }
-}
-
 fn answer_table(text: &[u8], space: &mut [u8]) {
     let n = decode(text, space);
     let judgement = table_whole::judge::judge(part(space, 0, n));
     say(b"table ");
-    say_number(judgement_number(judgement) as u64);
+    say_number(table_whole::judge::judgement_number(judgement) as u64);
     say(b"\n");
 }
 

@@ -1,6 +1,6 @@
 -- Each lookup of the table is the search by its key; and when the client's site is the only one.
 use mathlib.Core.Path.{_≡_, refl, sym, ap, _∙_}
-use mathlib.Core.Bool.{Bool, true, false, not, _&&_}
+use mathlib.Core.Bool.{Bool, true, false, _&&_}
 use mathlib.Core.List.{List, [], _∷_, map, flatMap}
 use mathlib.Core.Option.{none, some, Option·map}
 use Prim.Native.Nat.{ℕ}

@@ -1,5 +1,5 @@
 -- The first record that a key finds: in a body, in a block, in all blocks.
-use mathlib.Core.Bool.{Bool, cond}
+use mathlib.Core.Bool.{cond}
 use mathlib.Core.List.{List, flatMap}
 use mathlib.Core.Option.{Option, none}
 use Prim.Native.Nat.{ℕ}

@@ -10,7 +10,7 @@ use borrow.Author.Tests.{eqb-true, not-true, not-false, leb-true, le-leb, lt-leb
 use Rattle.answers.specs.declared.Refusal.the-variants.{ImageLength, BlockCheck, BlockLayout, TableWhole}
 use Rattle.answers.specs.Try.{good}
 use Rattle.answers.proofs.Laws.Try.{refusedIf-good}
-use Rattle.octets.specs.Lists.{all, any, cut, keep, holds, pieces}
+use Rattle.octets.specs.Lists.{all, any, keep, holds, pieces}
 use Rattle.octets.proofs.Laws.Lists.{Every, every-all, every-map, every-flat, every-keep, both-left, both-right, other-right, cut-length, pieces-wide}
 use Rattle.octets.specs.NameRule.{isDnsName, isNetbiosName, isSiteName}
 use Rattle.octets.proofs.Laws.NameRule.{Writable, dns-writable, netbios-writable, site-writable, empty-writable}
@@ -22,18 +22,19 @@ use Rattle.table.specs.declared.field.TextField.{TextField}
 use Rattle.table.specs.declared.record.RecordKind.{RecordKind}
 use Rattle.table.specs.declared.record.RecordKind.the-variants as kind
 use Rattle.table.specs.Block.{blockSize, blocksOf, kindIn, versionIn, placeIn, bodyOffset, bodySize, body}
-use Rattle.table.specs.Context.{Context, contextFormat, applicationOctet, hasSidOctet, contextNetbios, contextDnsName, contextOf}
+use Rattle.table.specs.Context.{Context, contextFormat, contextNetbios, contextDnsName, contextOf}
 use Rattle.table.specs.Countings.{sameSite, samePlace, nextPlace}
 use Rattle.table.specs.Field.{textAt, fieldEnd}
 use Rattle.table.specs.Forest.{forestKind, forestPlace, forestName, forestOf}
 use Rattle.table.specs.Format.{formatOf, recordsIn}
-use Rattle.table.specs.Server.{Server, serverKind, serverPlace, serverNetbios, serverHost, serverOf, rolesBound, stateBound}
+use Rattle.table.specs.Server.{Server, serverKind, serverPlace, serverNetbios, serverHost, serverOf}
+use Rattle.table.specs.Bits.{rolesBound, stateBound}
 use Rattle.table.specs.Site.{Site, siteFormat, siteName, nextOffset, siteOf}
 use Rattle.table.specs.Table.{Table, isUsed, bodies, recordsOf, tableOf, tableFrom}
 use Rattle.table.proofs.Laws.Format.{format-fills}
 use Rattle.table_layout.specs.Check.{goodCheck}
-use Rattle.table_layout.specs.Field.{zeros, textField}
-use Rattle.table_layout.specs.Layout.{nonzero, serverLayout, forestLayout, sidLayout, isEmpty, isContextNetbios, contextLayout, siteLayout, recordLayout, recordsLayout, bodyLayout, blockLayout, layoutsFrom}
+use Rattle.table_layout.specs.Field.{zeros, textField, lastText}
+use Rattle.table_layout.specs.Layout.{nonzero, serverLayout, forestLayout, flagsLayout, sidLayout, isEmpty, isContextNetbios, contextLayout, siteLayout, recordLayout, recordsLayout, bodyLayout, blockLayout, layoutsFrom}
 use Rattle.table_whole.specs.Judgement.{goodLength, tableIn, Accepted, judgedAs}
 use Rattle.table_whole.specs.Whole.{contextsUnique, sitesUnique, accountsUnique, refersRightly, goodWhole}
 use Rattle.table_whole.specs.declared.judge.Judgement.the-variants.{Passed, Refused}
@@ -125,6 +126,10 @@ text-ruled rule s field e =
     let end : Bool = zeros s _ (fieldEnd field) in
     both-right short (rule (textAt s field)) (both-left (short && rule (textAt s field)) end e)
 
+last-ruled : (rule : List ℕ → Bool) (s : List ℕ) (field : TextField) (end : ℕ) → lastText rule s field end ≡ true → rule (textAt s field) ≡ true
+unfolding lastText
+last-ruled rule s field end e = text-ruled rule s field (both-left (textField rule s field) (zeros s (fieldEnd field) end) e)
+
 empty-is : (s : List ℕ) → isEmpty s ≡ true → s ≡ []
 empty-is [] e = refl
 empty-is (x ∷ xs) e = let z : suc (length xs) ≡ 0 = eqb-true (suc (length xs)) 0 e in absurd (omega arith)
@@ -146,34 +151,30 @@ server-good b n e =
     let s = serverOf b in
     let front : Bool = ltb (s .roles) rolesBound && ltb (s .state) stateBound && nonzero (s .site .0) && nonzero (s .defaultContext .0) in
     let netbios : Bool = textField isNetbiosName b serverNetbios in
-    let host : Bool = textField isDnsName b serverHost in
-    let e1 : front && netbios && host ≡ true = both-left (front && netbios && host) (zeros b (fieldEnd serverHost) bodySize) e in
-    let h : host ≡ true = both-right (front && netbios) host e1 in
-    let m : netbios ≡ true = both-right front netbios (both-left (front && netbios) host e1) in
+    let host : Bool = lastText isDnsName b serverHost bodySize in
+    let m : netbios ≡ true = both-right front netbios (both-left (front && netbios) host e) in
     let name : isNetbiosName (textAt b serverNetbios) ≡ true = text-ruled isNetbiosName b serverNetbios m in
     record {
       address = cut-length b 8 4 (omega arith);
       netbios = netbios-writable (textAt b serverNetbios) name;
       spoken = netbios-spoken (textAt b serverNetbios) name;
-      host = dns-writable (textAt b serverHost) (text-ruled isDnsName b serverHost h);
+      host = dns-writable (textAt b serverHost) (last-ruled isDnsName b serverHost bodySize (both-right (front && netbios) host e));
     }
 
 forest-good : (b : List ℕ) → forestLayout b ≡ true → Writable 253 (forestOf b)
 unfolding forestLayout forestOf
-forest-good b e = dns-writable (textAt b forestName) (text-ruled isDnsName b forestName (both-left (textField isDnsName b forestName) (zeros b (fieldEnd forestName) bodySize) e))
+forest-good b e = dns-writable (textAt b forestName) (last-ruled isDnsName b forestName bodySize e)
 
 context-good : (b : List ℕ) → length b ≡ contextFormat .width → contextLayout b ≡ true → GoodContext (contextOf b)
 unfolding contextLayout contextOf
 context-good b n e =
     let c = contextOf b in
-    let front : Bool = nonzero (c .number .0) && ltb (applicationOctet b) 2 && ltb (hasSidOctet b) 2 && not (c .application && eqb (hasSidOctet b) 1) && not (allZero (c .guid)) && sidLayout (c .sid) b in
+    let front : Bool = nonzero (c .number .0) && flagsLayout b && not (allZero (c .guid)) && sidLayout (c .sid) b in
     let netbios : Bool = textField (isContextNetbios (c .application)) b contextNetbios in
-    let dns : Bool = textField isDnsName b contextDnsName in
-    let e1 : front && netbios && dns ≡ true = both-left (front && netbios && dns) (zeros b (fieldEnd contextDnsName) (contextFormat .width)) e in
-    let d : dns ≡ true = both-right (front && netbios) dns e1 in
-    let m : netbios ≡ true = both-right front netbios (both-left (front && netbios) dns e1) in
+    let dns : Bool = lastText isDnsName b contextDnsName (contextFormat .width) in
+    let m : netbios ≡ true = both-right front netbios (both-left (front && netbios) dns e) in
     let name : Writable 15 (textAt b contextNetbios) × Spoken (textAt b contextNetbios) = netbios-ruled (c .application) (textAt b contextNetbios) (text-ruled (isContextNetbios (c .application)) b contextNetbios m) in
-    record { guid = cut-length b 4 16 (omega arith); netbios = name .0; spoken = name .1; dns = dns-writable (textAt b contextDnsName) (text-ruled isDnsName b contextDnsName d) }
+    record { guid = cut-length b 4 16 (omega arith); netbios = name .0; spoken = name .1; dns = dns-writable (textAt b contextDnsName) (last-ruled isDnsName b contextDnsName (contextFormat .width) (both-right (front && netbios) dns e)) }
 
 site-good : (r : List ℕ) → siteLayout r ≡ true → GoodSite (siteOf r)
 unfolding siteLayout siteOf

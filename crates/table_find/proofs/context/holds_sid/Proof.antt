@@ -11,7 +11,7 @@ has-sid-requires c κs = search needs
 
 returns : tie.Need-returns
 unfolding holdsSid contextOf
-returns c = rw (sym (c .before .has-sid .ensures) ∙ not-true _ (c .if1 .taken))
+returns c = rw (sym (c .before .has-sid .ensures) ∙ not-true (c .before .has-sid .result) (c .if1 .taken))
 
 sid-requires : tie.Need-sid-requires
 sid-requires c κs = search needs
@@ -21,7 +21,7 @@ same-octets-requires c κs = search needs
 
 returns-2 : tie.Need-returns-2
 unfolding holdsSid contextOf
-returns-2 c = rw (sym (c .before .before .before .has-sid .ensures) ∙ not-false _ (c .before .before .if1 .left), c .same-octets .ensures, c .before .sid .ensures)
+returns-2 c = rw (sym (c .before .before .before .has-sid .ensures) ∙ not-false (c .before .before .before .has-sid .result) (c .before .before .if1 .left), c .same-octets .ensures, c .before .sid .ensures)
 
 pub holds-sid-spec : {M : Type 1} → statement M
 holds-sid-spec =

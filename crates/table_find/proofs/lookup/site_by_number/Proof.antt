@@ -1,22 +1,14 @@
-use mathlib.Core.Option.{Option·map}
-use mathlib.Core.Path.{ap, _∙_}
-use Rattle.table.specs.Site.{siteOf}
 use Rattle.table_find.specs.Find.{siteByNumber}
-use Rattle.table_find.proofs.Laws.Find.{site-search}
 use borrow.Author.Needs.{needs}
 use Rattle.table_find.proofs.lookup.site_by_number.Statement.{statement}
 use Rattle.table_find.proofs.lookup.site_by_number.Tie as tie
 
-slice-aggregate-first-record : tie.Need-slice-aggregate-first-record
-slice-aggregate-first-record c = search needs
-
-first-record-requires : tie.Need-first-record-requires
-first-record-requires c κs = search needs
+first-site-requires : tie.Need-first-site-requires
+first-site-requires c κs = search needs
 
 returns : tie.Need-returns
 unfolding siteByNumber
-returns c = (ap (Option·map siteOf) (c .first-record .ensures .0) ∙ site-search _ _ _, c .first-record .ensures .1)
+returns c = c .first-site .ensures
 
 pub site-by-number-spec : {M : Type 1} → statement M
-site-by-number-spec =
-    tie.close (tie.spec slice-aggregate-first-record first-record-requires returns)
+site-by-number-spec = tie.close (tie.spec first-site-requires returns)

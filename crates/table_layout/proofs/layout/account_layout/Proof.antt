@@ -9,33 +9,18 @@ context-requires c κs = search needs
 is-zero-room-requires : tie.Need-is-zero-room-requires
 is-zero-room-requires c κs = search needs
 
-is-text-field-requires : tie.Need-is-text-field-requires
-is-text-field-requires c κs = search needs
-
-field-end-requires : tie.Need-field-end-requires
-field-end-requires c κs = search needs
-
-is-zero-room-requires-2 : tie.Need-is-zero-room-requires-2
-is-zero-room-requires-2 c κs = search needs
+is-last-text-requires : tie.Need-is-last-text-requires
+is-last-text-requires c κs = search needs
 
 returns : tie.Need-returns
 unfolding accountLayout
 returns c =
     rw (
-      c .before .before .before .before .before .context .ensures,
-      c .before .before .before .is-zero-room .ensures,
-      c .before .before .is-text-field .ensures,
-      c .is-zero-room2 .ensures,
-      c .before .field-end .ensures,
+      c .before .before .before .context .ensures,
+      c .before .is-zero-room .ensures,
+      c .is-last-text .ensures,
     )
 
 pub account-layout-spec : {M : Type 1} → statement M
 account-layout-spec =
-    tie.close
-    (tie.spec
-    context-requires
-    is-zero-room-requires
-    is-text-field-requires
-    field-end-requires
-    is-zero-room-requires-2
-    returns)
+    tie.close (tie.spec context-requires is-zero-room-requires is-last-text-requires returns)

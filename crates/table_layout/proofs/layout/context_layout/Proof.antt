@@ -10,14 +10,8 @@ number-requires c κs = search needs
 is-application-requires : tie.Need-is-application-requires
 is-application-requires c κs = search needs
 
-application-octet-requires : tie.Need-application-octet-requires
-application-octet-requires c κs = search needs
-
-has-sid-octet-requires : tie.Need-has-sid-octet-requires
-has-sid-octet-requires c κs = search needs
-
-has-sid-requires : tie.Need-has-sid-requires
-has-sid-requires c κs = search needs
+flags-layout-requires : tie.Need-flags-layout-requires
+flags-layout-requires c κs = search needs
 
 guid-requires : tie.Need-guid-requires
 guid-requires c κs = search needs
@@ -34,33 +28,23 @@ netbios-rule-requires c κs = search needs
 is-text-field-requires : tie.Need-is-text-field-requires
 is-text-field-requires c κs = search needs
 
-is-text-field-requires-2 : tie.Need-is-text-field-requires-2
-is-text-field-requires-2 c κs = search needs
-
-field-end-requires : tie.Need-field-end-requires
-field-end-requires c κs = search needs
-
-is-zero-room-requires : tie.Need-is-zero-room-requires
-is-zero-room-requires c κs = search needs
+is-last-text-requires : tie.Need-is-last-text-requires
+is-last-text-requires c κs = search needs
 
 returns : tie.Need-returns
 unfolding contextLayout
 returns c =
     rw (
-      c .before .before .before .before .before .before .before .before .before .before .before .before .before .number .ensures,
-      c .before .before .before .before .before .before .before .before .before .before .application-octet .ensures,
-      c .before .before .before .before .before .before .before .before .before .has-sid-octet .ensures,
-      c .before .before .before .before .before .before .before .before .has-sid .ensures,
-      c .before .before .before .before .before .before .all-zero .ensures,
-      c .before .before .before .before .before .before .before .guid .ensures,
-      c .before .before .before .before .before .sid-layout .ensures,
-      c .before .before .before .is-text-field .ensures,
-      c .before .before .before .before .netbios-rule .ensures,
-      netbios-field (c .before .before .before .before .before .before .before .before .before .before .before .before .is-application .result),
-      c .before .before .before .before .before .before .before .before .before .before .before .before .is-application .ensures,
-      c .before .before .is-text-field2 .ensures,
-      c .is-zero-room .ensures,
-      c .before .field-end .ensures,
+      c .before .before .before .before .before .before .before .before .before .number .ensures,
+      c .before .before .before .before .before .before .flags-layout .ensures,
+      c .before .before .before .before .all-zero .ensures,
+      c .before .before .before .before .before .guid .ensures,
+      c .before .before .before .sid-layout .ensures,
+      c .before .is-text-field .ensures,
+      c .before .before .netbios-rule .ensures,
+      netbios-field (c .before .before .before .before .before .before .before .before .is-application .result),
+      c .before .before .before .before .before .before .before .before .is-application .ensures,
+      c .is-last-text .ensures,
     )
 
 pub context-layout-spec : {M : Type 1} → statement M
@@ -69,15 +53,11 @@ context-layout-spec =
     (tie.spec
     number-requires
     is-application-requires
-    application-octet-requires
-    has-sid-octet-requires
-    has-sid-requires
+    flags-layout-requires
     guid-requires
     all-zero-requires
     sid-layout-requires
     netbios-rule-requires
     is-text-field-requires
-    is-text-field-requires-2
-    field-end-requires
-    is-zero-room-requires
+    is-last-text-requires
     returns)

@@ -1,6 +1,6 @@
+use native.Mathlib.Omega.{arith}
 use Rattle.octets.proofs.Laws.Number.{no-high-bits}
 use Rattle.table_layout.specs.Layout.{serverLayout}
-use native.Mathlib.Omega.{arith}
 use borrow.Author.Needs.{needs}
 use Rattle.table_layout.proofs.layout.server_layout.Statement.{statement}
 use Rattle.table_layout.proofs.layout.server_layout.Tie as tie
@@ -20,29 +20,21 @@ state-requires c κs = search needs
 is-text-field-requires : tie.Need-is-text-field-requires
 is-text-field-requires c κs = search needs
 
-is-text-field-requires-2 : tie.Need-is-text-field-requires-2
-is-text-field-requires-2 c κs = search needs
-
-field-end-requires : tie.Need-field-end-requires
-field-end-requires c κs = search needs
-
-is-zero-room-requires : tie.Need-is-zero-room-requires
-is-zero-room-requires c κs = search needs
+is-last-text-requires : tie.Need-is-last-text-requires
+is-last-text-requires c κs = search needs
 
 returns : tie.Need-returns
 unfolding serverLayout
 returns c =
     rw (
-      no-high-bits (c .before .before .before .before .before .before .before .roles .result) 20 12 (omega arith),
-      no-high-bits (c .before .before .before .before .before .before .state .result) 28 4 (omega arith),
-      c .before .before .before .before .before .before .before .roles .ensures,
-      c .before .before .before .before .before .before .state .ensures,
-      c .before .before .before .before .before .before .before .before .before .own-site .ensures,
-      c .before .before .before .before .before .before .before .before .default-context .ensures,
-      c .before .before .before .is-text-field .ensures,
-      c .before .before .is-text-field2 .ensures,
-      c .is-zero-room .ensures,
-      c .before .field-end .ensures,
+      no-high-bits (c .before .before .before .before .before .roles .result) 20 12 (omega arith),
+      no-high-bits (c .before .before .before .before .state .result) 28 4 (omega arith),
+      c .before .before .before .before .before .roles .ensures,
+      c .before .before .before .before .state .ensures,
+      c .before .before .before .before .before .before .before .own-site .ensures,
+      c .before .before .before .before .before .before .default-context .ensures,
+      c .before .is-text-field .ensures,
+      c .is-last-text .ensures,
     )
 
 pub server-layout-spec : {M : Type 1} → statement M
@@ -54,7 +46,5 @@ server-layout-spec =
     roles-requires
     state-requires
     is-text-field-requires
-    is-text-field-requires-2
-    field-end-requires
-    is-zero-room-requires
+    is-last-text-requires
     returns)
