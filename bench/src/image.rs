@@ -32,8 +32,8 @@ impl Image {
         image
     }
 
-    /// The smallest image with an account, as the sample table has it.
-    pub fn sample() -> Image {
+    /// The smallest image and a block with one account: as many blocks as document 01's sample table has.
+    pub fn five_blocks() -> Image {
         let mut image = Image::smallest();
         image.add_records(4, 84, 1, |_| account(b"ann"));
         image

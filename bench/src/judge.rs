@@ -3,7 +3,7 @@ mod image;
 
 use image::{account, site, subnet, Image};
 use std::hint::black_box;
-use std::process::Command;
+use std::process::{Command, Stdio};
 use std::time::Instant;
 
 #[link(name = "bench", kind = "static")]
@@ -31,16 +31,23 @@ fn ordinary_name(k: usize) -> Vec<u8> {
     format!("{}.{}{}", given[k % 10], given[(k / 10) % 10], k / 100).into_bytes()
 }
 
-fn images() -> Vec<(&'static str, Image)> {
+/// As many accounts as 124 blocks hold, the k-th of them named so.
+fn accounts(name: impl Fn(usize) -> Vec<u8>) -> Image {
+    Image::full(4, 84, |k| account(&name(k)))
+}
+
+/// Each image with what it is and the answer that it must get.
+fn images() -> Vec<(&'static str, Image, u8)> {
+    let last = 6 * 124 - 1;
     vec![
-        ("5 blocks, the sample table", Image::sample()),
-        ("128 blocks, sites", Image::full(5, 72, |k| site(k as u16 + 2, 1))),
-        ("128 blocks, subnets", Image::full(6, 12, |k| subnet(k, 1))),
-        ("128 blocks, ordinary accounts", Image::full(4, 84, |k| account(&ordinary_name(k * 7919 % 1000)))),
-        ("128 blocks, accounts that differ at the end", Image::full(4, 84, |k| account(&long_name(k * 7919 % 1000)))),
-        ("128 blocks, the same in order", Image::full(4, 84, |k| account(&long_name(k)))),
-        ("128 blocks, the same in falling order", Image::full(4, 84, |k| account(&long_name(999 - k)))),
-        ("128 blocks, the last account twice", Image::full(4, 84, |k| account(&long_name(k.min(741))))),
+        ("5 blocks", Image::five_blocks(), 0),
+        ("128 blocks, sites", Image::full(5, 72, |k| site(k as u16 + 2, 1)), 0),
+        ("128 blocks, subnets", Image::full(6, 12, |k| subnet(k, 1)), 0),
+        ("128 blocks, ordinary accounts", accounts(|k| ordinary_name(k * 7919 % 1000)), 0),
+        ("128 blocks, accounts that differ at the end", accounts(|k| long_name(k * 7919 % 1000)), 0),
+        ("128 blocks, the same in order", accounts(long_name), 0),
+        ("128 blocks, the same in falling order", accounts(|k| long_name(999 - k)), 0),
+        ("128 blocks, the last account twice", accounts(|k| long_name(k.min(last - 1))), 4),
     ]
 }
 
@@ -59,8 +66,9 @@ fn least(calls: u32, work: impl Fn()) -> f64 {
 
 fn times() {
     println!("{:<46} {:>6} {:>12} {:>12} {:>7}", "image", "answer", "checks ns", "judge ns", "ratio");
-    for (name, image) in images() {
+    for (name, image, answer) in images() {
         let octets = image.octets();
+        assert_eq!(judge(octets), answer, "{name}");
         let calls = (4_000_000 / octets.len() as u32 / 16).max(4);
         let check = least(calls, || {
             black_box(checks(black_box(octets)));
@@ -68,32 +76,27 @@ fn times() {
         let whole = least(calls, || {
             black_box(judge(black_box(octets)));
         });
-        println!("{:<46} {:>6} {:>12.0} {:>12.0} {:>7.1}", name, judge(octets), check, whole, whole / check);
+        println!("{:<46} {:>6} {:>12.0} {:>12.0} {:>7.1}", name, answer, check, whole, whole / check);
     }
 }
 
 /// Judges every image on a thread of a small stack; a stack too small ends the process.
 fn on_stack(kibibytes: usize) {
-    let run = || images().iter().map(|(_, image)| usize::from(judge(image.octets()))).sum::<usize>();
     let all = images();
     let thread = std::thread::Builder::new().stack_size(kibibytes * 1024);
-    let sum = thread
-        .spawn(move || all.iter().map(|(_, image)| usize::from(judge(image.octets()))).sum::<usize>())
-        .expect("a thread")
-        .join()
-        .expect("a sum");
-    assert_eq!(sum, run());
+    let judged = thread.spawn(move || all.iter().all(|(_, image, answer)| judge(image.octets()) == *answer));
+    assert!(judged.expect("a thread").join().expect("answers"));
 }
 
 /// The least stack of a thread, a multiple of 4 KiB, on which every image is judged.
 fn stack() {
     let own = std::env::current_exe().expect("the program's own path");
     let holds = |kibibytes: usize| {
-        let status = Command::new(&own).arg("--on-stack").arg(kibibytes.to_string()).stderr(std::process::Stdio::null()).status();
+        let status = Command::new(&own).arg("--on-stack").arg(kibibytes.to_string()).stderr(Stdio::null()).status();
         status.is_ok_and(|s| s.success())
     };
-    let least = (16..=1024).step_by(4).find(|&k| holds(k));
-    println!("least stack of a thread that judges them all: {:?} KiB (a thread of its own takes some of it)", least);
+    let least = (16..=1024).step_by(4).find(|&k| holds(k)).expect("a stack that is enough");
+    println!("least stack of a thread that judges them all: {least} KiB (the thread itself takes some of it)");
 }
 
 fn main() {

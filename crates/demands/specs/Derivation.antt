@@ -17,7 +17,7 @@ use Rattle.table.specs.Table.{Table}
 use Rattle.table_whole.specs.Judgement.{tableIn}
 
 -- a table that passed 1 to 4: that of some image
-pub record PassedTable (t : Table) : Type 0 where
+pub record AcceptedTable (t : Table) : Type 0 where
   pub image : List ℕ
   pub judged : tableIn image ≡ good t
 
@@ -35,11 +35,11 @@ pub record Derivation (t : Table) (caller : Caller) (p : Ping) (room : ℕ) (a :
 abbrev pub said : {t : Table} {caller : Caller} {p : Ping} {room : ℕ} {a : Outcome} → Derivation t caller p room a → Reply
 said {t} {caller} {p} {a = a} d = replyFor t caller p (d .context) (a .form)
 
--- this holds of every answer over a table that passed, to a ping that came in any way
+-- this holds of every answer over a table that passed, to a ping that came in any way and whose user 9 lets pass
 abbrev pub EveryAnswerOver : (Table → Caller → Ping → ℕ → Outcome → Type 0) → Type 0
 EveryAnswerOver P =
     (t : Table) (caller : Caller) (p : Ping) (room : ℕ) (a : Outcome)
-    → PassedTable t → GoodPing p → answerOver t caller p room ≡ good a → P t caller p room a
+    → AcceptedTable t → GoodPing p → answerOver t caller p room ≡ good a → P t caller p room a
 
 -- the table of an image and the ping of a filter
 pub record Parts (image filter : List ℕ) : Type 0 where

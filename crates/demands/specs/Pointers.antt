@@ -10,7 +10,7 @@ use lib.ListN.{length, take}
 use Rattle.answers.specs.declared.Form.{Form}
 use Rattle.filter_read.specs.Value.{Ping}
 use Rattle.locator.specs.Answer.{Outcome}
-use Rattle.names.specs.Name.{Tail, writeNames}
+use Rattle.names.specs.Name.{pointerLimit, Tail, writeNames}
 use Rattle.octets.specs.Lists.{all, unique, first}
 use Rattle.octets.specs.Text.{same}
 use Rattle.reply.specs.Reply.{Reply}
@@ -24,7 +24,7 @@ abbrev pub tailsBefore : Form → Reply → ℕ → List Tail
 tailsBefore form r k = writeNames [] (length (headOf form r)) (take k (namesOf form r)) .tails
 
 pub record Fit (tails : List Tail) : Type 0 where
-  pub low : all (λ t. ltb (t .offset) 0x4000) tails ≡ true
+  pub low : all (λ t. ltb (t .offset) pointerLimit) tails ≡ true
   pub once : unique (λ t u. same (t .text) (u .text)) tails ≡ true
   pub lowest : (text : List ℕ) (t : Tail)
       → first (λ u. same (u .text) text) tails ≡ some t → all (λ u. not (same (u .text) text) || leb (t .offset) (u .offset)) tails ≡ true

@@ -30,9 +30,19 @@ pub record Element : Type 0 where
   pub start : ℕ
   pub next : ℕ
 
--- how many octets a length takes by its first one, past that one: none below 80h, one after 81h, two after 82h, else no length
+-- a length below this is its own octet; else one octet or two come after this one
+abbrev pub shortLimit : ℕ
+shortLimit = 0x80
+
+abbrev pub oneAfter : ℕ
+oneAfter = 0x81
+
+abbrev pub twoAfter : ℕ
+twoAfter = 0x82
+
+-- how many octets a length takes by its first one, past that one; another first octet makes no length
 abbrev pub lengthWidth : ℕ → Option ℕ
-lengthWidth x = cond (ltb x 0x80) (some 0) (cond (eqb x 0x81) (some 1) (cond (eqb x 0x82) (some 2) none))
+lengthWidth x = cond (ltb x shortLimit) (some 0) (cond (eqb x oneAfter) (some 1) (cond (eqb x twoAfter) (some 2) none))
 
 abbrev pub lengthValue : List ℕ → ℕ → ℕ → ℕ
 lengthValue s at zero = getD s at 0

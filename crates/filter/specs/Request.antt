@@ -11,8 +11,8 @@ use Rattle.filter.specs.declared.request.ClauseName.the-variants.{DnsDom
 use Rattle.filter.specs.declared.request.Request.{Request}
 
 -- the clause names, in document 01's order
-abbrev pub names : List ClauseName
-names = DnsDomain ∷ Host ∷ DnsHostName ∷ User ∷ Aac ∷ DomainSid ∷ DomainGuid ∷ NtVer ∷ []
+abbrev pub clauseNames : List ClauseName
+clauseNames = DnsDomain ∷ Host ∷ DnsHostName ∷ User ∷ Aac ∷ DomainSid ∷ DomainGuid ∷ NtVer ∷ []
 
 -- how a name is spelled, as document 01 lists it
 abbrev pub spelling : ClauseName → List ℕ

@@ -11,6 +11,13 @@ use octets::number::big_u16_at;
 // The most octets that a filter may have.
 pub const FILTER_LIMIT: usize = 2048;
 
+// A length below this is its own octet; else one octet or two come after this one.
+pub const SHORT_LIMIT: u8 = 0x80;
+
+pub const ONE_AFTER: u8 = 0x81;
+
+pub const TWO_AFTER: u8 = 0x82;
+
 // The tags of a filter's elements.
 pub const AND_TAG: u8 = 0xA0;
 
@@ -82,13 +89,13 @@ fn length_at(s: &[u8], at: usize, end: usize) -> ElementLength
     ensures { λ r. ⌜ LengthWithin at end r ⌝ }
 {
     let first = s[at + 1];
-    if first < 0x80 {
+    if first < SHORT_LIMIT {
         return ElementLength::Of {
             start: at + 2,
             len: first as usize,
         };
     }
-    if first == 0x81 {
+    if first == ONE_AFTER {
         if end - at < 3 {
             return ElementLength::Wrong;
         }
@@ -97,7 +104,7 @@ fn length_at(s: &[u8], at: usize, end: usize) -> ElementLength
             len: s[at + 2] as usize,
         };
     }
-    if first != 0x82 {
+    if first != TWO_AFTER {
         return ElementLength::Wrong;
     }
     if end - at < 4 {

@@ -40,7 +40,7 @@ pub struct Spelling {
     pub len: usize,
 }
 
-pub const CLAUSE_NAMES: usize = 8;
+pub const CLAUSE_COUNT: usize = 8;
 
 // The clause names by their number in document 01's order.
 pub fn clause_name_at(i: usize) -> ClauseName

@@ -16,25 +16,25 @@ use Rattle.filter.specs.declared.request.Clause.the-variants.{Absent, Present}
 use Rattle.filter.specs.declared.request.ClauseName.{ClauseName}
 use Rattle.filter.specs.declared.request.Request.{Request}
 use Rattle.filter.specs.Filter.{filterLimit, clausesOf}
-use Rattle.filter.specs.Request.{names, spelling, requestBy}
+use Rattle.filter.specs.Request.{clauseNames, spelling, requestBy}
 use Rattle.filter_read.specs.declared.read.Taken.{Taken}
 use Rattle.filter_read.specs.declared.read.Taken.the-variants as taken
 
 -- a clause's name as it stands in the filter
-abbrev pub nameOf : List ℕ → RawClause → List ℕ
-nameOf s f = cut s (f .«name_start») (f .«name_len»)
+abbrev pub nameOctets : List ℕ → RawClause → List ℕ
+nameOctets s f = cut s (f .«name_start») (f .«name_len»)
 
 -- a clause is of this name, ASCII case ignored
 unfoldable pub isNamed : List ℕ → ClauseName → RawClause → Bool
-isNamed s name f = sameFolded (nameOf s f) (spelling name)
+isNamed s name f = sameFolded (nameOctets s f) (spelling name)
 
 -- 7: a clause of another name
 unfoldable pub hasUnknown : List ℕ → List RawClause → Bool
-hasUnknown s fs = any (λ f. not (any (λ name. isNamed s name f) names)) fs
+hasUnknown s fs = any (λ f. not (any (λ name. isNamed s name f) clauseNames)) fs
 
 -- 8: a clause twice
 unfoldable pub hasDuplicate : List ℕ → List RawClause → Bool
-hasDuplicate s fs = not (unique (λ f g. sameFolded (nameOf s f) (nameOf s g)) fs)
+hasDuplicate s fs = not (unique (λ f g. sameFolded (nameOctets s f) (nameOctets s g)) fs)
 
 abbrev pub asClause : Option RawClause → Clause
 asClause none = Absent

@@ -10,7 +10,7 @@ use filter::position::Filter;
 use filter::position::FilterRead;
 use filter::position::Position;
 use filter::position::RawClause;
-use filter::request::CLAUSE_NAMES;
+use filter::request::CLAUSE_COUNT;
 use filter::request::Clause;
 use filter::request::ClauseName;
 use filter::request::Request;
@@ -57,7 +57,7 @@ fn name_of(s: &[u8]) -> SpelledName
     ensures { λ r. ⌜ r ≡ spelledAs (nameSpelled (now (s .entry))) ⌝ }
 {
     let mut i = 0;
-    while i < CLAUSE_NAMES {
+    while i < CLAUSE_COUNT {
         let name = clause_name_at(i);
         if is_spelling(s, name) {
             return SpelledName::Known(name);

@@ -12,14 +12,14 @@ use Rattle.octets.specs.Lists.{any}
 use Rattle.octets.specs.Number.{bigOctets}
 use Rattle.filter.specs.declared.request.ClauseName.{ClauseName}
 use Rattle.filter.specs.declared.request.Request.{Request}
-use Rattle.filter.specs.Filter.{andTag, equalityTag, stringTag, filterLimit}
+use Rattle.filter.specs.Filter.{shortLimit, oneAfter, twoAfter, andTag, equalityTag, stringTag, filterLimit}
 use Rattle.filter_write.specs.declared.write.Written.{Written}
 use Rattle.filter_write.specs.declared.write.Written.the-variants as written
-use Rattle.filter.specs.Request.{names, spelling, clause, isPresent, octetsOf}
+use Rattle.filter.specs.Request.{clauseNames, spelling, clause, isPresent, octetsOf}
 
 -- the shortest length
 unfoldable pub lengthOctets : ℕ → List ℕ
-lengthOctets n = cond (ltb n 0x80) (bigOctets 1 n) (cond (ltb n 0x100) (0x81 ∷ bigOctets 1 n) (0x82 ∷ bigOctets 2 n))
+lengthOctets n = cond (ltb n shortLimit) (bigOctets 1 n) (cond (ltb n 0x100) (oneAfter ∷ bigOctets 1 n) (twoAfter ∷ bigOctets 2 n))
 
 unfoldable pub element : ℕ → List ℕ → List ℕ
 element tag contents = (tag ∷ lengthOctets (length contents)) ++ contents
@@ -31,12 +31,12 @@ equalityFor name (some value) = element equalityTag (element stringTag (spelling
 
 -- the present clauses, whose octets lie in the source, in document 01's order inside one AND
 unfoldable pub filterOctets : List ℕ → Request → List ℕ
-filterOctets source r = element andTag (flatMap (λ name. equalityFor name (octetsOf source (clause r name))) names)
+filterOctets source r = element andTag (flatMap (λ name. equalityFor name (octetsOf source (clause r name))) clauseNames)
 
 unfoldable pub filterFor : List ℕ → Request → ℕ → Try (List ℕ)
 filterFor source r room =
     let octets = filterOctets source r in
-    refusedIf (not (any (λ name. isPresent (clause r name)) names)) FilterShape
+    refusedIf (not (any (λ name. isPresent (clause r name)) clauseNames)) FilterShape
     (refusedIf (ltb filterLimit (length octets)) FilterLength
     (refusedIf (ltb room (length octets)) NoRoom (good octets)))
 

@@ -6,17 +6,19 @@ ghost use Prim.Native.Nat.{_+_, _≤_, _<_};
 ghost use lib.ListN.{length};
 ghost use Rattle.octets.specs.Buffer.{over};
 ghost use Rattle.filter.specs.Filter.{filterLimit, stringTag};
-ghost use Rattle.filter.specs.Request.{names, spelling, octetsOf};
+ghost use Rattle.filter.specs.Request.{clauseNames, spelling, octetsOf};
 ghost use Rattle.filter_write.specs.Write.{lengthOctets, element, equalityFor, filterOctets};
 ghost use Rattle.filter_write.specs.Internal.Size.{headSize, elementSize, contents};
-use crate::size::LENGTH_OF_ONE;
-use crate::size::LENGTH_OF_TWO;
+use crate::size::ONE_OCTET_LIMIT;
+use crate::size::TWO_OCTETS_LIMIT;
 use crate::size::element_size;
 use crate::size::name_size;
 use filter::position::AND_TAG;
 use filter::position::EQUALITY_TAG;
+use filter::position::ONE_AFTER;
 use filter::position::STRING_TAG;
-use filter::request::CLAUSE_NAMES;
+use filter::position::TWO_AFTER;
+use filter::request::CLAUSE_COUNT;
 use filter::request::Clause;
 use filter::request::ClauseName;
 use filter::request::Request;
@@ -43,16 +45,16 @@ fn put_head(out: &mut [u8], tag: u8, n: usize) -> usize
     ensures { λ _. ⌜ now (out .exit) ≡ over (tag ∷ lengthOctets n) (now (out .entry)) ⌝ }
 {
     out[0] = tag;
-    if n < LENGTH_OF_ONE {
+    if n < ONE_OCTET_LIMIT {
         out[1] = n as u8;
         return 2;
     }
-    if n < LENGTH_OF_TWO {
-        out[1] = 0x81;
+    if n < TWO_OCTETS_LIMIT {
+        out[1] = ONE_AFTER;
         out[2] = n as u8;
         return 3;
     }
-    out[1] = 0x82;
+    out[1] = TWO_AFTER;
     out[2] = (n / 256) as u8;
     out[3] = (n % 256) as u8;
     4
@@ -110,13 +112,13 @@ fn put_equality(out: &mut [u8], source: &[u8], name: ClauseName, clause: Clause)
 
 // The present clauses, in document 01's order.
 fn put_clauses(out: &mut [u8], source: &[u8], request: Request)
-    requires { ⌜ length (contents (now source) request names) ≤ length (now out) ⌝ }
-    requires { ⌜ length (contents (now source) request names) ≤ filterLimit ⌝ }
-    ensures { λ _. ⌜ now (out .exit) ≡ over (contents (now (source .entry)) request names) (now (out .entry)) ⌝ }
+    requires { ⌜ length (contents (now source) request clauseNames) ≤ length (now out) ⌝ }
+    requires { ⌜ length (contents (now source) request clauseNames) ≤ filterLimit ⌝ }
+    ensures { λ _. ⌜ now (out .exit) ≡ over (contents (now (source .entry)) request clauseNames) (now (out .entry)) ⌝ }
 {
     let mut at = 0;
     let mut i = 0;
-    while i < CLAUSE_NAMES {
+    while i < CLAUSE_COUNT {
         let name = clause_name_at(i);
         at += put_equality(&mut out[at..], source, name, request.clause(name));
         i += 1;
@@ -125,7 +127,7 @@ fn put_clauses(out: &mut [u8], source: &[u8], request: Request)
 
 // The clauses inside one AND, whose contents are `size` octets.
 pub fn put_filter(out: &mut [u8], source: &[u8], request: Request, size: usize)
-    requires { ⌜ size ≡ length (contents (now source) request names) ⌝ }
+    requires { ⌜ size ≡ length (contents (now source) request clauseNames) ⌝ }
     requires { ⌜ (elementSize size ≤ length (now out)) × (elementSize size ≤ filterLimit) ⌝ }
     ensures { λ _. ⌜ now (out .exit) ≡ over (filterOctets (now (source .entry)) request) (now (out .entry)) ⌝ }
 {

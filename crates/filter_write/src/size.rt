@@ -3,10 +3,11 @@ ghost use mathlib.Core.Path.{_≡_};
 ghost use Prim.Native.Nat.{_+_, _^_, _≤_, _<_, min};
 ghost use lib.ListN.{length};
 ghost use Rattle.octets.specs.Lists.{any};
-ghost use Rattle.filter.specs.Request.{names, spelling, clause, isPresent, octetsOf};
+ghost use Rattle.filter.specs.Request.{clauseNames, spelling, clause, isPresent, octetsOf};
 ghost use Rattle.filter_write.specs.Write.{equalityFor};
 ghost use Rattle.filter_write.specs.Internal.Size.{headSize, elementSize, contents};
-use filter::request::CLAUSE_NAMES;
+use filter::position::SHORT_LIMIT;
+use filter::request::CLAUSE_COUNT;
 use filter::request::Clause;
 use filter::request::ClauseName;
 use filter::request::Request;
@@ -15,10 +16,10 @@ use filter::request::spelling_of;
 use octets::part::part;
 
 // Lengths below this take one octet.
-pub const LENGTH_OF_ONE: usize = 0x80;
+pub const ONE_OCTET_LIMIT: usize = SHORT_LIMIT as usize;
 
 // Those from there to below this take 81h and one octet, and longer ones 82h and two.
-pub const LENGTH_OF_TWO: usize = 0x100;
+pub const TWO_OCTETS_LIMIT: usize = 0x100;
 
 // How many octets a clause name takes.
 pub fn name_size(name: ClauseName) -> usize
@@ -33,10 +34,10 @@ pub fn head_size(n: usize) -> usize
     ensures { λ r. ⌜ r ≡ headSize n ⌝ }
     ensures { λ r. ⌜ r ≤ 4 ⌝ }
 {
-    if n < LENGTH_OF_ONE {
+    if n < ONE_OCTET_LIMIT {
         return 2;
     }
-    if n < LENGTH_OF_TWO {
+    if n < TWO_OCTETS_LIMIT {
         return 3;
     }
     4
@@ -79,11 +80,11 @@ fn capped_sum(a: usize, b: usize) -> usize
 
 // How many octets the equalities of a request's clauses take, or 4,096 where they take more.
 pub fn contents_size(source: &[u8], request: Request) -> usize
-    ensures { λ r. ⌜ r ≡ min (length (contents (now (source .entry)) request names)) 4096 ⌝ }
+    ensures { λ r. ⌜ r ≡ min (length (contents (now (source .entry)) request clauseNames)) 4096 ⌝ }
 {
     let mut size = 0;
     let mut i = 0;
-    while i < CLAUSE_NAMES {
+    while i < CLAUSE_COUNT {
         let name = clause_name_at(i);
         size = capped_sum(size, equality_size(source, name, request.clause(name)));
         i += 1;
@@ -93,10 +94,10 @@ pub fn contents_size(source: &[u8], request: Request) -> usize
 
 // Whether a clause is present.
 pub fn has_clause(request: Request) -> bool
-    ensures { λ r. ⌜ r ≡ any (λ name. isPresent (clause request name)) names ⌝ }
+    ensures { λ r. ⌜ r ≡ any (λ name. isPresent (clause request name)) clauseNames ⌝ }
 {
     let mut i = 0;
-    while i < CLAUSE_NAMES {
+    while i < CLAUSE_COUNT {
         if request.clause(clause_name_at(i)).is_present() {
             return true;
         }

@@ -1,4 +1,4 @@
--- Document 01, "EX flags": 400h is set by what DnsDomain names alone. So a ping without DnsDomain never gets it, whatever its GUID or the default.
+-- Document 01, "Choosing the answer" and its slip of the application flag: a ping without DnsDomain never gets 400h, whatever its GUID or the default.
 use mathlib.Core.Path.{_≡_}
 use mathlib.Core.Bool.{false}
 use mathlib.Core.Option.{Option, none}

@@ -16,7 +16,7 @@ use Rattle.octets.specs.Number.{little}
 use Rattle.reader.specs.Reader.{Fields, nt40, response, ex, readIn}
 use Rattle.reply.specs.Reply.{u16, u32}
 use Rattle.table.specs.Bits.{roleNt4Wanted}
-use Rattle.table_layout.specs.Check.{checkOf}
+use Rattle.table_check.specs.Check.{checkOf}
 use Rattle.table.specs.declared.Caller.{Caller}
 use Rattle.locator.specs.Answer.{Outcome, answerTo, answerAs, octetsWritten, numberOf, lengthOf, contextNumberOf, formIn}
 

@@ -18,9 +18,16 @@ pub record Writing : Type 0 where
   pub octets : List ℕ
   pub tails : List Tail
 
+-- a pointer's top two bits, and what its offset is below
+abbrev pub pointerBits : ℕ
+pointerBits = 0xC000
+
+abbrev pub pointerLimit : ℕ
+pointerLimit = 0x4000
+
 -- the top two bits set, then 14 bits of offset
 unfoldable pub pointerTo : ℕ → List ℕ
-pointerTo offset = bigOctets 2 (0xC000 + offset)
+pointerTo offset = bigOctets 2 (pointerBits + offset)
 
 unfoldable pub literalLabel : List ℕ → List ℕ
 literalLabel l = length l ∷ l

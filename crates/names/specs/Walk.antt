@@ -7,6 +7,7 @@ use lib.Dec.{eqb, leb, ltb}
 use lib.ListN.{length, getD}
 use Rattle.octets.specs.Lists.{cut}
 use Rattle.octets.specs.Number.{big}
+use Rattle.names.specs.Name.{pointerLimit}
 
 -- what stands at an offset, by the top two bits of its octet: a label's octets may still be missing
 pub data Look : Type 0 where
@@ -22,7 +23,7 @@ ifThere false l = missing
 
 -- a pointer's offset: its low 14 bits
 abbrev pub aim : List ℕ → ℕ → ℕ
-aim s at = big (cut s at 2) % 0x4000
+aim s at = big (cut s at 2) % pointerLimit
 
 unfoldable pub lookAt : List ℕ → ℕ → Look
 lookAt s at =

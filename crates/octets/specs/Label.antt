@@ -17,7 +17,7 @@ unfoldable pub parts : List ℕ → List (List ℕ)
 parts [] = [] ∷ []
 parts (x ∷ xs) = onDot (eqb x 46) x (parts xs)
 
--- a name's labels: none if it is empty
+-- a name's labels, none if it is empty; how many they are is document 01's L
 unfoldable pub labels : List ℕ → List (List ℕ)
 labels [] = []
 labels (x ∷ xs) = parts (x ∷ xs)

@@ -48,6 +48,11 @@ module _ {A : Type 0} where
   holds p none = false
   holds p (some x) = p x
 
+  -- what is there passes the test, if anything is there
+  abbrev pub noneOr : (A → Bool) → Option A → Bool
+  noneOr p none = true
+  noneOr p (some x) = p x
+
   -- a stretch: n elements from `at`, or as many of them as there are
   abbrev pub cut : List A → ℕ → ℕ → List A
   cut s at n = take n (drop at s)

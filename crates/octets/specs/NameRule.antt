@@ -17,15 +17,31 @@ printable = all isPrintable
 abbrev pub without : ℕ → List ℕ → Bool
 without x = all (λ y. not (eqb y x))
 
+-- how many octets a label and a name of each kind may have; the table has room for as many
+abbrev pub labelMost : ℕ
+labelMost = 63
+
+abbrev pub dnsNameMost : ℕ
+dnsNameMost = 253
+
+abbrev pub netbiosNameMost : ℕ
+netbiosNameMost = 15
+
+abbrev pub siteNameMost : ℕ
+siteNameMost = 63
+
+abbrev pub userNameMost : ℕ
+userNameMost = 63
+
 unfoldable pub isDnsName : List ℕ → Bool
-isDnsName s = sized 1 253 s && printable s && all (sized 1 63) (parts s)
+isDnsName s = sized 1 dnsNameMost s && printable s && all (sized 1 labelMost) (parts s)
 
 -- NetBIOS and site names: the same octets, no dot, and as many as there is room for
 unfoldable pub isPlainName : ℕ → List ℕ → Bool
 isPlainName room s = sized 1 room s && printable s && without 46 s
 
 abbrev pub isNetbiosName : List ℕ → Bool
-isNetbiosName = isPlainName 15
+isNetbiosName = isPlainName netbiosNameMost
 
 abbrev pub isSiteName : List ℕ → Bool
-isSiteName = isPlainName 63
+isSiteName = isPlainName siteNameMost

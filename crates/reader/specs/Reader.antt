@@ -12,6 +12,7 @@ use Rattle.answers.specs.Try.{Try, refused, good, refusedIf, _>>=_}
 use Rattle.answers.specs.Wire.{NETLOGON-NT-VERSION-5EX-WITH-IP, NETLOGON-NT-VERSION-WITH-CLOSEST-SITE, nt40Version, responseVersion, exVersion, exVersionWithNextSite, Opcodes, olderOpcodes, exOpcodes, isOneOf, Sbz, NullGuid, LmNtToken, Lm20Token, DcSockAddrSize, sin-family, sin-zero}
 use Rattle.names.specs.Walk.{WalkedName}
 use Rattle.octets.specs.Label.{joined}
+use Rattle.octets.specs.Sid.{guidSize, ipv4Size}
 use Rattle.octets.specs.Number.{little, littleOctets, u32At, has}
 use Rattle.reader.specs.Field.{Read, readOctets, readFixed}
 use Rattle.reader.specs.Name.{readName}
@@ -112,10 +113,10 @@ readNt40 s = do
 unfoldable pub readResponse : List ℕ → Try Fields
 readResponse s = do
   o ← readOpening s
-  g ← readOctets s (o .next) 16
+  g ← readOctets s (o .next) guidSize
   z ← readFixed s (g .next) NullGuid
   n ← readNames 3 s (z .next)
-  i ← readOctets s (n .next) 4
+  i ← readOctets s (n .next) ipv4Size
   f ← readNumber s (i .next)
   e ← readConstant 4 responseVersion s (f .next)
   let w = o .value in
@@ -129,7 +130,7 @@ readAddress false s at = good (record { value = none; next = at })
 readAddress true s at = do
   a ← readFixed s at (DcSockAddrSize ∷ [])
   b ← readConstant 4 sin-family s (a .next)
-  i ← readOctets s (b .next) 4
+  i ← readOctets s (b .next) ipv4Size
   z ← readFixed s (i .next) sin-zero
   good (record { value = some (i .value); next = z .next })
 
@@ -156,7 +157,7 @@ readEx v s = do
   o ← readOpcode exOpcodes s
   z ← readConstant 2 Sbz s (o .next)
   f ← readNumber s (z .next)
-  g ← readOctets s (f .next) 16
+  g ← readOctets s (f .next) guidSize
   n ← readNames 8 s (g .next)
   i ← readAddress (has v NETLOGON-NT-VERSION-5EX-WITH-IP) s (n .next)
   l ← readLast (hasNextSite s) v s (i .next)

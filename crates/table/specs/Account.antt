@@ -1,6 +1,7 @@
 -- Document 01, "The table image", kind 4: an account, and its fields' offsets in the record.
 use mathlib.Core.List.{List}
 use Prim.Native.Nat.{ℕ}
+use Rattle.octets.specs.NameRule.{userNameMost}
 use Rattle.octets.specs.Number.{u16At, u32At}
 use Rattle.table.specs.declared.ContextNumber.{ContextNumber}
 use Rattle.table.specs.declared.field.TextField.{TextField}
@@ -21,7 +22,7 @@ abbrev pub controlOffset : ℕ
 controlOffset = 4
 
 abbrev pub accountName : TextField
-accountName = record { offset = 8; room = 63 }
+accountName = record { offset = 8; room = userNameMost }
 
 unfoldable pub accountOf : List ℕ → Account
 accountOf r = record { context = contextNumber (u16At r 0); control = u32At r controlOffset; name = textAt r accountName }

@@ -9,9 +9,12 @@ use lib.ListN.{getD}
 unfoldable pub addressNumber : List ℕ → ℕ
 addressNumber a = 0x1000000 * getD a 0 0 + 0x10000 * getD a 1 0 + 0x100 * getD a 2 0 + getD a 3 0
 
+abbrev pub addressBits : ℕ
+addressBits = 32
+
 -- how many addresses share a prefix
 abbrev pub shareSize : ℕ → ℕ
-shareSize prefix = 2 ^ (32 - prefix)
+shareSize prefix = 2 ^ (addressBits - prefix)
 
 -- an address with the bits past a prefix zero
 unfoldable pub networkOf : ℕ → ℕ → ℕ

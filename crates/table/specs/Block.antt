@@ -10,6 +10,13 @@ use Rattle.table.specs.Countings.{blockPlace}
 abbrev pub blockSize : ℕ
 blockSize = 512
 
+-- 2 to 128 blocks
+abbrev pub imageLeast : ℕ
+imageLeast = 1024
+
+abbrev pub imageMost : ℕ
+imageMost = 65536
+
 -- the blocks of an image
 unfoldable pub blocksOf : List ℕ → List (List ℕ)
 blocksOf image = pieces (length image / blockSize) blockSize image

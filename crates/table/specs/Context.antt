@@ -6,8 +6,9 @@ use Prim.Native.Nat.{ℕ}
 use lib.Dec.{eqb}
 use lib.ListN.{drop, getD}
 use Rattle.octets.specs.Lists.{cut}
+use Rattle.octets.specs.NameRule.{netbiosNameMost, dnsNameMost}
 use Rattle.octets.specs.Number.{u16At}
-use Rattle.octets.specs.Sid.{sidLength}
+use Rattle.octets.specs.Sid.{sidLength, guidSize}
 use Rattle.table.specs.declared.ContextNumber.{ContextNumber}
 use Rattle.table.specs.declared.field.TextField.{TextField}
 use Rattle.table.specs.declared.record.RecordFormat.{RecordFormat}
@@ -49,17 +50,17 @@ sidIf true s = some s
 sidIf false s = none
 
 abbrev pub contextNetbios : TextField
-contextNetbios = record { offset = 88; room = 15 }
+contextNetbios = record { offset = 88; room = netbiosNameMost }
 
 abbrev pub contextDnsName : TextField
-contextDnsName = record { offset = 104; room = 253 }
+contextDnsName = record { offset = 104; room = dnsNameMost }
 
 unfoldable pub contextOf : List ℕ → Context
 contextOf b =
     record {
       number = contextNumber (u16At b 0);
       application = eqb (applicationOctet b) 1;
-      guid = cut b 4 16;
+      guid = cut b 4 guidSize;
       sid = sidIf (eqb (hasSidOctet b) 1) (sidAt b);
       netbios = textAt b contextNetbios;
       dns = textAt b contextDnsName;

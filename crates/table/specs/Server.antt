@@ -2,7 +2,9 @@
 use mathlib.Core.List.{List}
 use Prim.Native.Nat.{ℕ}
 use Rattle.octets.specs.Lists.{cut}
+use Rattle.octets.specs.NameRule.{netbiosNameMost, dnsNameMost}
 use Rattle.octets.specs.Number.{u16At, u32At}
+use Rattle.octets.specs.Sid.{ipv4Size}
 use Rattle.table.specs.declared.BlockPlace.{BlockPlace}
 use Rattle.table.specs.declared.ContextNumber.{ContextNumber}
 use Rattle.table.specs.declared.SiteNumber.{SiteNumber}
@@ -26,17 +28,17 @@ pub record Server : Type 0 where
   pub host : List ℕ
 
 abbrev pub serverNetbios : TextField
-serverNetbios = record { offset = 16; room = 15 }
+serverNetbios = record { offset = 16; room = netbiosNameMost }
 
 abbrev pub serverHost : TextField
-serverHost = record { offset = 32; room = 253 }
+serverHost = record { offset = 32; room = dnsNameMost }
 
 unfoldable pub serverOf : List ℕ → Server
 serverOf b =
     record {
       roles = u32At b 0;
       state = u32At b 4;
-      address = cut b 8 4;
+      address = cut b 8 ipv4Size;
       site = siteNumber (u16At b 12);
       defaultContext = contextNumber (u16At b 14);
       netbios = textAt b serverNetbios;

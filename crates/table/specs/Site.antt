@@ -2,6 +2,7 @@
 use mathlib.Core.List.{List}
 use mathlib.Core.Option.{Option}
 use Prim.Native.Nat.{ℕ}
+use Rattle.octets.specs.NameRule.{siteNameMost}
 use Rattle.octets.specs.Number.{u16At}
 use Rattle.table.specs.declared.SiteNumber.{SiteNumber}
 use Rattle.table.specs.declared.field.TextField.{TextField}
@@ -19,7 +20,7 @@ pub record Site : Type 0 where
   pub next : Option SiteNumber
 
 abbrev pub siteName : TextField
-siteName = record { offset = 2; room = 63 }
+siteName = record { offset = 2; room = siteNameMost }
 
 abbrev pub nextOffset : ℕ
 nextOffset = 66

@@ -5,6 +5,7 @@ use Prim.Native.Nat.{ℕ}
 use lib.ListN.{getD}
 use Rattle.octets.specs.Lists.{cut}
 use Rattle.octets.specs.Number.{u16At}
+use Rattle.octets.specs.Sid.{ipv4Size}
 use Rattle.table.specs.declared.SiteNumber.{SiteNumber}
 use Rattle.table.specs.declared.record.RecordFormat.{RecordFormat}
 use Rattle.table.specs.Countings.{siteOrNone}
@@ -24,4 +25,4 @@ abbrev pub subnetSiteOffset : ℕ
 subnetSiteOffset = 6
 
 unfoldable pub subnetOf : List ℕ → Subnet
-subnetOf r = record { address = cut r 0 4; prefix = getD r 4 0; site = siteOrNone (u16At r subnetSiteOffset) }
+subnetOf r = record { address = cut r 0 ipv4Size; prefix = getD r 4 0; site = siteOrNone (u16At r subnetSiteOffset) }

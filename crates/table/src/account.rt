@@ -7,6 +7,7 @@ use crate::field::text_in;
 use crate::field::u16_in;
 use crate::field::u32_in;
 use crate::record::RecordFormat;
+use octets::name_rule::USER_NAME_MOST;
 
 pub const FORMAT: RecordFormat = RecordFormat {
     kind: 4,
@@ -20,7 +21,7 @@ pub const CONTROL: usize = 4;
 
 pub const NAME: TextField = TextField {
     offset: 8,
-    room: 63,
+    room: USER_NAME_MOST,
 };
 
 pub fn context(octets: &[u8]) -> ContextNumber

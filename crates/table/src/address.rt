@@ -5,6 +5,8 @@ use crate::Caller;
 use crate::field::octet_in;
 use octets::number::wide;
 
+pub const ADDRESS_BITS: u8 = 32;
+
 // An address as the number that prefixes are taken of.
 pub fn address_number(address: &[u8]) -> u32
     ensures { λ r. ⌜ r ≡ addressNumber (now (address .entry)) ⌝ }
@@ -26,10 +28,10 @@ pub fn caller_number(caller: Caller) -> u32
 fn share_size(prefix: u8) -> u64
     ensures { λ r. ⌜ r ≡ shareSize prefix ⌝ }
 {
-    if 32 <= prefix {
+    if ADDRESS_BITS <= prefix {
         return 1;
     }
-    1 << (32 - prefix)
+    1 << (ADDRESS_BITS - prefix)
 }
 
 // An address with the bits past a prefix zero.

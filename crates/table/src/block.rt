@@ -8,6 +8,13 @@ use octets::part::part;
 
 pub const BLOCK_SIZE: usize = 512;
 
+// 2 to 128 blocks.
+pub const IMAGE_LEAST: usize = 1024;
+
+pub const IMAGE_MOST: usize = 65536;
+
+pub const BLOCKS_MOST: usize = 128;
+
 const KIND: usize = 0;
 
 const VERSION: usize = 1;

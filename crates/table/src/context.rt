@@ -9,6 +9,8 @@ use crate::field::octet_in;
 use crate::field::text_in;
 use crate::field::u16_in;
 use crate::record::RecordFormat;
+use octets::name_rule::DNS_NAME_MOST;
+use octets::name_rule::NETBIOS_NAME_MOST;
 use octets::number::wide;
 use octets::part::part;
 
@@ -32,12 +34,12 @@ pub const SID_ROOM: usize = 68;
 
 pub const NETBIOS: TextField = TextField {
     offset: 88,
-    room: 15,
+    room: NETBIOS_NAME_MOST,
 };
 
 pub const DNS_NAME: TextField = TextField {
     offset: 104,
-    room: 253,
+    room: DNS_NAME_MOST,
 };
 
 pub fn number(octets: &[u8]) -> ContextNumber

@@ -4,6 +4,7 @@ ghost use Rattle.table.specs.Forest.{forestOf};
 use crate::BlockPlace;
 use crate::field::TextField;
 use crate::field::text_in;
+use octets::name_rule::DNS_NAME_MOST;
 
 pub const KIND: u8 = 2;
 
@@ -11,7 +12,7 @@ pub const PLACE: BlockPlace = BlockPlace(1);
 
 pub const NAME: TextField = TextField {
     offset: 0,
-    room: 253,
+    room: DNS_NAME_MOST,
 };
 
 pub fn name(octets: &[u8]) -> &[u8]

@@ -1,13 +1,20 @@
 // The server, by the octets of its block's body.
 ghost use mathlib.Core.Path.{_≡_};
+ghost use Prim.Native.Nat.{_≤_};
+ghost use lib.ListN.{length};
 ghost use Rattle.table.specs.Server.{serverOf};
+ghost use Rattle.table.specs.Table.{tableFrom};
 use crate::BlockPlace;
 use crate::ContextNumber;
 use crate::SiteNumber;
+use crate::block::block_at;
+use crate::block::body_of;
 use crate::field::TextField;
 use crate::field::text_in;
 use crate::field::u16_in;
 use crate::field::u32_in;
+use octets::name_rule::DNS_NAME_MOST;
+use octets::name_rule::NETBIOS_NAME_MOST;
 use octets::part::part;
 
 pub const KIND: u8 = 1;
@@ -26,12 +33,12 @@ const DEFAULT_CONTEXT: usize = 14;
 
 pub const NETBIOS: TextField = TextField {
     offset: 16,
-    room: 15,
+    room: NETBIOS_NAME_MOST,
 };
 
 pub const HOST: TextField = TextField {
     offset: 32,
-    room: 253,
+    room: DNS_NAME_MOST,
 };
 
 // The bits past the twelve roles and past the four states.
@@ -79,4 +86,12 @@ pub fn host(octets: &[u8]) -> &[u8]
     ensures { λ r. ⌜ now r ≡ serverOf (now (octets .entry)) .host ⌝ }
 {
     text_in(octets, HOST)
+}
+
+// The body of an image's server block.
+pub fn server_of(image: &[u8]) -> &[u8]
+    requires { ⌜ 512 ≤ length (now image) ⌝ }
+    ensures { λ r. ⌜ serverOf (now r) ≡ tableFrom (now (image .entry)) .server ⌝ }
+{
+    body_of(block_at(image, PLACE))
 }

@@ -10,6 +10,7 @@ use crate::field::TextField;
 use crate::field::text_in;
 use crate::field::u16_in;
 use crate::record::RecordFormat;
+use octets::name_rule::SITE_NAME_MOST;
 
 pub const FORMAT: RecordFormat = RecordFormat {
     kind: 5,
@@ -21,7 +22,7 @@ const NUMBER: usize = 0;
 
 pub const NAME: TextField = TextField {
     offset: 2,
-    room: 63,
+    room: SITE_NAME_MOST,
 };
 
 pub const NEXT: usize = 66;

@@ -1,4 +1,4 @@
--- Document 01, "Choosing the answer": what is looked up in the table. Found or nothing; a record is never taken for a missing one.
+-- Document 01, "Choosing the answer": what is looked up in the table.
 use mathlib.Core.Bool.{Bool, _&&_}
 use mathlib.Core.List.{List, [], _∷_}
 use mathlib.Core.Option.{Option, none, some}
@@ -17,7 +17,7 @@ use Rattle.table.specs.Site.{Site}
 use Rattle.table.specs.Subnet.{Subnet}
 use Rattle.table.specs.Table.{Table}
 
--- the contexts that a ping's clauses are held against
+-- the contexts that are searched
 unfoldable pub contextsSearched : Table → List Context
 contextsSearched t = t .contexts
 

@@ -8,7 +8,7 @@ ghost use Rattle.table.specs.Context.{contextOf};
 ghost use Rattle.table.specs.Format.{formatOf};
 ghost use Rattle.table.specs.Site.{siteOf};
 ghost use Rattle.table_whole.specs.Judgement.{Accepted};
-ghost use Rattle.table_find.specs.Internal.Found.{recordAt, LiesIn};
+ghost use Rattle.table_find.specs.Internal.Found.{recordFound, LiesIn};
 ghost use Rattle.table_find.specs.Internal.Key.{kindFor, isContext, isSite, isAskedFor, isFoundBy};
 ghost use Rattle.table_find.specs.Internal.Search.{firstInBody, firstInBlock, firstIn};
 use crate::account::is_account;
@@ -122,7 +122,7 @@ fn is_found_by(octets: &[u8], key: Key, asked: &[u8]) -> bool
 // The first record that the key finds in the body at an offset.
 fn first_in_body(image: &[u8], body: usize, key: Key, asked: &[u8]) -> Found
     requires { ⌜ body + bodySize ≤ length (now image) ⌝ }
-    ensures { λ r. ⌜ recordAt (now (image .entry)) (kindFor key) r ≡ firstInBody key (now (asked .entry)) (cut (now (image .entry)) body bodySize) ⌝ }
+    ensures { λ r. ⌜ recordFound (now (image .entry)) (kindFor key) r ≡ firstInBody key (now (asked .entry)) (cut (now (image .entry)) body bodySize) ⌝ }
     ensures { λ r. ⌜ LiesIn (now (image .entry)) (kindFor key) r ⌝ }
 {
     let format = format_for(key);
@@ -142,7 +142,7 @@ fn first_in_body(image: &[u8], body: usize, key: Key, asked: &[u8]) -> Found
 // The first record that the key finds in the block at a place; a block of another kind has none.
 fn first_in_block(image: &[u8], place: BlockPlace, key: Key, asked: &[u8]) -> Found
     requires { ⌜ place .0 < length (now image) / blockSize ⌝ }
-    ensures { λ r. ⌜ recordAt (now (image .entry)) (kindFor key) r ≡ firstInBlock key (now (asked .entry)) (blockAt (now (image .entry)) place) ⌝ }
+    ensures { λ r. ⌜ recordFound (now (image .entry)) (kindFor key) r ≡ firstInBlock key (now (asked .entry)) (blockAt (now (image .entry)) place) ⌝ }
     ensures { λ r. ⌜ LiesIn (now (image .entry)) (kindFor key) r ⌝ }
 {
     let format = format_for(key);
@@ -156,7 +156,7 @@ fn first_in_block(image: &[u8], place: BlockPlace, key: Key, asked: &[u8]) -> Fo
 // The first record of an image that the key finds.
 pub fn first_record(image: &[u8], key: Key, asked: &[u8]) -> Found
     requires { ⌜ Accepted (now image) ⌝ }
-    ensures { λ r. ⌜ recordAt (now (image .entry)) (kindFor key) r ≡ firstIn key (now (asked .entry)) (blocksOf (now (image .entry))) ⌝ }
+    ensures { λ r. ⌜ recordFound (now (image .entry)) (kindFor key) r ≡ firstIn key (now (asked .entry)) (blocksOf (now (image .entry))) ⌝ }
     ensures { λ r. ⌜ LiesIn (now (image .entry)) (kindFor key) r ⌝ }
 {
     let blocks = image.len() / BLOCK_SIZE;

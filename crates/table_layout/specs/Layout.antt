@@ -14,7 +14,7 @@ use Rattle.table.specs.declared.BlockPlace.{BlockPlace}
 use Rattle.table.specs.declared.record.RecordKind.{RecordKind}
 use Rattle.table.specs.declared.record.RecordKind.the-variants.{Context, Account, Site, Subnet}
 use Rattle.table.specs.Account.{accountFormat, controlOffset, accountName, accountOf}
-use Rattle.table.specs.Address.{addressNumber, isPrefixOnly}
+use Rattle.table.specs.Address.{addressBits, addressNumber, isPrefixOnly}
 use Rattle.table.specs.Block.{kindIn, versionIn, placeIn, bodySize, body}
 use Rattle.table.specs.Context.{contextFormat, applicationOctet, hasSidOctet, sidOffset, sidRoom, contextNetbios, contextDnsName, contextOf}
 use Rattle.table.specs.Countings.{samePlace, nextPlace}
@@ -94,7 +94,7 @@ siteLayout r =
 unfoldable pub subnetLayout : List ℕ → Bool
 subnetLayout r =
     let n = subnetOf r in
-    leb (n .prefix) 32
+    leb (n .prefix) addressBits
     && isPrefixOnly (n .prefix) (addressNumber (n .address))
     && eqb (inUseOctet r) 1
     && zeros r (subnetSiteOffset + 2) (subnetFormat .width)

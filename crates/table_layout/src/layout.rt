@@ -3,7 +3,7 @@ ghost use mathlib.Core.Path.{_≡_};
 ghost use Prim.Native.Nat.{_≤_};
 ghost use lib.ListN.{length};
 ghost use Rattle.octets.specs.Lists.{all, any};
-ghost use Rattle.table.specs.Block.{blocksOf};
+ghost use Rattle.table.specs.Block.{imageMost, blocksOf};
 ghost use Rattle.table.specs.Context.{contextOf};
 ghost use Rattle.table.specs.Format.{formatOf, recordKinds, recordsIn};
 ghost use Rattle.table.specs.Server.{serverPlace};
@@ -18,6 +18,7 @@ use octets::part::part;
 use octets::text::all_zero;
 use table::BlockPlace;
 use table::account;
+use table::address::ADDRESS_BITS;
 use table::address::address_number;
 use table::address::is_prefix_only;
 use table::block::BLOCK_SIZE;
@@ -121,7 +122,7 @@ fn subnet_layout(r: &[u8]) -> bool
     ensures { λ q. ⌜ q ≡ subnetLayout (now (r .entry)) ⌝ }
 {
     let prefix = subnet::prefix(r);
-    (prefix <= 32)
+    (prefix <= ADDRESS_BITS)
         & is_prefix_only(prefix, address_number(subnet::address(r)))
         & (subnet::in_use_octet(r) == 1)
         & is_zero_room(r, subnet::SITE + 2, subnet::FORMAT.width)
@@ -199,7 +200,7 @@ fn block_layout(place: BlockPlace, block: &[u8]) -> bool
 
 // Whether each block of an image has the layout of its kind and names its own place.
 pub fn good_layouts(image: &[u8]) -> bool
-    requires { ⌜ length (now image) ≤ 65536 ⌝ }
+    requires { ⌜ length (now image) ≤ imageMost ⌝ }
     ensures { λ r. ⌜ r ≡ layoutsFrom serverPlace (blocksOf (now (image .entry))) ⌝ }
 {
     let n = image.len() / BLOCK_SIZE;

@@ -1,4 +1,3 @@
-// The blocks of an image judged: document 01, answer numbers 2 and 3.
-pub mod check;
+// The layouts of an image's blocks: document 01, "The table image" and answer number 3.
 pub mod field;
 pub mod layout;

@@ -1,10 +1,10 @@
-// Records compared in pairs: contexts, of which there are at most 16.
+// Records compared in pairs: few of them, as contexts are, since the pairs grow by the square.
 ghost use mathlib.Core.Path.{_≡_};
 ghost use Rattle.octets.specs.Lists.{any, unique};
 ghost use Rattle.table.specs.Account.{accountOf};
 ghost use Rattle.table.specs.Context.{contextOf};
 ghost use Rattle.table.specs.SameName.{sameSid};
-ghost use Rattle.table_records.specs.Internal.Alike.{contextsAlike, accountsAlike, alikeBy, kindOf, likeAt, alikeAt};
+ghost use Rattle.table_records.specs.Internal.Alike.{contextsAlike, accountsAlike, alikeBy, recordKindOf, likeAt, alikeAt};
 use octets::text::same_octets;
 use table::account;
 use table::context;
@@ -19,8 +19,8 @@ pub enum Likeness {
     Accounts,
 }
 
-fn kind_of(likeness: Likeness) -> RecordKind
-    ensures { λ r. ⌜ r ≡ kindOf likeness ⌝ }
+fn record_kind_of(likeness: Likeness) -> RecordKind
+    ensures { λ r. ⌜ r ≡ recordKindOf likeness ⌝ }
 {
     match likeness {
         Likeness::Contexts => RecordKind::Context,
@@ -77,7 +77,7 @@ fn any_alike(image: &[u8], piece: &[u8], offsets: &[u16], likeness: Likeness) ->
     while i < offsets.len() {
         if are_alike(
             piece,
-            record_at(image, kind_of(likeness), offsets[i]),
+            record_at(image, record_kind_of(likeness), offsets[i]),
             likeness,
         ) {
             return true;
@@ -93,7 +93,7 @@ pub fn all_unique(image: &[u8], offsets: &[u16], likeness: Likeness) -> bool
 {
     let mut i = 0;
     while i < offsets.len() {
-        let piece = record_at(image, kind_of(likeness), offsets[i]);
+        let piece = record_at(image, record_kind_of(likeness), offsets[i]);
         let next = i + 1;
         if any_alike(image, piece, &offsets[next..], likeness) {
             return false;

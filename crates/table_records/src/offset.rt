@@ -3,7 +3,7 @@ ghost use mathlib.Core.Path.{_≡_};
 ghost use mathlib.Core.List.{_++_};
 ghost use Prim.Native.Nat.{_+_, _*_, _≤_};
 ghost use lib.ListN.{length, take};
-ghost use Rattle.table.specs.Block.{blocksOf};
+ghost use Rattle.table.specs.Block.{imageMost, blocksOf};
 ghost use Rattle.table.specs.Format.{formatOf};
 ghost use Rattle.table.specs.Table.{recordsOf};
 ghost use Rattle.table_records.specs.Internal.Offset.{offsetsFrom, recordsAt, usedOf};
@@ -19,7 +19,7 @@ use table::record::format_of;
 
 // Puts the offsets of those of n records that are used after the first k of out, and gives back how many there are now.
 fn add_offsets(image: &[u8], from: usize, n: usize, w: usize, out: &mut [u16], k: usize) -> usize
-    requires { ⌜ (from + w * n ≤ 65536) × (1 ≤ w) × (k + n ≤ length (now out)) ⌝ }
+    requires { ⌜ (from + w * n ≤ imageMost) × (1 ≤ w) × (k + n ≤ length (now out)) ⌝ }
     ensures { λ r. ⌜ take r (now (out .exit)) ≡ take k (now (out .entry)) ++ offsetsFrom (now (image .entry)) w from n ⌝ }
     ensures { λ r. ⌜ r ≤ k + n ⌝ }
 {
@@ -40,7 +40,7 @@ fn add_offsets(image: &[u8], from: usize, n: usize, w: usize, out: &mut [u16], k
 
 // The same of every block of a kind.
 fn kind_offsets(image: &[u8], kind: u8, n: usize, w: usize, out: &mut [u16]) -> usize
-    requires { ⌜ (length (now image) ≤ 65536) × (n * w ≤ 504) × (1 ≤ w) × (n ≤ 42) × (n * 128 ≤ length (now out)) ⌝ }
+    requires { ⌜ (length (now image) ≤ imageMost) × (n * w ≤ 504) × (1 ≤ w) × (n ≤ 42) × (n * 128 ≤ length (now out)) ⌝ }
     ensures { λ r. ⌜ recordsAt (now (image .entry)) w (take r (now (out .exit))) ≡ usedOf kind n w (blocksOf (now (image .entry))) ⌝ }
     ensures { λ r. ⌜ r ≤ n * 128 ⌝ }
 {
@@ -59,7 +59,7 @@ fn kind_offsets(image: &[u8], kind: u8, n: usize, w: usize, out: &mut [u16]) -> 
 
 // Puts the offsets of the used records of a kind into out, and gives back how many there are.
 pub fn offsets_of(image: &[u8], kind: RecordKind, out: &mut [u16]) -> usize
-    requires { ⌜ (length (now image) ≤ 65536) × (formatOf kind .count * 128 ≤ length (now out)) ⌝ }
+    requires { ⌜ (length (now image) ≤ imageMost) × (formatOf kind .count * 128 ≤ length (now out)) ⌝ }
     ensures { λ r. ⌜ recordsAt (now (image .entry)) (formatOf kind .width) (take r (now (out .exit))) ≡ recordsOf kind (blocksOf (now (image .entry))) ⌝ }
     ensures { λ r. ⌜ r ≤ formatOf kind .count * 128 ⌝ }
 {

@@ -1,3 +1,1 @@
-pub mod Mark
-pub mod Refer
 pub mod Half

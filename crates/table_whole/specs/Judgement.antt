@@ -12,16 +12,16 @@ use Rattle.octets.specs.Lists.{all}
 use Rattle.octets.specs.Text.{within}
 use Rattle.table_whole.specs.declared.judge.Judgement.{Judgement}
 use Rattle.table_whole.specs.declared.judge.Judgement.the-variants.{Passed, Refused}
-use Rattle.table.specs.Block.{blockSize, blocksOf}
+use Rattle.table.specs.Block.{blockSize, imageLeast, imageMost, blocksOf}
 use Rattle.table.specs.Server.{serverPlace}
 use Rattle.table.specs.Table.{Table, tableOf, tableFrom}
-use Rattle.table_layout.specs.Check.{goodCheck}
+use Rattle.table_check.specs.Check.{goodCheck}
 use Rattle.table_layout.specs.Layout.{layoutsFrom}
 use Rattle.table_whole.specs.Whole.{goodWhole}
 
 -- a multiple of 512 from 1,024 to 65,536
 unfoldable pub goodLength : List ℕ → Bool
-goodLength image = within 1024 65536 (length image) && eqb (length image % blockSize) 0
+goodLength image = within imageLeast imageMost (length image) && eqb (length image % blockSize) 0
 
 -- the table of an image, or why there is none
 unfoldable pub tableIn : List ℕ → Try Table

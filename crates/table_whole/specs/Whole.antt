@@ -1,11 +1,9 @@
 -- Document 01, "The table image": the table as a whole.
-use mathlib.Core.Bool.{Bool, true, false, not, _&&_}
+use mathlib.Core.Bool.{Bool, not, _&&_}
 use mathlib.Core.List.{List}
-use mathlib.Core.Option.{Option, none, some}
-use Prim.Native.Nat.{ℕ}
 use lib.Dec.{leb}
 use lib.ListN.{length}
-use Rattle.octets.specs.Lists.{all, any, unique, holds}
+use Rattle.octets.specs.Lists.{all, any, unique, holds, noneOr}
 use Rattle.octets.specs.Text.{same, within}
 use Rattle.table.specs.declared.ContextNumber.{ContextNumber}
 use Rattle.table.specs.declared.SiteNumber.{SiteNumber}
@@ -37,11 +35,6 @@ hasContext t n = any (λ c. sameContext (c .number) n) (t .contexts)
 
 unfoldable pub hasSite : Table → SiteNumber → Bool
 hasSite t n = any (λ s. sameSite (s .number) n) (t .sites)
-
--- where there is none, nothing is referred to
-abbrev pub noneOr : (SiteNumber → Bool) → Option SiteNumber → Bool
-noneOr p none = true
-noneOr p (some n) = p n
 
 -- every number referred to exists
 unfoldable pub refersRightly : Table → Bool

@@ -4,20 +4,23 @@ ghost use Rattle.table_whole.specs.Judgement.{goodLength, tableIn, judge
 use crate::whole::good_whole;
 use answers::Refusal;
 use answers::number_of;
-use table_layout::check::good_checks;
+use table::block::BLOCK_SIZE;
+use table::block::IMAGE_LEAST;
+use table::block::IMAGE_MOST;
+use table_check::check::good_checks;
 use table_layout::layout::good_layouts;
 
 // A multiple of 512 from 1,024 to 65,536.
 fn has_good_length(image: &[u8]) -> bool
     ensures { λ r. ⌜ r ≡ goodLength (now (image .entry)) ⌝ }
 {
-    if image.len() < 1024 {
+    if image.len() < IMAGE_LEAST {
         return false;
     }
-    if 65536 < image.len() {
+    if IMAGE_MOST < image.len() {
         return false;
     }
-    image.len() % 512 == 0
+    image.len() % BLOCK_SIZE == 0
 }
 
 // What judging an image gives: 0, or 1 to 4.

@@ -4,12 +4,12 @@ use mathlib.Core.List.{List}
 use Prim.Native.Nat.{ℕ}
 use lib.Dec.{leb}
 use lib.ListN.{length}
-use Rattle.octets.specs.NameRule.{without}
+use Rattle.octets.specs.NameRule.{without, userNameMost}
 use Rattle.unicode.specs.Utf8.{isUtf8}
 
--- a user's name: up to 63 octets of UTF-8, none zero
+-- a user's name: at most so many octets of UTF-8, none zero
 unfoldable pub isUserName : List ℕ → Bool
-isUserName s = leb (length s) 63 && isUtf8 s && without 0 s
+isUserName s = leb (length s) userNameMost && isUtf8 s && without 0 s
 
 -- an account's is not empty
 unfoldable pub isAccountName : List ℕ → Bool

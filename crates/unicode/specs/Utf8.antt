@@ -14,7 +14,7 @@ pub record Partial : Type 0 where
   pub high : ℕ
   pub bits : ℕ
 
--- what an octet leads to: nothing right, a whole code point, or the partway of a character
+-- what an octet leads to: nothing right, a whole code point, or a character read in part
 pub data Decoded : Type 0 where
   bad : Decoded
   point : ℕ → Decoded

@@ -2,12 +2,13 @@
 ghost use mathlib.Core.Path.{_≡_};
 ghost use Rattle.unicode.specs.UserName.{isUserName, isAccountName};
 use crate::utf8::is_utf8;
+use octets::name_rule::USER_NAME_MOST;
 use octets::text::lacks;
 
 pub fn is_user_name(s: &[u8]) -> bool
     ensures { λ r. ⌜ r ≡ isUserName (now (s .entry)) ⌝ }
 {
-    if 63 < s.len() {
+    if USER_NAME_MOST < s.len() {
         return false;
     }
     if !is_utf8(s) {

@@ -22,7 +22,7 @@ fn answer_check(text: &[u8]) {
     }
     let mut block = [0u8; 508];
     decode(text, &mut block);
-    let check = table_layout::check::check_of(&block);
+    let check = table_check::check::check_of(&block);
     say(b"check ");
     say_number(check.a as u64);
     say(b" ");

@@ -7,7 +7,7 @@ use crate::say::say;
 use crate::say::say_hex;
 use crate::say::say_number;
 use answers::number_of;
-use filter::request::CLAUSE_NAMES;
+use filter::request::CLAUSE_COUNT;
 use filter::request::Clause;
 use filter::request::Request;
 use filter::request::clause_name_at;
@@ -29,7 +29,7 @@ fn say_clause(filter: &[u8], clause: Clause) {
 
 fn say_request(filter: &[u8], request: Request) {
     let mut i = 0;
-    while i < CLAUSE_NAMES {
+    while i < CLAUSE_COUNT {
         say_clause(filter, request.clause(clause_name_at(i)));
         i += 1;
     }

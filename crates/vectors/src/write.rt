@@ -13,7 +13,7 @@ use crate::say::say_number;
 use crate::say::say_octets;
 use crate::say::say_unknown;
 use answers::number_of;
-use filter::request::CLAUSE_NAMES;
+use filter::request::CLAUSE_COUNT;
 use filter::request::Clause;
 use filter::request::Request;
 use filter::request::clause_name_at;
@@ -80,7 +80,7 @@ fn clause_at(line: &[u8], number: usize) -> Clause {
 fn request_of(line: &[u8]) -> Request {
     let mut request = no_clauses();
     let mut i = 0;
-    while i < CLAUSE_NAMES {
+    while i < CLAUSE_COUNT {
         request = request.with(clause_name_at(i), clause_at(line, FIRST_CLAUSE + i));
         i += 1;
     }

@@ -5,9 +5,9 @@ use mathlib.Core.List.{List, [], _∷_}
 use mathlib.Core.Option.{Option, none, some, Option·map, Option·getD, bind}
 use Prim.Native.Nat.{ℕ, _^_, _<_, _≤_}
 use native.Mathlib.Omega.{arith}
-use lib.Dec.{eqb, leb, ltb}
+use lib.Dec.{eqb, ltb}
 use lib.ListN.{length}
-use borrow.Author.Tests.{eqb-false, not-false, leb-true}
+use borrow.Author.Tests.{eqb-false, not-false}
 use Rattle.answers.specs.declared.Form.{Form}
 use Rattle.answers.specs.declared.Form.the-variants.{Ex}
 use Rattle.answers.specs.declared.Refusal.the-variants.{GuidLength, GuidNotHeld, DnsNameEmpty, DnsNameNotHeld, SidShape, SidNotHeld, SidOfAnother, UserLabelEmpty, NoRoom, TableWhole}
@@ -23,13 +23,11 @@ use Rattle.locator.specs.Judge.{contextFor, contextUsed, orWhole, contextIn}
 use Rattle.locator.proofs.Laws.Choose.{opcode-good, flags-fit}
 use Rattle.octets.specs.Label.{labels}
 use Rattle.octets.specs.Lists.{any, first, holds, isSome}
-use Rattle.octets.proofs.Laws.Lists.{Every, none-not-some, every-none, found, both-left, both-right}
-use Rattle.octets.specs.NameRule.{without}
+use Rattle.octets.proofs.Laws.Lists.{Every, none-not-some, every-none, found, both-left}
 use Rattle.octets.proofs.Laws.NameRule.{Writable, empty-writable, short-writable}
 use Rattle.unicode.proofs.Laws.Utf16.{empty-spoken}
 use Rattle.octets.specs.Number.{has}
 use Rattle.octets.specs.Sid.{isSid}
-use Rattle.unicode.specs.Utf8.{isUtf8}
 use Rattle.unicode.proofs.Laws.Utf16.{Spoken}
 use Rattle.reader.proofs.Laws.Reader.{GoodOpcode}
 use Rattle.reply.specs.Reply.{Reply, octetsIn}
@@ -43,7 +41,7 @@ use Rattle.table.specs.Countings.{sameSite}
 use Rattle.table.specs.Table.{Table}
 use Rattle.table_find.specs.Find.{contextsSearched, contextByGuid, contextByDnsName, contextBySid, holdsSid, contextByNumber, defaultContext, siteByNumber, siteIfAny, siteOfSubnet, siteFor, clientSite, subnetFor}
 use Rattle.table_whole.proofs.Laws.Judgement.{GoodContext, GoodSite, GoodTable, judged-good}
-use Rattle.demands.specs.Derivation.{PassedTable, GoodPing, Derivation, said}
+use Rattle.demands.specs.Derivation.{AcceptedTable, GoodPing, Derivation, said}
 
 -- ---- the context used is one of the table's
 
@@ -235,7 +233,7 @@ module _ {t : Table} {caller : Caller} {p : Ping} {room : ℕ} {a : Outcome} (d 
   pub said-octets : a .octets ≡ octetsIn (a .form) (said d)
   said-octets = replied t caller p room (d .context) a (d .replied) .octets
 
-  pub said-sound : PassedTable t → GoodPing p → Sound (a .form) (p .version) (said d)
+  pub said-sound : AcceptedTable t → GoodPing p → Sound (a .form) (p .version) (said d)
   said-sound passed user =
       let g : GoodTable t = judged-good (passed .image) t (passed .judged) in
       reply-sound t caller p (d .context) (a .form) g (context-good t p (d .context) g (d .used)) (user-good p user) (replied t caller p room (d .context) a (d .replied) .user)

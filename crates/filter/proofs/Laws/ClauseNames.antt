@@ -12,11 +12,11 @@ use Rattle.octets.proofs.Laws.Text.{folded-left}
 use Rattle.filter.specs.declared.request.Clause.{Clause}
 use Rattle.filter.specs.declared.request.ClauseName.{ClauseName}
 use Rattle.filter.specs.declared.request.ClauseName.the-variants.{DnsDomain, Host, DnsHostName, User, Aac, DomainSid, DomainGuid, NtVer}
-use Rattle.filter.specs.Request.{names, spelling, clause, requestBy}
+use Rattle.filter.specs.Request.{clauseNames, spelling, clause, requestBy}
 use Rattle.filter.specs.Internal.ClauseNames.{clauseNameAt, isSameName}
 
 -- the number of a name
-numbered : (n : ClauseName) → (i : ℕ) × (i < length names) × (clauseNameAt i ≡ n)
+numbered : (n : ClauseName) → (i : ℕ) × (i < length clauseNames) × (clauseNameAt i ≡ n)
 numbered DnsDomain = (0, omega arith, refl)
 numbered Host = (1, omega arith, refl)
 numbered DnsHostName = (2, omega arith, refl)
@@ -27,16 +27,16 @@ numbered DomainGuid = (6, omega arith, refl)
 numbered NtVer = (7, omega arith, refl)
 
 -- a test that no name passes
-pub names-none : (p : ClauseName → Bool) (n : ClauseName) → any p names ≡ false → p n ≡ false
+pub names-none : (p : ClauseName → Bool) (n : ClauseName) → any p clauseNames ≡ false → p n ≡ false
 names-none p n e =
     let k = numbered n in
-    ap p (sym (k .2)) ∙ any-false p names (k .0) NtVer (k .1) e
+    ap p (sym (k .2)) ∙ any-false p clauseNames (k .0) NtVer (k .1) e
 
 -- a test that holds of a name holds of some name
-pub names-any : (p : ClauseName → Bool) (n : ClauseName) → p n ≡ true → any p names ≡ true
-names-any p n e = by (any p names) refl
+pub names-any : (p : ClauseName → Bool) (n : ClauseName) → p n ≡ true → any p clauseNames ≡ true
+names-any p n e = by (any p clauseNames) refl
   where
-    by : (b : Bool) → any p names ≡ b → any p names ≡ true
+    by : (b : Bool) → any p clauseNames ≡ b → any p clauseNames ≡ true
     by true q = q
     by false q =
         let h : p n ≡ false = names-none p n q in
@@ -44,7 +44,7 @@ names-any p n e = by (any p names) refl
         absurd (omega arith)
 
 -- a name is the first, and so the only one, that is spelled like itself
-spelled : (n : ClauseName) → first (isSameName n) names ≡ some n
+spelled : (n : ClauseName) → first (isSameName n) clauseNames ≡ some n
 unfolding first same lower
 spelled DnsDomain = refl
 spelled Host = refl
@@ -56,12 +56,12 @@ spelled DomainGuid = refl
 spelled NtVer = refl
 
 pub same-self : (n : ClauseName) → isSameName n n ≡ true
-same-self n = first-holds (isSameName n) names n (spelled n)
+same-self n = first-holds (isSameName n) clauseNames n (spelled n)
 
 pub same-name : (m n : ClauseName) → isSameName m n ≡ true → m ≡ n
 same-name m n e =
     let alike : isSameName m ≡ isSameName n = fun-ext (λ k. folded-left (spelling m) (spelling n) (spelling k) e) in
-    let q : some m ≡ some n = sym (spelled m) ∙ ap (λ (p : ClauseName → Bool). first p names) alike ∙ spelled n in
+    let q : some m ≡ some n = sym (spelled m) ∙ ap (λ (p : ClauseName → Bool). first p clauseNames) alike ∙ spelled n in
     cc
 
 pub clause-by : (f : ClauseName → Clause) (n : ClauseName) → clause (requestBy f) n ≡ f n

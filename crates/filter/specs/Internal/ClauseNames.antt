@@ -9,10 +9,10 @@ use Rattle.filter.specs.declared.request.ClauseName.{ClauseName}
 use Rattle.filter.specs.declared.request.ClauseName.the-variants.{NtVer}
 use Rattle.filter.specs.declared.request.Request.{Request}
 use Rattle.filter.specs.declared.request.Spelling.{Spelling}
-use Rattle.filter.specs.Request.{names, spelling, clause, requestBy}
+use Rattle.filter.specs.Request.{clauseNames, spelling, clause, requestBy}
 
 abbrev pub clauseNameAt : ℕ → ClauseName
-clauseNameAt i = getD names i NtVer
+clauseNameAt i = getD clauseNames i NtVer
 
 -- the octets of a name, at the front of an array
 pub record Spells (name : ClauseName) (s : Spelling) : Type 0 where

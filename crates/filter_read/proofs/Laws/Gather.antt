@@ -16,12 +16,12 @@ use Rattle.filter.specs.declared.request.Clause.the-variants.{Absent, Present}
 use Rattle.filter.specs.declared.request.ClauseName.{ClauseName}
 use Rattle.filter.specs.declared.request.Request.{Request}
 use Rattle.filter.specs.Internal.ClauseNames.{isSameName, stored}
-use Rattle.filter.specs.Request.{names, spelling, clause, requestBy, isPresent}
+use Rattle.filter.specs.Request.{clauseNames, spelling, clause, requestBy, isPresent}
 use Rattle.filter.proofs.Laws.ClauseNames.{names-none, same-name, clause-by}
 use Rattle.filter_read.specs.declared.gather.Gathered.{Gathered}
 use Rattle.filter_read.specs.declared.gather.Gathering.the-variants as gathering
 use Rattle.filter_read.specs.declared.gather.SpelledName.the-variants as spelled
-use Rattle.filter_read.specs.Taken.{nameOf, isNamed, hasUnknown, hasDuplicate, asClause, requestOf, judgedClauses}
+use Rattle.filter_read.specs.Taken.{nameOctets, isNamed, hasUnknown, hasDuplicate, asClause, requestOf, judgedClauses}
 use Rattle.filter_read.specs.Internal.Gather.{spelledAs, nameSpelled, addedTo, addedAs, added, allAdded, gatheredFrom, nothing, answerOf}
 
 -- a clause name, or none
@@ -43,25 +43,25 @@ added-append s g (x ∷ xs) ys = added-append s (added s g x) xs ys
 module _ (x : List ℕ) where
   pub named-one : (m n : ClauseName) → nameSpelled x ≡ some m → sameFolded x (spelling n) ≡ isSameName m n
   unfolding nameSpelled
-  named-one m n e = folded-left x (spelling m) (spelling n) (first-holds (λ name. sameFolded x (spelling name)) names m e)
+  named-one m n e = folded-left x (spelling m) (spelling n) (first-holds (λ name. sameFolded x (spelling name)) clauseNames m e)
 
   pub named-not : (n : ClauseName) → nameSpelled x ≡ none → sameFolded x (spelling n) ≡ false
   unfolding nameSpelled
   named-not n e =
-      names-none (λ name. sameFolded x (spelling name)) n (sym (first-any (λ name. sameFolded x (spelling name)) names) ∙ ap isSome e)
+      names-none (λ name. sameFolded x (spelling name)) n (sym (first-any (λ name. sameFolded x (spelling name)) clauseNames) ∙ ap isSome e)
 
 -- 7: one of the clauses is of another name
 
 module _ (s : List ℕ) where
   abbrev nameFor : RawClause → Option ClauseName
-  nameFor f = nameSpelled (nameOf s f)
+  nameFor f = nameSpelled (nameOctets s f)
 
   abbrev isUnknown : RawClause → Bool
-  isUnknown f = not (any (λ name. isNamed s name f) names)
+  isUnknown f = not (any (λ name. isNamed s name f) clauseNames)
 
   unknown-spelled : (f : RawClause) → isUnknown f ≡ not (isSome (nameFor f))
   unfolding isNamed nameSpelled
-  unknown-spelled f = ap not (sym (first-any (λ name. sameFolded (nameOf s f) (spelling name)) names))
+  unknown-spelled f = ap not (sym (first-any (λ name. sameFolded (nameOctets s f) (spelling name)) clauseNames))
 
   unknown-one : (g : Gathered) (f : RawClause) → added s g f .unknown ≡ (g .unknown || isUnknown f)
   unfolding added
@@ -103,7 +103,7 @@ module _ (s : List ℕ) (n : ClauseName) where
 
   request-one : (g : Gathered) (f : RawClause) (fs : List RawClause) → orElse (clause (added s g f .request) n) (firstOne fs) ≡ orElse (clause (g .request) n) (firstOne (f ∷ fs))
   unfolding added first isNamed
-  request-one g f fs = by (nameSpelled (nameOf s f)) refl
+  request-one g f fs = by (nameSpelled (nameOctets s f)) refl
     where
       rest : Bool → Clause
       rest b = asClause (firstOr b f (first (isNamed s n) fs))
@@ -127,9 +127,9 @@ module _ (s : List ℕ) (n : ClauseName) where
           ap (λ (c : Clause). orElse c (firstOne fs)) (clause-by (λ other. cond (isSameName m other) (Present (f .start) (f .len)) (clause (g .request) other)) n)
           ∙ fresh m (isSameName m n) refl i
 
-      by : (o : Option ClauseName) → nameSpelled (nameOf s f) ≡ o → orElse (clause (addedAs g f o .request) n) (firstOne fs) ≡ orElse (clause (g .request) n) (rest (sameFolded (nameOf s f) (spelling n)))
-      by none e = ap (λ (b : Bool). orElse (clause (g .request) n) (rest b)) (sym (named-not (nameOf s f) n e))
-      by (some m) e = here m (isPresent (clause (g .request) m)) refl ∙ ap (λ (b : Bool). orElse (clause (g .request) n) (rest b)) (sym (named-one (nameOf s f) m n e))
+      by : (o : Option ClauseName) → nameSpelled (nameOctets s f) ≡ o → orElse (clause (addedAs g f o .request) n) (firstOne fs) ≡ orElse (clause (g .request) n) (rest (sameFolded (nameOctets s f) (spelling n)))
+      by none e = ap (λ (b : Bool). orElse (clause (g .request) n) (rest b)) (sym (named-not (nameOctets s f) n e))
+      by (some m) e = here m (isPresent (clause (g .request) m)) refl ∙ ap (λ (b : Bool). orElse (clause (g .request) n) (rest b)) (sym (named-one (nameOctets s f) m n e))
 
   pub all-request : (g : Gathered) (fs : List RawClause) → clause (allAdded s g fs .request) n ≡ orElse (clause (g .request) n) (firstOne fs)
   unfolding allAdded first
@@ -148,29 +148,29 @@ module _ (s : List ℕ) where
   thereIn r (some n) = isPresent (clause r n)
 
   abbrev there : Request → RawClause → Bool
-  there r f = thereIn r (nameSpelled (nameOf s f))
+  there r f = thereIn r (nameSpelled (nameOctets s f))
 
   abbrev sameName : RawClause → RawClause → Bool
-  sameName f h = sameFolded (nameOf s f) (nameOf s h)
+  sameName f h = sameFolded (nameOctets s f) (nameOctets s h)
 
   -- after a clause of name m is stored, the names there are those before and m
-  stored-there : (r : Request) (m : ClauseName) (start len : ℕ) (f h : RawClause) → nameSpelled (nameOf s f) ≡ some m → there (stored r m (Present start len)) h ≡ (there r h || sameName f h)
+  stored-there : (r : Request) (m : ClauseName) (start len : ℕ) (f h : RawClause) → nameSpelled (nameOctets s f) ≡ some m → there (stored r m (Present start len)) h ≡ (there r h || sameName f h)
   unfolding nameSpelled
-  stored-there r m start len f h e = by (nameSpelled (nameOf s h)) refl ∙ ap (λ (b : Bool). there r h || b) (sym like)
+  stored-there r m start len f h e = by (nameSpelled (nameOctets s h)) refl ∙ ap (λ (b : Bool). there r h || b) (sym like)
     where
-      like : sameName f h ≡ sameFolded (nameOf s h) (spelling m)
-      like = folded-left (nameOf s f) (spelling m) (nameOf s h) (first-holds (λ name. sameFolded (nameOf s f) (spelling name)) names m e) ∙ folded-sym (spelling m) (nameOf s h)
+      like : sameName f h ≡ sameFolded (nameOctets s h) (spelling m)
+      like = folded-left (nameOctets s f) (spelling m) (nameOctets s h) (first-holds (λ name. sameFolded (nameOctets s f) (spelling name)) clauseNames m e) ∙ folded-sym (spelling m) (nameOctets s h)
 
       set : (n : ClauseName) (b : Bool) → isPresent (cond b (Present start len) (clause r n)) ≡ (isPresent (clause r n) || b)
       set n true = sym (or-true (isPresent (clause r n)))
       set n false = sym (or-false (isPresent (clause r n)))
 
-      by : (o : Option ClauseName) → nameSpelled (nameOf s h) ≡ o → thereIn (stored r m (Present start len)) o ≡ (thereIn r o || sameFolded (nameOf s h) (spelling m))
-      by none q = sym (named-not (nameOf s h) m q)
+      by : (o : Option ClauseName) → nameSpelled (nameOctets s h) ≡ o → thereIn (stored r m (Present start len)) o ≡ (thereIn r o || sameFolded (nameOctets s h) (spelling m))
+      by none q = sym (named-not (nameOctets s h) m q)
       by (some n) q =
           ap isPresent (clause-by (λ other. cond (isSameName m other) (Present start len) (clause r other)) n)
           ∙ set n (isSameName m n)
-          ∙ ap (λ (b : Bool). isPresent (clause r n) || b) (folded-sym (spelling m) (spelling n) ∙ sym (named-one (nameOf s h) n m q))
+          ∙ ap (λ (b : Bool). isPresent (clause r n) || b) (folded-sym (spelling m) (spelling n) ∙ sym (named-one (nameOctets s h) n m q))
 
   duplicate-more : (f : RawClause) (fs : List RawClause) → hasDuplicate s (f ∷ fs) ≡ (any (sameName f) fs || hasDuplicate s fs)
   unfolding hasDuplicate unique
@@ -181,7 +181,7 @@ module _ (s : List ℕ) where
       by false b = refl
 
   -- one clause more, of name m
-  duplicate-one : (g : Gathered) (f : RawClause) (fs : List RawClause) (m : ClauseName) → nameSpelled (nameOf s f) ≡ some m → (b : Bool) → isPresent (clause (g .request) m) ≡ b
+  duplicate-one : (g : Gathered) (f : RawClause) (fs : List RawClause) (m : ClauseName) → nameSpelled (nameOctets s f) ≡ some m → (b : Bool) → isPresent (clause (g .request) m) ≡ b
       → (addedTo g m f b .duplicate || (any (there (addedTo g m f b .request)) fs || hasDuplicate s fs)) ≡ (g .duplicate || ((b || any (there (g .request)) fs) || (any (sameName f) fs || hasDuplicate s fs)))
   duplicate-one g f fs m q true i = sym (or-true (g .duplicate))
   duplicate-one g f fs m q false i =
@@ -193,12 +193,12 @@ module _ (s : List ℕ) where
   pub all-duplicate : (g : Gathered) (fs : List RawClause) → hasUnknown s fs ≡ false → allAdded s g fs .duplicate ≡ (g .duplicate || (any (there (g .request)) fs || hasDuplicate s fs))
   unfolding allAdded added hasUnknown hasDuplicate any unique
   all-duplicate g [] e = sym (or-false (g .duplicate))
-  all-duplicate g (f ∷ fs) e = by (nameSpelled (nameOf s f)) refl (all-duplicate (added s g f) fs (neither-right (isUnknown s f) (hasUnknown s fs) e))
+  all-duplicate g (f ∷ fs) e = by (nameSpelled (nameOctets s f)) refl (all-duplicate (added s g f) fs (neither-right (isUnknown s f) (hasUnknown s fs) e))
     where
-      known : isSome (nameSpelled (nameOf s f)) ≡ true
-      known = not-false (isSome (nameSpelled (nameOf s f))) (sym (unknown-spelled s f) ∙ neither-left (isUnknown s f) (hasUnknown s fs) e)
+      known : isSome (nameSpelled (nameOctets s f)) ≡ true
+      known = not-false (isSome (nameSpelled (nameOctets s f))) (sym (unknown-spelled s f) ∙ neither-left (isUnknown s f) (hasUnknown s fs) e)
 
-      by : (o : Option ClauseName) → nameSpelled (nameOf s f) ≡ o
+      by : (o : Option ClauseName) → nameSpelled (nameOctets s f) ≡ o
           → allAdded s (added s g f) fs .duplicate ≡ (added s g f .duplicate || (any (there (added s g f .request)) fs || hasDuplicate s fs))
           → allAdded s (added s g f) fs .duplicate ≡ (g .duplicate || ((there (g .request) f || any (there (g .request)) fs) || hasDuplicate s (f ∷ fs)))
       by none q ih = let z : false ≡ true = ap isSome (sym q) ∙ known in let y : _≡_ {A = ℕ} 0 1 = cc in absurd (omega arith)
@@ -215,7 +215,7 @@ unfolding requestOf
 gathers s fs = by-unknown (hasUnknown s fs) refl
   where
     none-there : any (there s (nothing .request)) fs ≡ false
-    none-there = any-ext (there s (nothing .request)) (λ f. false) fs (λ f. absent-all (nameSpelled (nameOf s f))) ∙ any-never fs
+    none-there = any-ext (there s (nothing .request)) (λ f. false) fs (λ f. absent-all (nameSpelled (nameOctets s f))) ∙ any-never fs
       where
         absent-all : (o : Option ClauseName) → thereIn s (nothing .request) o ≡ false
         absent-all none = refl

@@ -12,13 +12,13 @@ use Rattle.filter.specs.declared.request.Clause.the-variants.{Absent, Present}
 use Rattle.filter.specs.declared.request.ClauseName.{ClauseName}
 use Rattle.filter.specs.declared.request.Request.{Request}
 use Rattle.filter.specs.Internal.ClauseNames.{stored}
-use Rattle.filter.specs.Request.{names, spelling, clause, requestBy, isPresent}
+use Rattle.filter.specs.Request.{clauseNames, spelling, clause, requestBy, isPresent}
 use Rattle.filter_read.specs.declared.gather.Gathered.{Gathered}
 use Rattle.filter_read.specs.declared.gather.Gathering.{Gathering}
 use Rattle.filter_read.specs.declared.gather.Gathering.the-variants as gathering
 use Rattle.filter_read.specs.declared.gather.SpelledName.{SpelledName}
 use Rattle.filter_read.specs.declared.gather.SpelledName.the-variants as spelled
-use Rattle.filter_read.specs.Taken.{nameOf}
+use Rattle.filter_read.specs.Taken.{nameOctets}
 
 -- the clause name that octets spell
 
@@ -27,7 +27,7 @@ spelledAs none = spelled.Unknown
 spelledAs (some n) = spelled.Known n
 
 unfoldable pub nameSpelled : List ℕ → Option ClauseName
-nameSpelled x = first (λ name. sameFolded x (spelling name)) names
+nameSpelled x = first (λ name. sameFolded x (spelling name)) clauseNames
 
 -- one more clause: of another name, of a name that is there already, or the first of its name
 
@@ -40,7 +40,7 @@ addedAs g f none = record { request = g .request; unknown = true; duplicate = g 
 addedAs g f (some name) = addedTo g name f (isPresent (clause (g .request) name))
 
 unfoldable pub added : List ℕ → Gathered → RawClause → Gathered
-added s g f = addedAs g f (nameSpelled (nameOf s f))
+added s g f = addedAs g f (nameSpelled (nameOctets s f))
 
 unfoldable pub allAdded : List ℕ → Gathered → List RawClause → Gathered
 allAdded s g [] = g

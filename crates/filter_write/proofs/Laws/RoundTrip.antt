@@ -24,7 +24,7 @@ use Rattle.filter_read.specs.declared.read.Taken.the-variants as taken
 use Rattle.filter_write.specs.declared.write.Written.the-variants as written
 use Rattle.filter.specs.Internal.ClauseNames.{isSameName}
 use Rattle.filter.proofs.Laws.ClauseNames.{clause-by, names-any, same-self}
-use Rattle.filter.specs.Request.{names, clause, isPresent, octetsOf}
+use Rattle.filter.specs.Request.{clauseNames, clause, isPresent, octetsOf}
 use Rattle.filter.specs.Filter.{andTag, filterLimit, one, andOf, clausesOf}
 use Rattle.filter_read.specs.Taken.{isNamed, asClause, requestOf, requestIn, takenAs}
 use Rattle.filter_write.specs.Write.{element, equalityFor, filterOctets, filterFor, writtenAs, writtenOctets}
@@ -52,12 +52,12 @@ module _ (source : List ℕ) (r : Request) where
           let b = some-length source value n (cut source start len) in
           omega arith
 
-  module _ (some-clause : any (λ name. isPresent (clause r name)) names ≡ true) (short : length (filterOctets source r) ≤ filterLimit) where
+  module _ (some-clause : any (λ name. isPresent (clause r name)) clauseNames ≡ true) (short : length (filterOctets source r) ≤ filterLimit) where
     abbrev s : List ℕ
     s = filterOctets source r
 
     abbrev inside : List ℕ
-    inside = contents source r names
+    inside = contents source r clauseNames
 
     whole : s ≡ element andTag inside
     unfolding filterOctets
@@ -69,16 +69,16 @@ module _ (source : List ℕ) (r : Request) where
     start : ℕ
     start = 0 + headSize (length inside)
 
-    again : AllAgain s value 3 (start + length inside - start) start (start + length inside) names
+    again : AllAgain s value 3 (start + length inside - start) start (start + length inside) clauseNames
     unfolding start
     again =
         let z = size in
         let b = head-bounds (length inside) in
-        siblings-back s value 3 names (start + length inside - start) start (start + length inside)
+        siblings-back s value 3 clauseNames (start + length inside - start) start (start + length inside)
         (contents-back s 0 (length s) andTag inside [] (whole ∙ sym (append-nil (element andTag inside))) ∙ append-nil inside)
         refl
         (omega arith)
-        (present-length names some-clause)
+        (present-length clauseNames some-clause)
         (omega arith)
 
     read : clausesOf s ≡ some (again .clauses)
@@ -90,7 +90,7 @@ module _ (source : List ℕ) (r : Request) where
         let f : start + length inside ≡ length s = omega arith in
         rw (clausesOf, e, eq-eqb (start + length inside) (length s) f) (again .reads)
 
-    unique-names : distinct s value names ≡ true
+    unique-names : distinct s value clauseNames ≡ true
     unfolding unique any same lower
     unique-names = refl
 
@@ -114,7 +114,7 @@ answered true false false o octets e = (refl, refl, cc)
 pub round-trip : RoundTrip
 unfolding filterFor
 round-trip source r room octets e =
-    let a = answered (any (λ name. isPresent (clause r name)) names) (ltb filterLimit (length (filterOctets source r))) (ltb room (length (filterOctets source r))) (filterOctets source r) octets e in
+    let a = answered (any (λ name. isPresent (clause r name)) clauseNames) (ltb filterLimit (length (filterOctets source r))) (ltb room (length (filterOctets source r))) (filterOctets source r) octets e in
     let h : length (filterOctets source r) ≤ filterLimit = ltb-false filterLimit (length (filterOctets source r)) (a .1) in
     subst (λ (s : List ℕ). (q : Request) × (requestIn s ≡ good q) × SameClauses s q source r) (a .2)
     (requestOf (filterOctets source r) (again source r (a .0) h .clauses), taken-apart source r (a .0) h, same-clauses source r (a .0) h)

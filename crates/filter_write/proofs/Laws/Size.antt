@@ -18,7 +18,7 @@ use Rattle.filter.specs.declared.request.ClauseName.the-variants.{NtVer}
 use Rattle.filter.specs.Internal.ClauseNames.{clauseNameAt}
 use Rattle.filter.specs.declared.request.Request.{Request}
 use Rattle.filter.specs.Filter.{andTag, equalityTag, stringTag, filterLimit}
-use Rattle.filter.specs.Request.{names, spelling, clause, isPresent, octetsOf}
+use Rattle.filter.specs.Request.{clauseNames, spelling, clause, isPresent, octetsOf}
 use Rattle.filter_write.specs.Write.{lengthOctets, element, equalityFor, filterOctets, filterFor}
 use Rattle.filter_write.proofs.Laws.Write.{octets-one, octets-two, octets-three}
 use Rattle.filter_write.specs.Internal.Size.{headSize, elementSize, contents}
@@ -75,39 +75,39 @@ module _ (source : List ℕ) (r : Request) where
   abbrev equalityAt : ℕ → List ℕ
   equalityAt i = equalityFor (clauseNameAt i) (octetsOf source (clause r (clauseNameAt i)))
 
-  pub contents-next : (i : ℕ) → i < 8 → contents source r (drop i names) ≡ equalityAt i ++ contents source r (drop (i + 1) names)
+  pub contents-next : (i : ℕ) → i < 8 → contents source r (drop i clauseNames) ≡ equalityAt i ++ contents source r (drop (i + 1) clauseNames)
   unfolding flatMap
-  contents-next i h = rw (add-one) (ap (contents source r) (drop-cons names i NtVer h))
+  contents-next i h = rw (add-one) (ap (contents source r) (drop-cons clauseNames i NtVer h))
 
   pub contents-size-next : (i : ℕ) → i < 8
-      → length (contents source r (drop i names)) ≡ length (equalityAt i) + length (contents source r (drop (i + 1) names))
+      → length (contents source r (drop i clauseNames)) ≡ length (equalityAt i) + length (contents source r (drop (i + 1) clauseNames))
   contents-size-next i h =
       ap length (contents-next i h)
-      ∙ length-append (equalityAt i) (contents source r (drop (i + 1) names))
+      ∙ length-append (equalityAt i) (contents source r (drop (i + 1) clauseNames))
 
-  pub contents-end : (i : ℕ) → 8 ≤ i → length (contents source r (drop i names)) ≡ 0
+  pub contents-end : (i : ℕ) → 8 ≤ i → length (contents source r (drop i clauseNames)) ≡ 0
   unfolding flatMap
-  contents-end i h = ap (λ (l : List ClauseName). length (contents source r l)) (drop-of-length-le names h)
+  contents-end i h = ap (λ (l : List ClauseName). length (contents source r l)) (drop-of-length-le clauseNames h)
 
   -- contents written as far as the i-th name, and that name's equality after them
-  module _ (w : List ℕ) (i : ℕ) (e : w ++ contents source r (drop i names) ≡ contents source r names) where
-    pub written-next : i < 8 → (w ++ equalityAt i) ++ contents source r (drop (i + 1) names) ≡ contents source r names
-    written-next h = append-assoc w (equalityAt i) (contents source r (drop (i + 1) names)) ∙ ap (λ (l : List ℕ). w ++ l) (sym (contents-next i h)) ∙ e
+  module _ (w : List ℕ) (i : ℕ) (e : w ++ contents source r (drop i clauseNames) ≡ contents source r clauseNames) where
+    pub written-next : i < 8 → (w ++ equalityAt i) ++ contents source r (drop (i + 1) clauseNames) ≡ contents source r clauseNames
+    written-next h = append-assoc w (equalityAt i) (contents source r (drop (i + 1) clauseNames)) ∙ ap (λ (l : List ℕ). w ++ l) (sym (contents-next i h)) ∙ e
 
-    pub written-within : length w ≤ length (contents source r names)
+    pub written-within : length w ≤ length (contents source r clauseNames)
     written-within =
-        let l = sym (length-append w (contents source r (drop i names))) ∙ ap length e in
+        let l = sym (length-append w (contents source r (drop i clauseNames))) ∙ ap length e in
         omega arith
 
-    pub written-fits : i < 8 → length w + length (equalityAt i) ≤ length (contents source r names)
+    pub written-fits : i < 8 → length w + length (equalityAt i) ≤ length (contents source r clauseNames)
     written-fits h =
-        let l = sym (length-append w (contents source r (drop i names))) ∙ ap length e in
+        let l = sym (length-append w (contents source r (drop i clauseNames))) ∙ ap length e in
         let n = contents-size-next i h in
         omega arith
 
-    pub written-all : 8 ≤ i → w ≡ contents source r names
+    pub written-all : 8 ≤ i → w ≡ contents source r clauseNames
     unfolding flatMap
-    written-all h = sym (append-nil w) ∙ ap (λ (l : List ClauseName). w ++ contents source r l) (sym (drop-of-length-le names h)) ∙ e
+    written-all h = sym (append-nil w) ∙ ap (λ (l : List ClauseName). w ++ contents source r l) (sym (drop-of-length-le clauseNames h)) ∙ e
 
 -- a size that stops at 4,096 tells what is over 2,048 and what is not
 pub capped-long : (n m : ℕ) → m ≡ min n 4096 → filterLimit < elementSize m → filterLimit < elementSize n
@@ -124,24 +124,24 @@ capped-short n m e h =
 
 -- the writer's answers, by its judgements in their order
 module _ (source : List ℕ) (r : Request) (room : ℕ) where
-  pub filter-length : length (filterOctets source r) ≡ elementSize (length (contents source r names))
+  pub filter-length : length (filterOctets source r) ≡ elementSize (length (contents source r clauseNames))
   unfolding filterOctets
-  filter-length = element-length andTag (contents source r names)
+  filter-length = element-length andTag (contents source r clauseNames)
 
-  pub answer-none : any (λ name. isPresent (clause r name)) names ≡ false → filterFor source r room ≡ refused FilterShape
+  pub answer-none : any (λ name. isPresent (clause r name)) clauseNames ≡ false → filterFor source r room ≡ refused FilterShape
   unfolding filterFor
   answer-none e = rw (filterFor, e)
 
-  module _ (e : any (λ name. isPresent (clause r name)) names ≡ true) where
-    pub answer-long : filterLimit < elementSize (length (contents source r names)) → filterFor source r room ≡ refused FilterLength
+  module _ (e : any (λ name. isPresent (clause r name)) clauseNames ≡ true) where
+    pub answer-long : filterLimit < elementSize (length (contents source r clauseNames)) → filterFor source r room ≡ refused FilterLength
     unfolding filterFor
     answer-long h = rw (filterFor, e, filter-length, lt-ltb filterLimit _ h)
 
-    module _ (h : elementSize (length (contents source r names)) ≤ filterLimit) where
-      pub answer-room : room < elementSize (length (contents source r names)) → filterFor source r room ≡ refused NoRoom
+    module _ (h : elementSize (length (contents source r clauseNames)) ≤ filterLimit) where
+      pub answer-room : room < elementSize (length (contents source r clauseNames)) → filterFor source r room ≡ refused NoRoom
       unfolding filterFor
       answer-room k = rw (filterFor, e, filter-length, le-ltb filterLimit _ h, lt-ltb room _ k)
 
-      pub answer-good : elementSize (length (contents source r names)) ≤ room → filterFor source r room ≡ good (filterOctets source r)
+      pub answer-good : elementSize (length (contents source r clauseNames)) ≤ room → filterFor source r room ≡ good (filterOctets source r)
       unfolding filterFor
       answer-good k = rw (filterFor, e, filter-length, le-ltb filterLimit _ h, le-ltb room _ k)

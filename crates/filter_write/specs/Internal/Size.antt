@@ -3,6 +3,7 @@ use mathlib.Core.Bool.{cond}
 use mathlib.Core.List.{List, flatMap}
 use Prim.Native.Nat.{ℕ, _+_}
 use lib.Dec.{ltb}
+use Rattle.filter.specs.Filter.{shortLimit}
 use Rattle.filter.specs.declared.request.ClauseName.{ClauseName}
 use Rattle.filter.specs.declared.request.Request.{Request}
 use Rattle.filter.specs.Request.{clause, octetsOf}
@@ -10,7 +11,7 @@ use Rattle.filter_write.specs.Write.{equalityFor}
 
 -- a tag and the shortest length of n octets
 abbrev pub headSize : ℕ → ℕ
-headSize n = cond (ltb n 0x80) 2 (cond (ltb n 0x100) 3 4)
+headSize n = cond (ltb n shortLimit) 2 (cond (ltb n 0x100) 3 4)
 
 -- an element of n octets
 abbrev pub elementSize : ℕ → ℕ

@@ -1,6 +1,6 @@
 -- Laws of tests, stretches and pieces of a list.
 use mathlib.Core.Path.{_≡_, refl, sym, ap, _∙_, subst, ap₂}
-use mathlib.Core.Bool.{Bool, true, false, _&&_, _||_, and-assoc, or-assoc, cond, not, and-false}
+use mathlib.Core.Bool.{Bool, true, false, _&&_, _||_, cond, not, and-false}
 use mathlib.Core.List.{List, [], _∷_, _++_, map, flatMap}
 use mathlib.Core.Option.{Option, none, some, Option·map}
 use Prim.Native.Nat.{ℕ, zero, suc, _+_, _-_, _*_, _≤_, _<_}
@@ -67,17 +67,6 @@ module _ {A : Type 0} where
   getD-pieces (suc n) w s zero h = rw (mul-zero w)
   getD-pieces (suc n) w s (suc i) h =
       getD-pieces n w (drop w s) i (le-of-suc-le-suc h) ∙ ap (take w) (drop-drop (w * i) w s ∙ ap (λ k. drop k s) (add-comm w (w * i) ∙ sym (mul-suc w i)))
-
-  -- tests and searches over two lists, one after the other
-  pub all-append : (p : A → Bool) (s t : List A) → all p (s ++ t) ≡ (all p s && all p t)
-  unfolding all
-  all-append p [] t = refl
-  all-append p (x ∷ s) t = rw (all-append p s t) (sym (and-assoc (p x) (all p s) (all p t)))
-
-  pub any-append : (p : A → Bool) (s t : List A) → any p (s ++ t) ≡ (any p s || any p t)
-  unfolding any
-  any-append p [] t = refl
-  any-append p (x ∷ s) t = rw (any-append p s t) (sym (or-assoc (p x) (any p s) (any p t)))
 
   pub keep-append : (p : A → Bool) (s t : List A) → keep p (s ++ t) ≡ keep p s ++ keep p t
   unfolding keep
@@ -325,20 +314,6 @@ module _ {A : Type 0} where
       there true q = let z : _≡_ {A = ℕ} 0 1 = cc in absurd (omega arith)
       there false q = q
 
-  pub all-true : (p : A → Bool) (xs : List A) (i : ℕ) (d : A) → i < length xs → all p xs ≡ true → p (getD xs i d) ≡ true
-  unfolding all
-  all-true p [] i d h e = absurd (not-suc-le-zero h)
-  all-true p (x ∷ xs) zero d h e = here (p x) e
-    where
-      here : (b : Bool) → (b && all p xs) ≡ true → b ≡ true
-      here true q = refl
-      here false q = q
-  all-true p (x ∷ xs) (suc i) d h e = all-true p xs i d (omega arith) (there (p x) e)
-    where
-      there : (b : Bool) → (b && all p xs) ≡ true → all p xs ≡ true
-      there true q = q
-      there false q = let z : _≡_ {A = ℕ} 0 1 = cc in absurd (omega arith)
-
 -- a search in a list made of another, and in what a test keeps of it
 module _ {A B : Type 0} (f : A → B) (p : B → Bool) where
   pub first-map : (s : List A) → first p (map f s) ≡ Option·map f (first (λ x. p (f x)) s)
@@ -368,11 +343,6 @@ module _ {A : Type 0} where
   pieces-take (suc n) w m s h =
       let k : w + n * w ≤ m = omega (arith, suc-mul n w) in
       ap₂ (λ (x : List A) (xs : List (List A)). x ∷ xs) (take-take w m s (omega arith)) (ap (pieces n w) (drop-take w m s) ∙ pieces-take n w (m - w) (drop w s) (omega arith))
-
-  -- one piece as long as the list
-  pub pieces-one : (w : ℕ) (s : List A) → length s ≤ w → pieces 1 w s ≡ s ∷ []
-  unfolding pieces
-  pieces-one w s h = ap (λ (x : List A). x ∷ []) (take-all w s h)
 
   module _ (p : A → Bool) (s : List A) (i : ℕ) (d : A) (h : i < length s) where
     any-step : any p (drop i s) ≡ (p (getD s i d) || any p (drop (i + 1) s))

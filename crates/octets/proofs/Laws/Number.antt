@@ -58,10 +58,6 @@ pub big-two : (s : List ℕ) (at : ℕ) → at + 2 ≤ length s → big (cut s a
 unfolding big little
 big-two s at h = rw (cut-two s at h) (omega arith)
 
-pub big-halves : (s : List ℕ) (at : ℕ) → at + 4 ≤ length s → big (cut s at 4) ≡ 65536 * big (cut s at 2) + big (cut s (at + 2) 2)
-unfolding big little
-big-halves s at h = rw (cut-four s at h, cut-two s at (omega arith), cut-two s (at + 2) (omega arith)) (omega arith)
-
 -- A number written in w octets is read back, and its octets are w.
 
 pub length-little : (w n : ℕ) → length (littleOctets w n) ≡ w

@@ -68,20 +68,19 @@ within-low low high n e = leb-true low n (both-left (leb low n) (leb n high) e)
 pub within-high : (low high n : ℕ) → within low high n ≡ true → n ≤ high
 within-high low high n e = leb-true n high (both-right (leb low n) (leb n high) e)
 
+pub eqb-comm : (m n : ℕ) → eqb m n ≡ eqb n m
+eqb-comm m n = go (eqb n m) refl
+  where
+    go : (b : Bool) → eqb n m ≡ b → eqb m n ≡ eqb n m
+    go true e = eq-eqb m n (sym (eqb-true n m e)) ∙ sym e
+    go false e = ne-eqb m n (λ q. eqb-false n m e (sym q)) ∙ sym e
+
 pub same-sym : (xs ys : List ℕ) → same xs ys ≡ same ys xs
 unfolding same
 same-sym [] [] = refl
 same-sym [] (y ∷ ys) = refl
 same-sym (x ∷ xs) [] = refl
-same-sym (x ∷ xs) (y ∷ ys) = heads (eqb x y) refl (same-sym xs ys)
-  where
-    heads : (b : Bool) → eqb x y ≡ b → same xs ys ≡ same ys xs → (eqb x y && same xs ys) ≡ (eqb y x && same ys xs)
-    heads true q e =
-        let h : x ≡ y = eqb-true x y q in
-        rw (q, eq-eqb y x (sym h)) e
-    heads false q e =
-        let h : eqb y x ≡ false = ne-eqb y x (λ (p : y ≡ x). eqb-false x y q (sym p)) in
-        rw (q, h)
+same-sym (x ∷ xs) (y ∷ ys) = rw (eqb-comm x y, same-sym xs ys)
 
 -- texts that are the same with case ignored compare alike
 pub folded-left : (xs ys zs : List ℕ) → sameFolded xs ys ≡ true → sameFolded xs zs ≡ sameFolded ys zs

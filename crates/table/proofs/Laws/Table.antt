@@ -2,15 +2,14 @@
 use mathlib.Core.Path.{_≡_, refl, sym, ap}
 use mathlib.Core.Bool.{Bool, true, false}
 use mathlib.Core.List.{List, [], _∷_, _++_, map}
-use Prim.Native.Nat.{ℕ, _+_, _*_, _/_, _≤_, _<_}
+use Prim.Native.Nat.{ℕ, _+_, _/_, _≤_, _<_}
 use native.Mathlib.Numerals.{add-one}
-use native.Mathlib.Omega.{arith}
 use lib.Dec.{eqb}
 use lib.ListN.{length, getD, drop, drop-of-length-le}
 use lib.Seq.{drop-cons}
 use Rattle.octets.specs.Lists.{keep, keepIf}
-use Rattle.octets.proofs.Laws.Lists.{length-pieces, getD-pieces, cut-length}
-use Rattle.table.specs.Block.{blockSize, blockAt, blocksOf, kindIn, bodyOffset, bodySize, body}
+use Rattle.octets.proofs.Laws.Lists.{length-pieces, getD-pieces}
+use Rattle.table.specs.Block.{blockSize, blockAt, blocksOf, kindIn, body}
 use Rattle.table.specs.Countings.{blockPlace}
 use Rattle.table.specs.Table.{bodies}
 
@@ -29,15 +28,9 @@ module _ (image : List ℕ) (i : ℕ) (h : i < length image / blockSize) where
       let k : i < length (blocksOf image) = rw (length-blocks image) h in
       rw (add-one, drop-cons (blocksOf image) i [], block-there)
 
-  pub block-length : length (blockAt image (blockPlace i)) ≡ blockSize
-  block-length = cut-length image (blockSize * i) blockSize (omega arith)
-
   -- its body
   pub body-there : body (blockAt image (blockPlace i)) ≡ body (getD (blocksOf image) i [])
   body-there = ap body (sym block-there)
-
-  pub body-length : length (body (blockAt image (blockPlace i))) ≡ bodySize
-  body-length = cut-length (blockAt image (blockPlace i)) bodyOffset bodySize (omega (arith, block-length))
 
 pub blocks-end : (image : List ℕ) (i : ℕ) → length image / blockSize ≤ i → drop i (blocksOf image) ≡ []
 blocks-end image i h =

@@ -15,9 +15,9 @@ use Rattle.table_find.specs.declared.search.Found.{Found}
 use Rattle.table_find.specs.declared.search.Found.the-variants.{At, Nothing}
 
 -- the record of a kind that was found
-abbrev pub recordAt : List ℕ → RecordKind → Found → Option (List ℕ)
-recordAt image k Nothing = none
-recordAt image k (At offset) = some (cut image offset (formatOf k .width))
+abbrev pub recordFound : List ℕ → RecordKind → Found → Option (List ℕ)
+recordFound image k Nothing = none
+recordFound image k (At offset) = some (cut image offset (formatOf k .width))
 
 -- it lies in the image
 abbrev pub LiesIn : List ℕ → RecordKind → Found → Type 0
@@ -25,13 +25,13 @@ LiesIn image k Nothing = Unit {0}
 LiesIn image k (At offset) = offset + formatOf k .width ≤ length image
 
 abbrev pub contextAt : List ℕ → Found → Option Context
-contextAt image f = Option·map contextOf (recordAt image kind.Context f)
+contextAt image f = Option·map contextOf (recordFound image kind.Context f)
 
 abbrev pub accountAt : List ℕ → Found → Option Account
-accountAt image f = Option·map accountOf (recordAt image kind.Account f)
+accountAt image f = Option·map accountOf (recordFound image kind.Account f)
 
 abbrev pub siteAt : List ℕ → Found → Option Site
-siteAt image f = Option·map siteOf (recordAt image kind.Site f)
+siteAt image f = Option·map siteOf (recordFound image kind.Site f)
 
 abbrev pub subnetAt : List ℕ → Found → Option Subnet
-subnetAt image f = Option·map subnetOf (recordAt image kind.Subnet f)
+subnetAt image f = Option·map subnetOf (recordFound image kind.Subnet f)

@@ -1,14 +1,14 @@
 -- Laws of offsets: the records there are those of the table, in order.
-use mathlib.Core.Path.{_≡_, refl, sym, ap, ap₂, _∙_, subst}
-use mathlib.Core.Bool.{Bool, true, false, not}
-use mathlib.Core.List.{List, [], _∷_, _++_, map, flatMap, map-append, append-assoc, append-nil}
+use mathlib.Core.Path.{_≡_, refl, sym, ap, _∙_, subst}
+use mathlib.Core.Bool.{Bool, true, false}
+use mathlib.Core.List.{List, [], _∷_, _++_, flatMap, map-append, append-assoc}
 use Prim.Native.Nat.{ℕ, zero, suc, _+_, _-_, _*_, _/_, _≤_, _<_}
 use native.Mathlib.Nat.{mul-suc, mul-le-mul-left}
 use native.Mathlib.Numerals.{add-one}
 use native.Mathlib.Omega.{arith}
 use lib.Dec.{eqb}
 use lib.ListN.{length, getD, take, drop, set}
-use lib.Seq.{drop-drop, take-take, take-suc-set}
+use lib.Seq.{drop-drop, take-suc-set}
 use Rattle.octets.specs.Lists.{cut, keep, keepIf, pieces}
 use Rattle.octets.proofs.Laws.Lists.{keep-append, cut-cut, pieces-take}
 use Rattle.table.specs.declared.record.RecordKind.{RecordKind}

@@ -23,13 +23,13 @@ abbrev pub alikeBy : Likeness → List ℕ → List ℕ → Bool
 alikeBy Contexts a b = contextsAlike (contextOf a) (contextOf b)
 alikeBy Accounts a b = accountsAlike (accountOf a) (accountOf b)
 
-abbrev pub kindOf : Likeness → RecordKind
-kindOf Contexts = kind.Context
-kindOf Accounts = kind.Account
+abbrev pub recordKindOf : Likeness → RecordKind
+recordKindOf Contexts = kind.Context
+recordKindOf Accounts = kind.Account
 
 -- a record and the one at an offset, and those at two offsets
 abbrev pub likeAt : Likeness → List ℕ → List ℕ → ℕ → Bool
-likeAt likeness a image q = alikeBy likeness a (recordAt image (kindOf likeness) q)
+likeAt likeness a image q = alikeBy likeness a (recordAt image (recordKindOf likeness) q)
 
 abbrev pub alikeAt : Likeness → List ℕ → ℕ → ℕ → Bool
-alikeAt likeness image p q = likeAt likeness (recordAt image (kindOf likeness) p) image q
+alikeAt likeness image p q = likeAt likeness (recordAt image (recordKindOf likeness) p) image q

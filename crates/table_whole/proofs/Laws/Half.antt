@@ -3,7 +3,7 @@ use mathlib.Core.Path.{_≡_, refl, sym, ap, ap₂, _∙_, fun-ext}
 use mathlib.Core.Bool.{Bool, true, false, not, _&&_, _||_, and-false, and-comm}
 use mathlib.Core.List.{List, map}
 use mathlib.Core.Option.{Option, none, some}
-use Prim.Native.Nat.{ℕ, _/_, _≤_, _<_}
+use Prim.Native.Nat.{ℕ, _≤_, _<_}
 use native.Mathlib.Omega.{arith}
 use lib.Dec.{leb}
 use lib.ListN.{length, take, length-map}
@@ -17,23 +17,22 @@ use Rattle.table.specs.declared.SiteNumber.{SiteNumber}
 use Rattle.table.specs.declared.record.RecordKind.{RecordKind}
 use Rattle.table.specs.declared.record.RecordKind.the-variants as kind
 use Rattle.table.specs.Account.{accountOf}
-use Rattle.table.specs.Block.{blockAt, blocksOf, body}
+use Rattle.table.specs.Block.{blocksOf}
 use Rattle.table.specs.Context.{contextOf}
 use Rattle.table.specs.Countings.{sameContext, sameSite}
 use Rattle.table.specs.SameName.{sameSid, sameDnsName}
-use Rattle.table.specs.Server.{serverOf, serverPlace}
 use Rattle.table.specs.Site.{siteOf}
 use Rattle.table.specs.Subnet.{subnetOf}
 use Rattle.table.specs.Table.{Table, recordsOf, tableOf, tableFrom}
 use Rattle.table.specs.Internal.RecordAt.{recordAt}
-use Rattle.table.proofs.Laws.Table.{block-there}
 use Rattle.table_records.specs.declared.alike.Likeness.the-variants.{Contexts, Accounts}
 use Rattle.table_records.specs.Internal.Alike.{alikeAt, contextsAlike}
-use Rattle.table_whole.specs.Whole.{contextsUnique, accountsUnique, sitesUnique, hasContext, hasSite, noneOr, refersRightly, goodWhole}
-use Rattle.table_whole.specs.declared.refer.Referrer.the-variants.{Site, Subnet}
+use Rattle.table_whole.specs.Whole.{contextsUnique, accountsUnique, sitesUnique, hasContext, hasSite, refersRightly, goodWhole}
+use Rattle.octets.specs.Lists.{noneOr}
+use Rattle.table_refer.specs.declared.refer.Referrer.the-variants.{Site, Subnet}
 use Rattle.table_whole.specs.Internal.Half.{AllOf, SiteMarks, goodAccounts, goodContexts, contextHalf, goodNext, goodSubnets, goodReferences, goodSites, siteHalf}
-use Rattle.table_whole.specs.Internal.Mark.{isMarked, Marked, sameSiteAt}
-use Rattle.table_whole.specs.Internal.Refer.{hasNumber, inContexts, isMarkedOrNone, isOtherOrNone, refersAt}
+use Rattle.table_refer.specs.Internal.Mark.{Marked, sameSiteAt}
+use Rattle.table_refer.specs.Internal.Refer.{hasNumber, inContexts, isMarkedOrNone, isOtherOrNone, refersAt}
 
 -- tests of what is made from the records of a kind, over their offsets
 module _ {A : Type 0} (f : List ℕ → A) (kind : RecordKind) (image offsets : List ℕ) (e : AllOf kind image offsets) where
@@ -52,12 +51,6 @@ module _ {A : Type 0} (f : List ℕ → A) (kind : RecordKind) (image offsets : 
 -- as many of the offsets as were found
 pub found-count : (n most : ℕ) (s : List ℕ) → length s ≡ most → n ≤ most → n ≡ length (take n s)
 found-count n most s e h = sym (length-take-le n s (rw e h))
-
-pub server-there : (image : List ℕ) → 512 ≤ length image → serverOf (body (blockAt image serverPlace)) ≡ tableFrom image .server
-unfolding tableOf
-server-there image h =
-    let h0 : 0 < length image / 512 = omega arith in
-    ap (λ (b : List ℕ). serverOf (body b)) (sym (block-there image 0 h0))
 
 -- contexts and their accounts
 module _ (image contexts : List ℕ) (e : AllOf kind.Context image contexts) where

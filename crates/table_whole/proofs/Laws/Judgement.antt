@@ -32,7 +32,7 @@ use Rattle.table.specs.Bits.{rolesBound, stateBound}
 use Rattle.table.specs.Site.{Site, siteFormat, siteName, nextOffset, siteOf}
 use Rattle.table.specs.Table.{Table, isUsed, bodies, recordsOf, tableOf, tableFrom}
 use Rattle.table.proofs.Laws.Format.{format-fills}
-use Rattle.table_layout.specs.Check.{goodCheck}
+use Rattle.table_check.specs.Check.{goodCheck}
 use Rattle.table_layout.specs.Field.{zeros, textField, lastText}
 use Rattle.table_layout.specs.Layout.{nonzero, serverLayout, forestLayout, flagsLayout, sidLayout, isEmpty, isContextNetbios, contextLayout, siteLayout, recordLayout, recordsLayout, bodyLayout, blockLayout, layoutsFrom}
 use Rattle.table_whole.specs.Judgement.{goodLength, tableIn, Accepted, judgedAs}
@@ -76,10 +76,6 @@ module _ (image : List ℕ) (ok : Accepted image) where
 
   pub accepted-bounds : (1024 ≤ length image) × (length image ≤ 65536)
   accepted-bounds = length-bounds image (accepted-judged .length)
-
-  pub accepted-multiple : length image % blockSize ≡ 0
-  unfolding goodLength
-  accepted-multiple = eqb-true (length image % blockSize) 0 (both-right (within 1024 65536 (length image)) (eqb (length image % blockSize) 0) (accepted-judged .length))
 
   pub accepted-sites : sitesUnique (tableFrom image .sites) ≡ true
   unfolding goodWhole

@@ -14,8 +14,9 @@ use Rattle.table.specs.Countings.{sameSite}
 use Rattle.table.specs.Format.{formatOf}
 use Rattle.table.specs.Table.{Table, recordsOf}
 use Rattle.table_records.specs.Internal.Offset.{recordsAt}
-use Rattle.table_whole.specs.Whole.{contextsUnique, accountsUnique, sitesUnique, hasContext, hasSite, noneOr}
-use Rattle.table_whole.specs.Internal.Mark.{isMarked}
+use Rattle.table_whole.specs.Whole.{contextsUnique, accountsUnique, sitesUnique, hasContext, hasSite}
+use Rattle.octets.specs.Lists.{noneOr}
+use Rattle.table_refer.specs.Internal.Mark.{marksSize, isMarked}
 
 -- the offsets are those of all used records of a kind
 abbrev pub AllOf : RecordKind → List ℕ → List ℕ → Type 0
@@ -23,7 +24,7 @@ AllOf kind image offsets = recordsAt image (formatOf kind .width) offsets ≡ re
 
 -- marks that say of each number whether the table has such a site
 pub record SiteMarks (marks : List ℕ) (t : Table) : Type 0 where
-  pub size : length marks ≡ 8192
+  pub size : length marks ≡ marksSize
   pub say : (n : SiteNumber) → isMarked marks n ≡ hasSite t n
 
 unfoldable pub goodAccounts : Table → Bool

@@ -9,14 +9,14 @@ use Rattle.octets.specs.Text.{sameFolded}
 use Rattle.filter.specs.declared.request.ClauseName.{ClauseName}
 use Rattle.filter.specs.declared.request.ClauseName.the-variants.{NtVer}
 use Rattle.filter.specs.Internal.ClauseNames.{clauseNameAt}
-use Rattle.filter.specs.Request.{names, spelling}
+use Rattle.filter.specs.Request.{clauseNames, spelling}
 use Rattle.filter_read.specs.declared.gather.SpelledName.the-variants.{Known}
 use Rattle.filter_read.specs.Internal.Gather.{spelledAs, nameSpelled}
 use Rattle.filter_read.proofs.gather.name_of.Statement.{statement}
 use Rattle.filter_read.proofs.gather.name_of.Tie as tie
 
 abbrev Inv-loop : tie.InvT-loop
-Inv-loop s i₀ i = (i ≤ 8) × (first (λ name. sameFolded s (spelling name)) (drop i names) ≡ nameSpelled s)
+Inv-loop s i₀ i = (i ≤ 8) × (first (λ name. sameFolded s (spelling name)) (drop i clauseNames) ≡ nameSpelled s)
 
 abbrev μ-loop : tie.MeasureT-loop
 μ-loop s i₀ i = 8 - i
@@ -41,7 +41,7 @@ returns c =
     let s = c .before .before .before .before .before .before .args .s .now in
     let l = c .before .before .before .before .loop in
     ap Known (c .before .before .clause-name-at .ensures)
-    ∙ ap spelledAs (first-here (λ name. sameFolded s (spelling name)) names (l .i) NtVer (c .before .before .before .loop-test .taken) (sym (tested (c .before)) ∙ c .if1 .taken) ∙ l .inv .1)
+    ∙ ap spelledAs (first-here (λ name. sameFolded s (spelling name)) clauseNames (l .i) NtVer (c .before .before .before .loop-test .taken) (sym (tested (c .before)) ∙ c .if1 .taken) ∙ l .inv .1)
 
 add-i : tie.Need-add-i Inv-loop μ-loop
 add-i c = search needs
@@ -53,13 +53,13 @@ loop-again : tie.Need-loop-again Inv-loop μ-loop
 loop-again c =
     let s = c .before .before .before .before .before .before .args .s .now in
     let l = c .before .before .before .before .loop in
-    (omega arith, first-next (λ name. sameFolded s (spelling name)) names (l .i) NtVer (c .before .before .before .loop-test .taken) (sym (tested (c .before)) ∙ c .if1 .left) ∙ l .inv .1)
+    (omega arith, first-next (λ name. sameFolded s (spelling name)) clauseNames (l .i) NtVer (c .before .before .before .loop-test .taken) (sym (tested (c .before)) ∙ c .if1 .left) ∙ l .inv .1)
 
 returns-2 : tie.Need-returns-2 Inv-loop μ-loop
 returns-2 c =
     let s = c .before .before .before .args .s .now in
     let l = c .before .loop in
-    ap spelledAs (first-end (λ name. sameFolded s (spelling name)) names (l .i) (c .loop-test .left) ∙ l .inv .1)
+    ap spelledAs (first-end (λ name. sameFolded s (spelling name)) clauseNames (l .i) (c .loop-test .left) ∙ l .inv .1)
 
 pub name-of-spec : {M : Type 1} → statement M
 name-of-spec =

@@ -17,9 +17,9 @@ use Rattle.filter.specs.declared.position.RawClause.{RawClause}
 use Rattle.filter.specs.declared.request.ClauseName.{ClauseName}
 use Rattle.filter.specs.Internal.ClauseNames.{isSameName}
 use Rattle.filter.proofs.Laws.ClauseNames.{same-self, same-name, names-any}
-use Rattle.filter.specs.Request.{names, spelling, octetsOf}
+use Rattle.filter.specs.Request.{clauseNames, spelling, octetsOf}
 use Rattle.filter.specs.Filter.{equalityTag, one, siblings, andOf}
-use Rattle.filter_read.specs.Taken.{nameOf, isNamed, hasUnknown, hasDuplicate, asClause}
+use Rattle.filter_read.specs.Taken.{nameOctets, isNamed, hasUnknown, hasDuplicate, asClause}
 use Rattle.filter_write.specs.Write.{equalityFor}
 use Rattle.filter_write.proofs.Laws.Size.{equality-length, head-bounds}
 use Rattle.filter_write.proofs.Laws.RoundTrip.Elements.{Again, equality-back, after}
@@ -32,7 +32,7 @@ module _ (s : List ℕ) (value : ClauseName → Option (List ℕ)) where
   pub data Tells : List ClauseName → List RawClause → Type 0 where
     nothing : Tells [] []
     skips : {n : ClauseName} {ns : List ClauseName} {fs : List RawClause} → value n ≡ none → Tells ns fs → Tells (n ∷ ns) fs
-    finds : {n : ClauseName} {ns : List ClauseName} {fs : List RawClause} (f : RawClause) (v : List ℕ) → value n ≡ some v → nameOf s f ≡ spelling n → cut s (f .start) (f .len) ≡ v → Tells ns fs → Tells (n ∷ ns) (f ∷ fs)
+    finds : {n : ClauseName} {ns : List ClauseName} {fs : List RawClause} (f : RawClause) (v : List ℕ) → value n ≡ some v → nameOctets s f ≡ spelling n → cut s (f .start) (f .len) ≡ v → Tells ns fs → Tells (n ∷ ns) (f ∷ fs)
 
   -- an equality takes octets
   pub some-length : (n : ClauseName) (v : List ℕ) → 0 < length (equalityFor n (some v))
@@ -120,7 +120,7 @@ module _ (s : List ℕ) (value : ClauseName → Option (List ℕ)) where
 
   -- what such clauses make: none unknown, none twice, and each name's own octets
 
-  named-as : (m n : ClauseName) (f : RawClause) → nameOf s f ≡ spelling n → isNamed s m f ≡ isSameName n m
+  named-as : (m n : ClauseName) (f : RawClause) → nameOctets s f ≡ spelling n → isNamed s m f ≡ isSameName n m
   unfolding isNamed
   named-as m n f e = ap (λ (x : List ℕ). sameFolded x (spelling m)) e
 
@@ -130,10 +130,10 @@ module _ (s : List ℕ) (value : ClauseName → Option (List ℕ)) where
   none-unknown (skips q t) = none-unknown t
   none-unknown (finds {n = n} {fs = fs} f v q e c t) = rw (known) (none-unknown t)
     where
-      known : any (λ name. isNamed s name f) names ≡ true
+      known : any (λ name. isNamed s name f) clauseNames ≡ true
       known = names-any (λ name. isNamed s name f) n (named-as n n f e ∙ same-self n)
 
-  named-is : (n : ClauseName) (f : RawClause) → sameFolded (nameOf s f) (spelling n) ≡ isNamed s n f
+  named-is : (n : ClauseName) (f : RawClause) → sameFolded (nameOctets s f) (spelling n) ≡ isNamed s n f
   unfolding isNamed
   named-is n f = refl
 
@@ -183,8 +183,8 @@ module _ (s : List ℕ) (value : ClauseName → Option (List ℕ)) where
   none-duplicate (skips {n = n} {ns = ns} q t) a = none-duplicate t (rest-distinct n ns a)
   none-duplicate (finds {n = n} {ns = ns} {fs = fs} f v q p c t) a = rw alone-named (none-duplicate t (rest-distinct n ns a))
     where
-      alone-named : any (λ h. sameFolded (nameOf s f) (nameOf s h)) fs ≡ false
+      alone-named : any (λ h. sameFolded (nameOctets s f) (nameOctets s h)) fs ≡ false
       alone-named =
-          any-ext (λ h. sameFolded (nameOf s f) (nameOf s h)) (isNamed s n) fs (λ h. ap (λ (x : List ℕ). sameFolded x (nameOf s h)) p ∙ folded-sym (spelling n) (nameOf s h) ∙ named-is n h)
+          any-ext (λ h. sameFolded (nameOctets s f) (nameOctets s h)) (isNamed s n) fs (λ h. ap (λ (x : List ℕ). sameFolded x (nameOctets s h)) p ∙ folded-sym (spelling n) (nameOctets s h) ∙ named-is n h)
           ∙ sym (first-any (isNamed s n) fs)
           ∙ ap isSome (absent n t (not-again n ns a))

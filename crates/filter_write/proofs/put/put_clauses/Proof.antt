@@ -9,7 +9,7 @@ use Rattle.octets.proofs.Laws.Buffer.{over-none, over-lent, over-length}
 use Rattle.filter.specs.declared.request.Clause.{Clause}
 use Rattle.filter.specs.declared.request.ClauseName.{ClauseName}
 use Rattle.filter.specs.declared.request.ClauseName.the-variants.{NtVer}
-use Rattle.filter.specs.Request.{names, clause, octetsOf}
+use Rattle.filter.specs.Request.{clauseNames, clause, octetsOf}
 use Rattle.filter_write.specs.Write.{equalityFor}
 use Rattle.filter_write.specs.Internal.Size.{contents}
 use Rattle.filter_write.proofs.Laws.Size.{written-next, written-within, written-fits, written-all}
@@ -18,7 +18,7 @@ use Rattle.filter_write.proofs.put.put_clauses.Tie as tie
 
 abbrev Inv-loop : tie.InvT-loop
 Inv-loop out₀ source request at₀ i₀ out at i =
-    (w : List ℕ) × (i ≤ 8) × (length out ≡ length out₀) × (at ≡ length w) × (w ++ contents source request (drop i names) ≡ contents source request names) × (out ≡ over w out₀)
+    (w : List ℕ) × (i ≤ 8) × (length out ≡ length out₀) × (at ≡ length w) × (w ++ contents source request (drop i clauseNames) ≡ contents source request clauseNames) × (out ≡ over w out₀)
 
 abbrev μ-loop : tie.MeasureT-loop
 μ-loop out₀ source request at₀ i₀ out at i = 8 - i
@@ -58,14 +58,14 @@ module _ (c : tie.After-clause Inv-loop μ-loop) where
   written = equalityFor (c .before .before .clause-name-at .result) (octetsOf (c .before .before .before .before .before .before .before .args .source .now) (c .clause .result))
 
   abbrev meant : List ℕ
-  meant = equalityFor (getD names (c .before .before .before .before .loop .i) NtVer) (octetsOf (c .before .before .before .before .before .before .before .args .source .now) (clause (c .before .before .before .before .before .before .before .args .request) (getD names (c .before .before .before .before .loop .i) NtVer)))
+  meant = equalityFor (getD clauseNames (c .before .before .before .before .loop .i) NtVer) (octetsOf (c .before .before .before .before .before .before .before .args .source .now) (clause (c .before .before .before .before .before .before .before .args .request) (getD clauseNames (c .before .before .before .before .loop .i) NtVer)))
 
   as-meant : written ≡ meant
   as-meant =
       ap (λ (x : Clause). equalityFor (c .before .before .clause-name-at .result) (octetsOf (c .before .before .before .before .before .before .before .args .source .now) x)) (c .clause .ensures)
       ∙ ap (λ (n : ClauseName). equalityFor n (octetsOf (c .before .before .before .before .before .before .before .args .source .now) (clause (c .before .before .before .before .before .before .before .args .request) n))) (c .before .before .clause-name-at .ensures)
 
-  fits : c .before .before .before .before .loop .at + length written ≤ length (contents (c .before .before .before .before .before .before .before .args .source .now) (c .before .before .before .before .before .before .before .args .request) names)
+  fits : c .before .before .before .before .loop .at + length written ≤ length (contents (c .before .before .before .before .before .before .before .args .source .now) (c .before .before .before .before .before .before .before .args .request) clauseNames)
   fits =
       let l = c .before .before .before .before .loop in
       let f = written-fits (c .before .before .before .before .before .before .before .args .source .now) (c .before .before .before .before .before .before .before .args .request) (l .inv .0) (l .i) (l .inv .4) (c .before .before .before .loop-test .taken) in

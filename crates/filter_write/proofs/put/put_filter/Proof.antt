@@ -5,7 +5,7 @@ use borrow.Author.Needs.{needs}
 use Rattle.octets.specs.Buffer.{over}
 use Rattle.octets.proofs.Laws.Buffer.{over-lent}
 use Rattle.filter.specs.Filter.{andTag}
-use Rattle.filter.specs.Request.{names}
+use Rattle.filter.specs.Request.{clauseNames}
 use Rattle.filter_write.specs.Write.{lengthOctets, element, filterOctets}
 use Rattle.filter_write.specs.Internal.Size.{contents}
 use Rattle.filter_write.proofs.Laws.Size.{head-length}
@@ -35,7 +35,7 @@ unfolding element filterOctets
 returns c =
     let p = c .before .before .before .before .before .before .before .before .before .before .args in
     let h = c .before .before .before .before .before .before .put-head in
-    let x : List ℕ = contents (p .source .now) (p .request) names in
+    let x : List ℕ = contents (p .source .now) (p .request) clauseNames in
     over-lent (andTag ∷ lengthOctets (p .size)) x (c .before .before .put-clauses .last .0) (p .out .now) (h .last .0) (h .result) (h .ensures .1) (head-length andTag (p .size) ∙ sym (h .ensures .0)) (c .before .before .put-clauses .ensures)
     ∙ ap (λ (k : ℕ). over ((andTag ∷ lengthOctets k) ++ x) (p .out .now)) (c .before .before .before .before .before .before .before .before .before .before .pre .0)
 

@@ -5,7 +5,7 @@ use lib.ListN.{length, drop, getD}
 use Rattle.filter.specs.declared.request.ClauseName.{ClauseName}
 use Rattle.filter.specs.declared.request.Clause.{Clause}
 use Rattle.filter.specs.declared.request.ClauseName.the-variants.{NtVer}
-use Rattle.filter.specs.Request.{names, clause, octetsOf}
+use Rattle.filter.specs.Request.{clauseNames, clause, octetsOf}
 use Rattle.filter_write.specs.Write.{equalityFor}
 use Rattle.filter_write.specs.Internal.Size.{contents}
 use Rattle.filter_write.proofs.Laws.Size.{contents-size-next, contents-end}
@@ -14,7 +14,7 @@ use Rattle.filter_write.proofs.size.contents_size.Tie as tie
 
 abbrev Inv-loop : tie.InvT-loop
 Inv-loop source request size₀ i₀ size i =
-    (i ≤ 8) × (size ≤ 4096) × (min (size + length (contents source request (drop i names))) 4096 ≡ min (length (contents source request names)) 4096)
+    (i ≤ 8) × (size ≤ 4096) × (min (size + length (contents source request (drop i clauseNames))) 4096 ≡ min (length (contents source request clauseNames)) 4096)
 
 abbrev μ-loop : tie.MeasureT-loop
 μ-loop source request size₀ i₀ size i = 8 - i
@@ -44,7 +44,7 @@ loop-again : tie.Need-loop-again Inv-loop μ-loop
 loop-again c =
     let p = c .before .before .before .before .before .before .before .args in
     let l = c .before .before .before .before .before .loop in
-    let e : c .before .equality-size .result ≡ length (equalityFor (getD names (l .i) NtVer) (octetsOf (p .source .now) (clause (p .request) (getD names (l .i) NtVer)))) =
+    let e : c .before .equality-size .result ≡ length (equalityFor (getD clauseNames (l .i) NtVer) (octetsOf (p .source .now) (clause (p .request) (getD clauseNames (l .i) NtVer)))) =
     c .before .equality-size .ensures
     ∙ ap (λ (x : Clause). length (equalityFor (c .before .before .before .clause-name-at .result) (octetsOf (p .source .now) x))) (c .before .before .clause .ensures)
     ∙ ap (λ (n : ClauseName). length (equalityFor n (octetsOf (p .source .now) (clause (p .request) n)))) (c .before .before .before .clause-name-at .ensures) in
@@ -57,7 +57,7 @@ returns : tie.Need-returns Inv-loop μ-loop
 returns c =
     let p = c .before .before .before .args in
     let l = c .before .loop in
-    let e : length (contents (p .source .now) (p .request) (drop (l .i) names)) ≡ 0 = contents-end (p .source .now) (p .request) (l .i) (c .loop-test .left) in
+    let e : length (contents (p .source .now) (p .request) (drop (l .i) clauseNames)) ≡ 0 = contents-end (p .source .now) (p .request) (l .i) (c .loop-test .left) in
     let i = l .inv .2 in
     omega arith
 

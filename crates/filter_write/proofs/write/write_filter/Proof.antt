@@ -6,7 +6,7 @@ use lib.ListN.{length}
 use Rattle.octets.proofs.Laws.Buffer.{over-none}
 use Rattle.octets.specs.Lists.{any}
 use Rattle.filter_write.specs.declared.write.Written.the-variants.{Length}
-use Rattle.filter.specs.Request.{names, clause, isPresent}
+use Rattle.filter.specs.Request.{clauseNames, clause, isPresent}
 use Rattle.filter_write.specs.Internal.Size.{elementSize, contents}
 use Rattle.filter_write.proofs.Laws.Size.{capped-long, capped-short, filter-length, answer-none, answer-long, answer-room, answer-good}
 use Rattle.filter_write.proofs.write.write_filter.Statement.{statement}
@@ -35,10 +35,10 @@ returns-2 c =
 
 -- where 5 is not given, the size is the filter's own
 module _ (c : tie.Else2) where
-  exact : c .before .element-size .result ≡ elementSize (length (contents (c .before .before .before .before .before .before .before .args .source .now) (c .before .before .before .before .before .before .before .args .request) names))
+  exact : c .before .element-size .result ≡ elementSize (length (contents (c .before .before .before .before .before .before .before .args .source .now) (c .before .before .before .before .before .before .before .args .request) clauseNames))
   exact = c .before .element-size .ensures .0 ∙ ap elementSize (capped-short _ _ (c .before .before .contents-size .ensures) (rw (c .before .element-size .ensures .0) at (c .if2 .left)))
 
-  some-clause : any (λ name. isPresent (clause (c .before .before .before .before .before .before .before .args .request) name)) names ≡ true
+  some-clause : any (λ name. isPresent (clause (c .before .before .before .before .before .before .before .args .request) name)) clauseNames ≡ true
   some-clause = sym (c .before .before .before .before .has-clause .ensures) ∙ not-false _ (c .before .before .before .if1 .left)
 
 returns-3 : tie.Need-returns-3

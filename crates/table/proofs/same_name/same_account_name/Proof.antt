@@ -1,5 +1,5 @@
 use borrow.Author.Needs.{needs}
-use Rattle.table.specs.SameName.{sameAccountName}
+use Rattle.table.specs.SameName.{accountNameKey, sameAccountName}
 use Rattle.table.proofs.same_name.same_account_name.Statement.{statement}
 use Rattle.table.proofs.same_name.same_account_name.Tie as tie
 
@@ -7,7 +7,7 @@ same-folded-requires : tie.Need-same-folded-requires
 same-folded-requires c κs = search needs
 
 returns : tie.Need-returns
-unfolding sameAccountName
+unfolding accountNameKey sameAccountName
 returns c = search needs
 
 pub same-account-name-spec : {M : Type 1} → statement M

@@ -8,7 +8,7 @@ use Rattle.table.specs.Block.{blocksOf}
 use Rattle.table_whole.proofs.Laws.Judgement.{accepted-bounds}
 use Rattle.table_find.proofs.Laws.Search.{search-step, search-end}
 use Rattle.table_find.specs.Internal.Search.{firstIn}
-use Rattle.table_find.specs.Internal.Found.{recordAt, LiesIn}
+use Rattle.table_find.specs.Internal.Found.{recordFound, LiesIn}
 use Rattle.table_find.specs.Internal.Key.{kindFor}
 use Rattle.table_find.proofs.search.first_record.Statement.{statement}
 use Rattle.table_find.proofs.search.first_record.Tie as tie
@@ -41,7 +41,7 @@ returns c =
     let b = c .before .before .before .first-in-block in
     let k = kindFor (a .key) in
     let e = c .before .offset .given .1 in (
-      search-step (a .key) (a .asked .now) (a .image .now) (l .i) (some _) (c .before .before .before .before .loop-test .taken) (ap (recordAt (a .image .now) k) (sym e) ∙ b .ensures .0) ∙ l .inv,
+      search-step (a .key) (a .asked .now) (a .image .now) (l .i) (some _) (c .before .before .before .before .loop-test .taken) (ap (recordFound (a .image .now) k) (sym e) ∙ b .ensures .0) ∙ l .inv,
       subst (LiesIn (a .image .now) k) e (b .ensures .1),
     )
 
@@ -61,7 +61,7 @@ loop-again c =
     let b = c .before .before .first-in-block in
     let k = kindFor (a .key) in
     let e = c .enum-told .given .1 in
-    search-step (a .key) (a .asked .now) (a .image .now) (l .i) none (c .before .before .before .loop-test .taken) (ap (recordAt (a .image .now) k) (sym e) ∙ b .ensures .0) ∙ l .inv
+    search-step (a .key) (a .asked .now) (a .image .now) (l .i) none (c .before .before .before .loop-test .taken) (ap (recordFound (a .image .now) k) (sym e) ∙ b .ensures .0) ∙ l .inv
 
 returns-2 : tie.Need-returns-2 Inv-loop μ-loop
 returns-2 c =

@@ -21,8 +21,8 @@ abbrev μ-loop : tie.MeasureT-loop
 loop-holds : tie.Need-loop-holds Inv-loop μ-loop
 loop-holds c = (omega arith, refl)
 
-kind-of-requires : tie.Need-kind-of-requires Inv-loop μ-loop
-kind-of-requires c κs = search needs
+record-kind-of-requires : tie.Need-record-kind-of-requires Inv-loop μ-loop
+record-kind-of-requires c κs = search needs
 
 mul-record-at : tie.Need-mul-record-at Inv-loop μ-loop
 mul-record-at c = search needs
@@ -59,7 +59,7 @@ after c =
     let i = c .before .before .before .before .before .before .loop .i in
     let s = a .offsets .now in
     let whole : length s - (i + 1) ≤ length s - (i + 1) = omega arith in
-    let piece = c .before .before .record-at .ensures ∙ ap (λ (k : RecordKind). recordAt (a .image .now) k (getD s i 0)) (c .before .before .before .before .kind-of .ensures) in
+    let piece = c .before .before .record-at .ensures ∙ ap (λ (k : RecordKind). recordAt (a .image .now) k (getD s i 0)) (c .before .before .before .before .record-kind-of .ensures) in
     sym (c .any-alike .ensures ∙ ap₂ (λ (r rest : List ℕ). any (likeAt (a .likeness) r (a .image .now)) rest) piece (cut-rest s (i + 1) (length s - (i + 1)) whole))
 
 returns : tie.Need-returns Inv-loop μ-loop
@@ -90,7 +90,7 @@ all-unique-spec =
     Inv-loop
     μ-loop
     loop-holds
-    kind-of-requires
+    record-kind-of-requires
     mul-record-at
     shared-slice-read-record-at
     record-at-requires

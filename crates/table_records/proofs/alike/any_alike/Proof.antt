@@ -20,8 +20,8 @@ abbrev μ-loop : tie.MeasureT-loop
 loop-holds : tie.Need-loop-holds Inv-loop μ-loop
 loop-holds c = (omega arith, refl)
 
-kind-of-requires : tie.Need-kind-of-requires Inv-loop μ-loop
-kind-of-requires c κs = search needs
+record-kind-of-requires : tie.Need-record-kind-of-requires Inv-loop μ-loop
+record-kind-of-requires c κs = search needs
 
 mul-record-at : tie.Need-mul-record-at Inv-loop μ-loop
 mul-record-at c = search needs
@@ -41,7 +41,7 @@ here : (c : tie.After-are-alike Inv-loop μ-loop)
 here c =
     let a = c .before .before .before .before .before .before .before .before .before .args in
     let offset = getD (a .offsets .now) (c .before .before .before .before .before .loop .i) 0 in
-    sym (c .are-alike .ensures ∙ ap (alikeBy (a .likeness) (a .piece .now)) (c .before .record-at .ensures ∙ ap (λ (k : RecordKind). recordAt (a .image .now) k offset) (c .before .before .before .kind-of .ensures)))
+    sym (c .are-alike .ensures ∙ ap (alikeBy (a .likeness) (a .piece .now)) (c .before .record-at .ensures ∙ ap (λ (k : RecordKind). recordAt (a .image .now) k offset) (c .before .before .before .record-kind-of .ensures)))
 
 returns : tie.Need-returns Inv-loop μ-loop
 returns c =
@@ -74,7 +74,7 @@ any-alike-spec =
     Inv-loop
     μ-loop
     loop-holds
-    kind-of-requires
+    record-kind-of-requires
     mul-record-at
     shared-slice-read-record-at
     record-at-requires

@@ -3,7 +3,7 @@ use mathlib.Core.Bool.{Bool, _&&_}
 use Rattle.table.specs.Server.{Server}
 use Rattle.table.specs.Table.{tableFrom}
 use Rattle.table_whole.specs.Internal.Half.{goodContexts}
-use Rattle.table_whole.specs.Internal.Refer.{hasNumber}
+use Rattle.table_refer.specs.Internal.Refer.{hasNumber}
 use Rattle.table_whole.proofs.Laws.Half.{contexts-alike, context-found}
 use borrow.Author.Needs.{needs}
 use Rattle.table_whole.proofs.whole.are_contexts_good.Statement.{statement}

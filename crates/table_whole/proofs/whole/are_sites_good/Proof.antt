@@ -1,6 +1,6 @@
 use mathlib.Core.Path.{refl, sym, _∙_}
 use borrow.Author.Tests.{not-true, not-false}
-use Rattle.table_whole.proofs.Laws.Mark.{marked-none}
+use Rattle.table_refer.proofs.Laws.Mark.{marked-none}
 use Rattle.table_whole.proofs.Laws.Half.{sites-twice, site-marks, sites-once}
 use borrow.Author.Needs.{needs}
 use Rattle.table_whole.proofs.whole.are_sites_good.Statement.{statement}

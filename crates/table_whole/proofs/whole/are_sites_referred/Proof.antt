@@ -2,7 +2,7 @@ use mathlib.Core.Path.{ap, ap₂, _∙_}
 use mathlib.Core.Bool.{Bool, _&&_}
 use Rattle.table.specs.Server.{Server}
 use Rattle.table_whole.specs.Internal.Half.{goodReferences}
-use Rattle.table_whole.specs.Internal.Mark.{isMarked}
+use Rattle.table_refer.specs.Internal.Mark.{isMarked}
 use Rattle.table_whole.proofs.Laws.Half.{sites-refer}
 use borrow.Author.Needs.{needs}
 use Rattle.table_whole.proofs.whole.are_sites_referred.Statement.{statement}

@@ -4,7 +4,7 @@ use mathlib.Core.Bool.{true, false}
 use Prim.Native.Nat.{ℕ}
 use borrow.Author.Needs.{needs}
 use Rattle.filter.specs.declared.request.Request.{Request}
-use Rattle.filter_read.specs.Taken.{nameOf}
+use Rattle.filter_read.specs.Taken.{nameOctets}
 use Rattle.filter_read.specs.Internal.Gather.{spelledAs, nameSpelled, added}
 use Rattle.filter_read.proofs.Laws.Gather.{spelled-none, spelled-some}
 use Rattle.filter.specs.Request.{clause, isPresent}
@@ -27,7 +27,7 @@ returns : tie.Need-returns
 unfolding added
 returns c =
     let p = c .before .before .before .before .before .before .args in
-    let e = spelled-none (nameSpelled (nameOf (p .s .now) (p .clause))) (ap (λ (x : List ℕ). spelledAs (nameSpelled x)) (sym (c .before .before .before .part .ensures)) ∙ sym (c .before .before .name-of .ensures) ∙ c .enum-told .given .1) in
+    let e = spelled-none (nameSpelled (nameOctets (p .s .now) (p .clause))) (ap (λ (x : List ℕ). spelledAs (nameSpelled x)) (sym (c .before .before .before .part .ensures)) ∙ sym (c .before .before .name-of .ensures) ∙ c .enum-told .given .1) in
     rw (added, e)
 
 clause-requires : tie.Need-clause-requires
@@ -41,7 +41,7 @@ unfolding added
 returns-2 c =
     let p = c .before .before .before .before .before .before .before .before .before .before .args in
     let n = c .before .before .before .before .name .given in
-    let e = spelled-some (nameSpelled (nameOf (p .s .now) (p .clause))) (n .0 .0) (ap (λ (x : List ℕ). spelledAs (nameSpelled x)) (sym (c .before .before .before .before .before .before .before .part .ensures)) ∙ sym (c .before .before .before .before .before .before .name-of .ensures) ∙ n .1) in
+    let e = spelled-some (nameSpelled (nameOctets (p .s .now) (p .clause))) (n .0 .0) (ap (λ (x : List ℕ). spelledAs (nameSpelled x)) (sym (c .before .before .before .before .before .before .before .part .ensures)) ∙ sym (c .before .before .before .before .before .before .name-of .ensures) ∙ n .1) in
     let i : isPresent (clause (p .self .request) (n .0 .0)) ≡ true = ap isPresent (sym (c .before .before .clause .ensures)) ∙ sym (c .before .is-present .ensures) ∙ c .if1 .taken in
     rw (added, e, i)
 
@@ -53,7 +53,7 @@ unfolding added
 returns-3 c =
     let p = c .before .before .before .before .before .before .before .before .before .before .before .args in
     let n = c .before .before .before .before .before .name .given in
-    let e = spelled-some (nameSpelled (nameOf (p .s .now) (p .clause))) (n .0 .0) (ap (λ (x : List ℕ). spelledAs (nameSpelled x)) (sym (c .before .before .before .before .before .before .before .before .part .ensures)) ∙ sym (c .before .before .before .before .before .before .before .name-of .ensures) ∙ n .1) in
+    let e = spelled-some (nameSpelled (nameOctets (p .s .now) (p .clause))) (n .0 .0) (ap (λ (x : List ℕ). spelledAs (nameSpelled x)) (sym (c .before .before .before .before .before .before .before .before .part .ensures)) ∙ sym (c .before .before .before .before .before .before .before .name-of .ensures) ∙ n .1) in
     let i : isPresent (clause (p .self .request) (n .0 .0)) ≡ false = ap isPresent (sym (c .before .before .before .clause .ensures)) ∙ sym (c .before .before .is-present .ensures) ∙ c .before .if1 .left in
     rw (added, e, i) (ap (λ (r : Request). record { request = r; unknown = p .self .unknown; duplicate = p .self .duplicate }) (c .with .ensures))
 
