@@ -183,7 +183,7 @@ fn add_wrong_tags(requests: &mut Requests) {
 }
 
 fn add_duplicates(requests: &mut Requests) {
-    requests.note("a clause twice, across case and nesting");
+    requests.note("a duplicate clause, across case and nesting");
     for name in ClauseName::ALL {
         let one = equality(name.spelled(), b"1");
         let other = equality(&name.spelled().to_ascii_uppercase(), b"");
