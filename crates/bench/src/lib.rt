@@ -6,7 +6,7 @@ ghost use lib.ListN.{length};
 ghost use Rattle.octets.specs.Lists.{all};
 ghost use Rattle.table.specs.Block.{imageMost, blocksOf};
 ghost use Rattle.table_check.specs.Check.{goodCheck};
-ghost use Rattle.table_whole.specs.Judgement.{tableIn, judgedAs, numberOf};
+ghost use Rattle.table_whole.specs.Judgement.{tableIn, judgedAs, judgementNumber};
 use table::block::IMAGE_MOST;
 use table_check::check::good_checks;
 use table_whole::judge::judge;
@@ -15,7 +15,7 @@ use table_whole::judge::judgement_number;
 // The number of an image's judgement.
 #[no_mangle]
 pub extern "C" fn bench_judge(image: &[u8]) -> u8
-    ensures { λ r. ⌜ r ≡ numberOf (judgedAs (tableIn (now (image .entry)))) ⌝ }
+    ensures { λ r. ⌜ r ≡ judgementNumber (judgedAs (tableIn (now (image .entry)))) ⌝ }
 {
     judgement_number(judge(image))
 }

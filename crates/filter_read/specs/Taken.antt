@@ -32,7 +32,7 @@ isNamed s name f = sameFolded (nameOctets s f) (spelling name)
 unfoldable pub hasUnknown : List ℕ → List RawClause → Bool
 hasUnknown s fs = any (λ f. not (any (λ name. isNamed s name f) clauseNames)) fs
 
--- 8: a clause twice
+-- 8: a duplicate clause
 unfoldable pub hasDuplicate : List ℕ → List RawClause → Bool
 hasDuplicate s fs = not (unique (λ f g. sameFolded (nameOctets s f) (nameOctets s g)) fs)
 
@@ -57,6 +57,6 @@ takenAs (refused r) = taken.Refused r
 takenAs (good q) = taken.Request q
 
 -- document 01's number of it
-abbrev pub numberOf : Taken → ℕ
-numberOf (taken.Request q) = 0
-numberOf (taken.Refused r) = number r
+abbrev pub takenNumber : Taken → ℕ
+takenNumber (taken.Request q) = 0
+takenNumber (taken.Refused r) = number r

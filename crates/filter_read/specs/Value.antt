@@ -65,6 +65,6 @@ judgedValues (refused r) = judged.Refused r
 judgedValues (good p) = judged.Version (p .version)
 
 -- document 01's number of it
-abbrev pub numberOf : Judged → ℕ
-numberOf (judged.Version v) = 0
-numberOf (judged.Refused r) = number r
+abbrev pub judgedNumber : Judged → ℕ
+judgedNumber (judged.Version v) = 0
+judgedNumber (judged.Refused r) = number r

@@ -51,10 +51,10 @@ writtenOctets (refused r) = []
 writtenOctets (good octets) = octets
 
 -- document 01's number of it, and the length, 0 with a refusal
-abbrev pub numberOf : Written → ℕ
-numberOf (written.Length n) = 0
-numberOf (written.Refused r) = number r
+abbrev pub writtenNumber : Written → ℕ
+writtenNumber (written.Length n) = 0
+writtenNumber (written.Refused r) = number r
 
-abbrev pub lengthOf : Written → ℕ
-lengthOf (written.Length n) = n
-lengthOf (written.Refused r) = 0
+abbrev pub writtenLength : Written → ℕ
+writtenLength (written.Length n) = n
+writtenLength (written.Refused r) = 0

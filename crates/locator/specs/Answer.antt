@@ -78,18 +78,18 @@ octetsWritten (refused r) = []
 octetsWritten (good a) = a .octets
 
 -- document 01's values of an answer: its number; with a refusal length 0, context 0 and no form
-abbrev pub numberOf : Answer → ℕ
-numberOf (answer.Answered length context form) = 0
-numberOf (answer.Refused r) = number r
+abbrev pub answerNumber : Answer → ℕ
+answerNumber (answer.Answered length context form) = 0
+answerNumber (answer.Refused r) = number r
 
-abbrev pub lengthOf : Answer → ℕ
-lengthOf (answer.Answered length context form) = length
-lengthOf (answer.Refused r) = 0
+abbrev pub answerLength : Answer → ℕ
+answerLength (answer.Answered length context form) = length
+answerLength (answer.Refused r) = 0
 
-abbrev pub contextNumberOf : Answer → ℕ
-contextNumberOf (answer.Answered length context form) = context .0
-contextNumberOf (answer.Refused r) = 0
+abbrev pub answerContext : Answer → ℕ
+answerContext (answer.Answered length context form) = context .0
+answerContext (answer.Refused r) = 0
 
-abbrev pub formIn : Answer → Option Form
-formIn (answer.Answered length context form) = some form
-formIn (answer.Refused r) = none
+abbrev pub answerForm : Answer → Option Form
+answerForm (answer.Answered length context form) = some form
+answerForm (answer.Refused r) = none

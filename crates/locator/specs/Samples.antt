@@ -18,7 +18,7 @@ use Rattle.reply.specs.Reply.{u16, u32}
 use Rattle.table.specs.Bits.{roleNt4Wanted}
 use Rattle.table_check.specs.Check.{checkOf}
 use Rattle.table.specs.declared.Caller.{Caller}
-use Rattle.locator.specs.Answer.{Outcome, answerTo, answerAs, octetsWritten, numberOf, lengthOf, contextNumberOf, formIn}
+use Rattle.locator.specs.Answer.{Outcome, answerTo, answerAs, octetsWritten, answerNumber, answerLength, answerContext, answerForm}
 
 -- the base table
 
@@ -106,7 +106,7 @@ formMark (some Response) = 2
 formMark (some Ex) = 3
 
 unfoldable pub summary : Try Outcome → List ℕ
-summary o = let a = answerAs o in numberOf a ∷ lengthOf a ∷ contextNumberOf a ∷ formMark (formIn a) ∷ little (take 2 (octetsWritten o)) ∷ []
+summary o = let a = answerAs o in answerNumber a ∷ answerLength a ∷ answerContext a ∷ formMark (answerForm a) ∷ little (take 2 (octetsWritten o)) ∷ []
 
 unfoldable pub refusal : ℕ → List ℕ
 refusal n = n ∷ 0 ∷ 0 ∷ 0 ∷ 0 ∷ []

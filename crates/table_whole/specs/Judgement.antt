@@ -42,6 +42,6 @@ judgedAs (refused r) = Refused r
 judgedAs (good t) = Passed
 
 -- document 01's number of a judgement
-abbrev pub numberOf : Judgement → ℕ
-numberOf Passed = 0
-numberOf (Refused r) = number r
+abbrev pub judgementNumber : Judgement → ℕ
+judgementNumber Passed = 0
+judgementNumber (Refused r) = number r

@@ -1,6 +1,6 @@
 // An image judged: 1 to 4 in order, each over the whole image once the earlier ones passed.
 ghost use mathlib.Core.Path.{_≡_};
-ghost use Rattle.table_whole.specs.Judgement.{goodLength, tableIn, judgedAs, numberOf};
+ghost use Rattle.table_whole.specs.Judgement.{goodLength, tableIn, judgedAs, judgementNumber};
 use crate::whole::good_whole;
 use answers::Refusal;
 use answers::number_of;
@@ -31,7 +31,7 @@ pub enum Judgement {
 
 // Document 01's number of it.
 pub fn judgement_number(judgement: Judgement) -> u8
-    ensures { λ r. ⌜ r ≡ numberOf judgement ⌝ }
+    ensures { λ r. ⌜ r ≡ judgementNumber judgement ⌝ }
 {
     match judgement {
         Judgement::Passed => 0,

@@ -1,7 +1,7 @@
 // `filter` and `values` lines: a filter is taken apart, and its values are judged.
 ghost use mathlib.Core.Path.{_≡_};
-ghost use Rattle.filter_read.specs.Taken.{numberOf as takenNumber};
-ghost use Rattle.filter_read.specs.Value.{numberOf as judgedNumber};
+ghost use Rattle.filter_read.specs.Taken.{takenNumber};
+ghost use Rattle.filter_read.specs.Value.{judgedNumber};
 use crate::parse::decode;
 use crate::say::say;
 use crate::say::say_hex;

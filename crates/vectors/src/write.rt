@@ -1,6 +1,6 @@
 // `write` lines: a filter is written from eight clauses.
 ghost use mathlib.Core.Path.{_≡_};
-ghost use Rattle.filter_write.specs.Write.{numberOf, lengthOf};
+ghost use Rattle.filter_write.specs.Write.{writtenNumber, writtenLength};
 ghost use lib.ListN.{length};
 use crate::parse::Decimal;
 use crate::parse::decimal_of;
@@ -88,7 +88,7 @@ fn request_of(line: &[u8]) -> Request {
 }
 
 fn written_number(written: Written) -> u8
-    ensures { λ r. ⌜ r ≡ numberOf written ⌝ }
+    ensures { λ r. ⌜ r ≡ writtenNumber written ⌝ }
 {
     match written {
         Written::Length(_) => 0,
@@ -97,7 +97,7 @@ fn written_number(written: Written) -> u8
 }
 
 fn written_length(written: Written) -> usize
-    ensures { λ r. ⌜ r ≡ lengthOf written ⌝ }
+    ensures { λ r. ⌜ r ≡ writtenLength written ⌝ }
 {
     match written {
         Written::Length(n) => n,

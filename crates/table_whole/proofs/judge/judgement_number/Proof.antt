@@ -1,4 +1,4 @@
-use Rattle.table_whole.specs.Judgement.{numberOf}
+use Rattle.table_whole.specs.Judgement.{judgementNumber}
 use mathlib.Core.Path.{_∙_, ap, sym}
 use borrow.Author.Needs.{needs}
 use Rattle.table_whole.proofs.judge.judgement_number.Statement.{statement}
@@ -17,7 +17,7 @@ returns : tie.Need-returns
 returns c = search needs
 
 returns-2 : tie.Need-returns-2
-returns-2 c = c .number-of .ensures ∙ ap numberOf (sym (c .before .before .judgement .given .1))
+returns-2 c = c .number-of .ensures ∙ ap judgementNumber (sym (c .before .before .judgement .given .1))
 
 pub judgement-number-spec : {M : Type 1} → statement M
 judgement-number-spec =

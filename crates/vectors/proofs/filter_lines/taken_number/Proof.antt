@@ -1,4 +1,4 @@
-use Rattle.filter_read.specs.Taken.{numberOf}
+use Rattle.filter_read.specs.Taken.{takenNumber}
 use mathlib.Core.Path.{_∙_, ap, sym}
 use borrow.Author.Needs.{needs}
 use Rattle.vectors.proofs.filter_lines.taken_number.Statement.{statement}
@@ -17,7 +17,7 @@ returns : tie.Need-returns
 returns c = search needs
 
 returns-2 : tie.Need-returns-2
-returns-2 c = c .number-of .ensures ∙ ap numberOf (sym (c .before .before .taken .given .1))
+returns-2 c = c .number-of .ensures ∙ ap takenNumber (sym (c .before .before .taken .given .1))
 
 pub taken-number-spec : {M : Type 1} → statement M
 taken-number-spec =
