@@ -3,6 +3,7 @@ ghost use mathlib.Core.Path.{_≡_};
 ghost use Prim.Native.Nat.{_≤_};
 ghost use lib.ListN.{getD};
 ghost use Rattle.octets.specs.Number.{u16At, u32At};
+ghost use Rattle.table.specs.Block.{blockSize};
 ghost use Rattle.table.specs.Field.{textAt};
 use octets::number::wide;
 use octets::part::part;
@@ -23,7 +24,7 @@ pub fn octet_in(s: &[u8], offset: usize) -> u8
 }
 
 pub fn u16_in(s: &[u8], offset: usize) -> u16
-    requires { ⌜ offset ≤ 512 ⌝ }
+    requires { ⌜ offset ≤ blockSize ⌝ }
     ensures { λ r. ⌜ r ≡ u16At (now (s .entry)) offset ⌝ }
 {
     (wide(octet_in(s, offset)) + 256 * wide(octet_in(s, offset + 1))) as u16
@@ -37,7 +38,7 @@ pub fn u32_in(s: &[u8], offset: usize) -> u32
 }
 
 pub fn text_in(s: &[u8], field: TextField) -> &[u8]
-    requires { ⌜ field .offset ≤ 512 ⌝ }
+    requires { ⌜ field .offset ≤ blockSize ⌝ }
     ensures { λ r. ⌜ now r ≡ textAt (now (s .entry)) field ⌝ }
 {
     let offset = field.offset;

@@ -2,6 +2,7 @@
 ghost use mathlib.Core.Path.{_≡_};
 ghost use Prim.Native.Nat.{_≤_};
 ghost use lib.ListN.{length};
+ghost use Rattle.table.specs.Block.{blockSize};
 ghost use Rattle.table.specs.Server.{serverOf};
 ghost use Rattle.table.specs.Table.{tableFrom};
 use crate::BlockPlace;
@@ -90,7 +91,7 @@ pub fn host(octets: &[u8]) -> &[u8]
 
 // The body of an image's server block.
 pub fn server_of(image: &[u8]) -> &[u8]
-    requires { ⌜ 512 ≤ length (now image) ⌝ }
+    requires { ⌜ blockSize ≤ length (now image) ⌝ }
     ensures { λ r. ⌜ serverOf (now r) ≡ tableFrom (now (image .entry)) .server ⌝ }
 {
     body_of(block_at(image, PLACE))

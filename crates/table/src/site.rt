@@ -2,6 +2,7 @@
 ghost use mathlib.Core.Path.{_≡_};
 ghost use Prim.Native.Nat.{_≤_};
 ghost use Rattle.octets.specs.Number.{u16At};
+ghost use Rattle.table.specs.Block.{blockSize};
 ghost use Rattle.table.specs.Countings.{siteOrNone};
 ghost use Rattle.table.specs.Site.{siteOf};
 ghost use Rattle.table.specs.Internal.Reference.{referred};
@@ -35,7 +36,7 @@ pub enum SiteReference {
 
 // The site number at an offset, where 0 means none.
 pub fn reference_in(octets: &[u8], offset: usize) -> SiteReference
-    requires { ⌜ offset ≤ 512 ⌝ }
+    requires { ⌜ offset ≤ blockSize ⌝ }
     ensures { λ r. ⌜ referred r ≡ siteOrNone (u16At (now (octets .entry)) offset) ⌝ }
 {
     let number = u16_in(octets, offset);

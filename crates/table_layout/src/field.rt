@@ -1,6 +1,7 @@
 // Room that must be zero, and texts by their rules.
 ghost use mathlib.Core.Path.{_≡_};
 ghost use Prim.Native.Nat.{_≤_};
+ghost use Rattle.table.specs.Block.{bodySize};
 ghost use Rattle.table.specs.Field.{fieldEnd};
 ghost use Rattle.table_layout.specs.Field.{zeros, textField, lastText};
 ghost use Rattle.table_layout.specs.Internal.Rule.{ruleOf};
@@ -48,7 +49,7 @@ fn keeps(rule: Rule, s: &[u8]) -> bool
 
 // The offset after a field's room.
 fn field_end(field: TextField) -> usize
-    requires { ⌜ (field .offset ≤ 504) × (field .room ≤ 255) ⌝ }
+    requires { ⌜ (field .offset ≤ bodySize) × (field .room ≤ 255) ⌝ }
     ensures { λ r. ⌜ r ≡ fieldEnd field ⌝ }
 {
     field.offset + 1 + field.room
@@ -56,7 +57,7 @@ fn field_end(field: TextField) -> usize
 
 // Whether a text keeps to its rule and its room, the unused rest of which is zero.
 pub fn is_text_field(s: &[u8], rule: Rule, field: TextField) -> bool
-    requires { ⌜ (field .offset ≤ 504) × (field .room ≤ 255) ⌝ }
+    requires { ⌜ (field .offset ≤ bodySize) × (field .room ≤ 255) ⌝ }
     ensures { λ r. ⌜ r ≡ textField (ruleOf rule) (now (s .entry)) field ⌝ }
 {
     let offset = field.offset;
@@ -68,7 +69,7 @@ pub fn is_text_field(s: &[u8], rule: Rule, field: TextField) -> bool
 
 // Whether the last text of a body or a record keeps to its rule and its room, with zeros after it up to the end.
 pub fn is_last_text(s: &[u8], rule: Rule, field: TextField, end: usize) -> bool
-    requires { ⌜ (field .offset ≤ 504) × (field .room ≤ 255) ⌝ }
+    requires { ⌜ (field .offset ≤ bodySize) × (field .room ≤ 255) ⌝ }
     ensures { λ r. ⌜ r ≡ lastText (ruleOf rule) (now (s .entry)) field end ⌝ }
 {
     is_text_field(s, rule, field) & is_zero_room(s, field_end(field), end)

@@ -3,10 +3,10 @@ ghost use mathlib.Core.Path.{_≡_};
 ghost use mathlib.Core.List.{_++_};
 ghost use Prim.Native.Nat.{_+_, _*_, _≤_};
 ghost use lib.ListN.{length, take};
-ghost use Rattle.table.specs.Block.{imageMost, blocksOf};
+ghost use Rattle.table.specs.Block.{bodySize, imageMost, blocksOf};
 ghost use Rattle.table.specs.Format.{formatOf};
 ghost use Rattle.table.specs.Table.{recordsOf};
-ghost use Rattle.table_records.specs.Internal.Offset.{offsetsFrom, recordsAt, usedOf};
+ghost use Rattle.table_records.specs.Internal.Offset.{blocksMost, offsetsFrom, recordsAt, usedOf};
 use octets::part::part;
 use octets::text::all_zero;
 use table::BlockPlace;
@@ -40,9 +40,9 @@ fn add_offsets(image: &[u8], from: usize, n: usize, w: usize, out: &mut [u16], k
 
 // The same of every block of a kind.
 fn kind_offsets(image: &[u8], kind: u8, n: usize, w: usize, out: &mut [u16]) -> usize
-    requires { ⌜ (length (now image) ≤ imageMost) × (n * w ≤ 504) × (1 ≤ w) × (n ≤ 42) × (n * 128 ≤ length (now out)) ⌝ }
+    requires { ⌜ (length (now image) ≤ imageMost) × (n * w ≤ bodySize) × (1 ≤ w) × (n ≤ 42) × (n * blocksMost ≤ length (now out)) ⌝ }
     ensures { λ r. ⌜ recordsAt (now (image .entry)) w (take r (now (out .exit))) ≡ usedOf kind n w (blocksOf (now (image .entry))) ⌝ }
-    ensures { λ r. ⌜ r ≤ n * 128 ⌝ }
+    ensures { λ r. ⌜ r ≤ n * blocksMost ⌝ }
 {
     let blocks = image.len() / BLOCK_SIZE;
     let mut count = 0;
@@ -59,9 +59,9 @@ fn kind_offsets(image: &[u8], kind: u8, n: usize, w: usize, out: &mut [u16]) -> 
 
 // Puts the offsets of the used records of a kind into out, and gives back how many there are.
 pub fn offsets_of(image: &[u8], kind: RecordKind, out: &mut [u16]) -> usize
-    requires { ⌜ (length (now image) ≤ imageMost) × (formatOf kind .count * 128 ≤ length (now out)) ⌝ }
+    requires { ⌜ (length (now image) ≤ imageMost) × (formatOf kind .count * blocksMost ≤ length (now out)) ⌝ }
     ensures { λ r. ⌜ recordsAt (now (image .entry)) (formatOf kind .width) (take r (now (out .exit))) ≡ recordsOf kind (blocksOf (now (image .entry))) ⌝ }
-    ensures { λ r. ⌜ r ≤ formatOf kind .count * 128 ⌝ }
+    ensures { λ r. ⌜ r ≤ formatOf kind .count * blocksMost ⌝ }
 {
     let format = format_of(kind);
     kind_offsets(image, format.kind, format.count, format.width, out)

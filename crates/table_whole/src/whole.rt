@@ -1,7 +1,7 @@
 // The table as a whole: contexts with their accounts, then sites with their subnets.
 ghost use mathlib.Core.Path.{_≡_};
 ghost use Prim.Native.Nat.{_≤_};
-ghost use Rattle.table.specs.Block.{imageMost};
+ghost use Rattle.table.specs.Block.{blockSize, imageMost};
 ghost use lib.ListN.{length};
 ghost use Rattle.table.specs.Table.{tableFrom};
 ghost use Rattle.table.specs.declared.record.RecordKind.the-variants as kind;
@@ -54,7 +54,7 @@ fn good_accounts_of(image: &[u8], contexts: &[u16]) -> bool
 
 // No two contexts have one number, GUID, SID or DNS name, the default one exists, and their accounts are good.
 fn are_contexts_good(image: &[u8], contexts: &[u16]) -> bool
-    requires { ⌜ (512 ≤ length (now image)) × (length (now image) ≤ imageMost) × AllOf kind.Context (now image) (now contexts) ⌝ }
+    requires { ⌜ (blockSize ≤ length (now image)) × (length (now image) ≤ imageMost) × AllOf kind.Context (now image) (now contexts) ⌝ }
     ensures { λ r. ⌜ r ≡ goodContexts (tableFrom (now (image .entry))) ⌝ }
 {
     all_unique(image, contexts, Likeness::Contexts)
@@ -68,7 +68,7 @@ fn are_contexts_good(image: &[u8], contexts: &[u16]) -> bool
 
 // 1 to 16 contexts, and what is said of them; no pair is compared where there are more.
 fn is_context_half_good(image: &[u8]) -> bool
-    requires { ⌜ (512 ≤ length (now image)) × (length (now image) ≤ imageMost) ⌝ }
+    requires { ⌜ (blockSize ≤ length (now image)) × (length (now image) ≤ imageMost) ⌝ }
     ensures { λ r. ⌜ r ≡ contextHalf (tableFrom (now (image .entry))) ⌝ }
 {
     let mut contexts: [u16; CONTEXTS_MOST] = [0; CONTEXTS_MOST];
@@ -93,7 +93,7 @@ fn good_subnets_of(image: &[u8], marks: &[u8]) -> bool
 
 // The server's own site exists, each next closest one exists and is another, and subnets refer rightly.
 fn are_sites_referred(image: &[u8], sites: &[u16], marks: &[u8]) -> bool
-    requires { ⌜ (512 ≤ length (now image)) × (length (now image) ≤ imageMost) ⌝ }
+    requires { ⌜ (blockSize ≤ length (now image)) × (length (now image) ≤ imageMost) ⌝ }
     requires { ⌜ AllOf kind.Site (now image) (now sites) × SiteMarks (now marks) (tableFrom (now image)) ⌝ }
     ensures { λ r. ⌜ r ≡ goodReferences (tableFrom (now (image .entry))) ⌝ }
 {
@@ -104,7 +104,7 @@ fn are_sites_referred(image: &[u8], sites: &[u16], marks: &[u8]) -> bool
 
 // No two sites have one number, and what refers to them does so rightly.
 fn are_sites_good(image: &[u8], sites: &[u16]) -> bool
-    requires { ⌜ (512 ≤ length (now image)) × (length (now image) ≤ imageMost) × AllOf kind.Site (now image) (now sites) ⌝ }
+    requires { ⌜ (blockSize ≤ length (now image)) × (length (now image) ≤ imageMost) × AllOf kind.Site (now image) (now sites) ⌝ }
     ensures { λ r. ⌜ r ≡ goodSites (tableFrom (now (image .entry))) ⌝ }
 {
     let mut marks = [0u8; MARKS_SIZE];
@@ -115,7 +115,7 @@ fn are_sites_good(image: &[u8], sites: &[u16]) -> bool
 }
 
 fn is_site_half_good(image: &[u8]) -> bool
-    requires { ⌜ (512 ≤ length (now image)) × (length (now image) ≤ imageMost) ⌝ }
+    requires { ⌜ (blockSize ≤ length (now image)) × (length (now image) ≤ imageMost) ⌝ }
     ensures { λ r. ⌜ r ≡ siteHalf (tableFrom (now (image .entry))) ⌝ }
 {
     let mut sites: [u16; SITES_MOST] = [0; SITES_MOST];
@@ -128,7 +128,7 @@ fn is_site_half_good(image: &[u8]) -> bool
 
 // Whether the table is good as a whole, for an image of a whole block at least.
 pub fn good_whole(image: &[u8]) -> bool
-    requires { ⌜ (512 ≤ length (now image)) × (length (now image) ≤ imageMost) ⌝ }
+    requires { ⌜ (blockSize ≤ length (now image)) × (length (now image) ≤ imageMost) ⌝ }
     ensures { λ r. ⌜ r ≡ goodWhole (tableFrom (now (image .entry))) ⌝ }
 {
     if !is_context_half_good(image) {

@@ -13,12 +13,12 @@ use Rattle.octets.specs.Lists.{cut, keep, keepIf, pieces}
 use Rattle.octets.proofs.Laws.Lists.{keep-append, cut-cut, pieces-take}
 use Rattle.table.specs.declared.record.RecordKind.{RecordKind}
 use Rattle.table.specs.declared.record.RecordKind.the-variants.{Context, Account, Site, Subnet}
-use Rattle.table.specs.Block.{blockAt, blocksOf, body}
+use Rattle.table.specs.Block.{blockSize, bodyOffset, bodySize, blockAt, blocksOf, body}
 use Rattle.table.specs.Countings.{blockPlace}
 use Rattle.table.specs.Format.{formatOf}
 use Rattle.table.specs.Table.{bodies, isUsed, recordsOf}
 use Rattle.table.proofs.Laws.Table.{bodyIf, bodies-cons, blocks-step, blocks-end}
-use Rattle.table_records.specs.Internal.Offset.{recordsAt, offsetsFrom, usedOf}
+use Rattle.table_records.specs.Internal.Offset.{blocksMost, recordsAt, offsetsFrom, usedOf}
 
 -- the records at the offsets found are those found in the octets themselves
 pub offsets-records : (image : List ℕ) (w at n : ℕ) → recordsAt image w (offsetsFrom image w at n) ≡ keep (isUsed) (pieces n w (drop at image))
@@ -34,11 +34,11 @@ offsets-records image w at (suc n) = go (isUsed (cut image at w)) (offsets-recor
     go false e = e
 
 -- in the block at place i: n records of w octets, which fit into its body
-pub block-records : (image : List ℕ) (w i n : ℕ) → n * w ≤ 504
-    → recordsAt image w (offsetsFrom image w (512 * i + 4) n) ≡ keep (isUsed) (pieces n w (body (blockAt image (blockPlace i))))
+pub block-records : (image : List ℕ) (w i n : ℕ) → n * w ≤ bodySize
+    → recordsAt image w (offsetsFrom image w (blockSize * i + bodyOffset) n) ≡ keep (isUsed) (pieces n w (body (blockAt image (blockPlace i))))
 block-records image w i n h =
-    offsets-records image w (512 * i + 4) n
-    ∙ ap (keep (isUsed)) (sym (pieces-take n w 504 (drop (512 * i + 4) image) h) ∙ ap (pieces n w) (sym (cut-cut image (512 * i) 512 4 504 (omega arith))))
+    offsets-records image w (blockSize * i + bodyOffset) n
+    ∙ ap (keep (isUsed)) (sym (pieces-take n w bodySize (drop (blockSize * i + bodyOffset) image) h) ∙ ap (pieces n w) (sym (cut-cut image (512 * i) 512 4 504 (omega arith))))
 
 -- one record more, or none: what is left of a block at an offset
 module _ (image : List ℕ) (w at left : ℕ) (some : 0 < left) where
@@ -73,26 +73,26 @@ used-cons kind n w block blocks =
     go true = keep-append (isUsed) (pieces n w (body block)) (flatMap (pieces n w) (bodies kind blocks))
     go false = refl
 
-pub used-step : (kind n w : ℕ) (image : List ℕ) (i : ℕ) → i < length image / 512
+pub used-step : (kind n w : ℕ) (image : List ℕ) (i : ℕ) → i < length image / blockSize
     → usedOf kind n w (drop i (blocksOf image)) ≡ usedIf (eqb (getD (blockAt image (blockPlace i)) 0 0) kind) n w (blockAt image (blockPlace i)) ++ usedOf kind n w (drop (i + 1) (blocksOf image))
 used-step kind n w image i h =
     ap (usedOf kind n w) (blocks-step image i h) ∙ used-cons kind n w (blockAt image (blockPlace i)) (drop (i + 1) (blocksOf image))
 
-pub used-end : (kind n w : ℕ) (image : List ℕ) (i : ℕ) → length image / 512 ≤ i → usedOf kind n w (drop i (blocksOf image)) ≡ []
+pub used-end : (kind n w : ℕ) (image : List ℕ) (i : ℕ) → length image / blockSize ≤ i → usedOf kind n w (drop i (blocksOf image)) ≡ []
 unfolding usedOf bodies keep flatMap
 used-end kind n w image i h = ap (usedOf kind n w) (blocks-end image i h)
 
 -- past the block at place i: its offsets are put after those so far, or it is of another kind
-module _ (kind n w : ℕ) (image : List ℕ) (i : ℕ) (h : i < length image / 512) where
+module _ (kind n w : ℕ) (image : List ℕ) (i : ℕ) (h : i < length image / blockSize) where
   rest : ℕ → List (List ℕ)
   rest j = usedOf kind n w (drop j (blocksOf image))
 
-  pub step-in : (so-far offsets : List ℕ) → n * w ≤ 504 → eqb (getD (blockAt image (blockPlace i)) 0 0) kind ≡ true → offsets ≡ so-far ++ offsetsFrom image w (512 * i + 4) n
+  pub step-in : (so-far offsets : List ℕ) → n * w ≤ bodySize → eqb (getD (blockAt image (blockPlace i)) 0 0) kind ≡ true → offsets ≡ so-far ++ offsetsFrom image w (blockSize * i + bodyOffset) n
       → recordsAt image w offsets ++ usedOf kind n w (drop (i + 1) (blocksOf image)) ≡ recordsAt image w so-far ++ usedOf kind n w (drop i (blocksOf image))
   unfolding rest
   step-in so-far offsets fits t e =
       ap (λ (ps : List ℕ). recordsAt image w ps ++ rest (i + 1)) e
-      ∙ ap (λ (rs : List (List ℕ)). rs ++ rest (i + 1)) (map-append (λ at. cut image at w) so-far (offsetsFrom image w (512 * i + 4) n) ∙ ap (λ (rs : List (List ℕ)). recordsAt image w so-far ++ rs) (block-records image w i n fits))
+      ∙ ap (λ (rs : List (List ℕ)). rs ++ rest (i + 1)) (map-append (λ at. cut image at w) so-far (offsetsFrom image w (blockSize * i + bodyOffset) n) ∙ ap (λ (rs : List (List ℕ)). recordsAt image w so-far ++ rs) (block-records image w i n fits))
       ∙ append-assoc (recordsAt image w so-far) (keep (isUsed) (pieces n w (body (blockAt image (blockPlace i))))) (rest (i + 1))
       ∙ ap (λ (rs : List (List ℕ)). recordsAt image w so-far ++ rs) (sym (used-step kind n w image i h ∙ ap (λ (b : Bool). usedIf b n w (blockAt image (blockPlace i)) ++ rest (i + 1)) t))
 
@@ -100,9 +100,9 @@ module _ (kind n w : ℕ) (image : List ℕ) (i : ℕ) (h : i < length image / 5
   unfolding rest
   step-over t = sym (used-step kind n w image i h ∙ ap (λ (b : Bool). usedIf b n w (blockAt image (blockPlace i)) ++ rest (i + 1)) t)
 
--- n offsets for each of 128 blocks are enough
-pub room-left : (n i : ℕ) → i < 128 → n * i + n ≤ n * 128
-room-left n i h = subst (λ (k : ℕ). k ≤ n * 128) (mul-suc n i) (mul-le-mul-left n h)
+-- n offsets for each block of the longest image are enough
+pub room-left : (n i : ℕ) → i < blocksMost → n * i + n ≤ n * blocksMost
+room-left n i h = subst (λ (k : ℕ). k ≤ n * blocksMost) (mul-suc n i) (mul-le-mul-left n h)
 
 pub one-more : (n i : ℕ) → n * (i + 1) ≡ n * i + n
 one-more n i = rw add-one (mul-suc n i)
@@ -114,7 +114,7 @@ one-less w left h =
     ap (λ (k : ℕ). w * k) e ∙ one-more w (left - 1)
 
 -- every kind's records fit into a body
-pub format-fits : (kind : RecordKind) → (formatOf kind .count * formatOf kind .width ≤ 504) × (1 ≤ formatOf kind .width) × (formatOf kind .count ≤ 42)
+pub format-fits : (kind : RecordKind) → (formatOf kind .count * formatOf kind .width ≤ bodySize) × (1 ≤ formatOf kind .width) × (formatOf kind .count ≤ 42)
 format-fits Context = (omega arith, omega arith, omega arith)
 format-fits Account = (omega arith, omega arith, omega arith)
 format-fits Site = (omega arith, omega arith, omega arith)

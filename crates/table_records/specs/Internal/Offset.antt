@@ -1,8 +1,13 @@
 -- Where the records of one kind stand in an image.
 use mathlib.Core.List.{List, [], map, flatMap}
-use Prim.Native.Nat.{ℕ, zero, suc, _+_}
+use Prim.Native.Nat.{ℕ, zero, suc, _+_, _/_}
 use Rattle.octets.specs.Lists.{cut, keep, keepIf, pieces}
+use Rattle.table.specs.Block.{blockSize, imageMost}
 use Rattle.table.specs.Table.{bodies, isUsed}
+
+-- how many blocks the longest image has
+abbrev pub blocksMost : ℕ
+blocksMost = imageMost / blockSize
 
 -- the records of w octets at offsets
 abbrev pub recordsAt : List ℕ → ℕ → List ℕ → List (List ℕ)

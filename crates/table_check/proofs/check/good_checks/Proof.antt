@@ -1,5 +1,5 @@
 use Rattle.table.specs.Countings.{blockPlace}
-use Rattle.table.specs.Block.{blockAt, blocksOf}
+use Rattle.table.specs.Block.{blockSize, blockAt, blocksOf}
 use Rattle.table_check.specs.Check.{goodCheck}
 use Rattle.octets.proofs.Laws.Lists.{all-piece-fails, all-piece-next, all-pieces-end}
 use Rattle.octets.specs.Lists.{all}
@@ -13,10 +13,10 @@ use Rattle.table_check.proofs.check.good_checks.Statement.{statement}
 use Rattle.table_check.proofs.check.good_checks.Tie as tie
 
 abbrev Inv-loop : tie.InvT-loop
-Inv-loop image n i₀ i = (i ≤ length image / 512) × (all goodCheck (drop i (blocksOf image)) ≡ all goodCheck (blocksOf image))
+Inv-loop image n i₀ i = (i ≤ length image / blockSize) × (all goodCheck (drop i (blocksOf image)) ≡ all goodCheck (blocksOf image))
 
 abbrev μ-loop : tie.MeasureT-loop
-μ-loop image n i₀ i = length image / 512 - i
+μ-loop image n i₀ i = length image / blockSize - i
 
 loop-holds : tie.Need-loop-holds Inv-loop μ-loop
 loop-holds c = (omega arith, refl)
@@ -39,7 +39,7 @@ unfolding blocksOf
 returns c =
     let s = c .before .before .before .before .before .before .args .image .now in
     let l = c .before .before .before .before .loop in
-    all-piece-fails goodCheck (length s / 512) 512 s (l .i) (omega arith)
+    all-piece-fails goodCheck (length s / blockSize) blockSize s (l .i) (omega arith)
     (judged (c .before) ∙ not-true _ (c .if1 .taken))
     ∙ l .inv .1
 
@@ -55,7 +55,7 @@ loop-again c =
     let s = c .before .before .before .before .before .before .args .image .now in
     let l = c .before .before .before .before .loop in (
       omega arith,
-      all-piece-next goodCheck (length s / 512) 512 s (l .i) (omega arith)
+      all-piece-next goodCheck (length s / blockSize) blockSize s (l .i) (omega arith)
           (judged (c .before) ∙ not-false _ (c .if1 .left))
           ∙ l .inv .1,
     )
@@ -65,7 +65,7 @@ unfolding blocksOf
 returns-2 c =
     let s = c .before .before .before .args .image .now in
     let l = c .before .loop in
-    all-pieces-end goodCheck (length s / 512) 512 s (l .i) (omega arith) ∙ l .inv .1
+    all-pieces-end goodCheck (length s / blockSize) blockSize s (l .i) (omega arith) ∙ l .inv .1
 
 pub good-checks-spec : {M : Type 1} → statement M
 good-checks-spec =

@@ -1,5 +1,5 @@
 use Rattle.table.proofs.Laws.Table.{blocks-step, blocks-end}
-use Rattle.table.specs.Block.{blockAt, blocksOf}
+use Rattle.table.specs.Block.{blockSize, blockAt, blocksOf}
 use Rattle.table.specs.Countings.{blockPlace}
 use Rattle.table.specs.Server.{serverPlace}
 use Rattle.table_layout.proofs.Laws.Layout.{layouts-fail, layouts-next, layouts-end}
@@ -14,10 +14,10 @@ use Rattle.table_layout.proofs.layout.good_layouts.Statement.{statement
 use Rattle.table_layout.proofs.layout.good_layouts.Tie as tie
 
 abbrev Inv-loop : tie.InvT-loop
-Inv-loop image n i₀ i = (i ≤ length image / 512) × (layoutsFrom (blockPlace i) (drop i (blocksOf image)) ≡ layoutsFrom serverPlace (blocksOf image))
+Inv-loop image n i₀ i = (i ≤ length image / blockSize) × (layoutsFrom (blockPlace i) (drop i (blocksOf image)) ≡ layoutsFrom serverPlace (blocksOf image))
 
 abbrev μ-loop : tie.MeasureT-loop
-μ-loop image n i₀ i = length image / 512 - i
+μ-loop image n i₀ i = length image / blockSize - i
 
 loop-holds : tie.Need-loop-holds Inv-loop μ-loop
 loop-holds c = (omega arith, refl)

@@ -8,7 +8,7 @@ use lib.ListN.{getD}
 use mathlib.Core.List.{append-nil}
 use borrow.Author.Needs.{needs}
 use Rattle.table_records.proofs.Laws.Offset.{used-end, room-left}
-use Rattle.table_records.specs.Internal.Offset.{recordsAt, usedOf}
+use Rattle.table_records.specs.Internal.Offset.{blocksMost, recordsAt, usedOf}
 use Rattle.table.specs.Block.{blocksOf}
 use native.Mathlib.Omega.{arith}
 use lib.ListN.{length, take, drop}
@@ -85,7 +85,7 @@ returns c =
     let a = c .before .before .before .before .args in
     let l = c .before .loop in
     let done = used-end (a .kind) (a .n) (a .w) (a .image .now) (l .i) (omega arith) in
-    let most : l .i ≤ 128 = omega arith in
+    let most : l .i ≤ blocksMost = omega arith in
     (sym (append-nil _) ∙ ap (λ (rs : List (List ℕ)). recordsAt (a .image .now) (a .w) (take (l .count) (l .out)) ++ rs) (sym done) ∙ l .inv .3, omega (arith, mul-le-mul-left (a .n) most))
 
 pub kind-offsets-spec : {M : Type 1} → statement M
