@@ -51,17 +51,27 @@ fn images() -> Vec<(&'static str, Image, u8)> {
     ]
 }
 
-/// The least time of 15 runs, each of several calls, in nanoseconds a call.
-fn least(calls: u32, work: impl Fn()) -> f64 {
-    (0..15)
-        .map(|_| {
-            let start = Instant::now();
-            for _ in 0..calls {
-                work();
-            }
-            start.elapsed().as_nanos() as f64 / f64::from(calls)
-        })
-        .fold(f64::MAX, f64::min)
+/// The time of several calls, in nanoseconds a call.
+fn time(calls: u32, work: impl Fn()) -> f64 {
+    let start = Instant::now();
+    for _ in 0..calls {
+        work();
+    }
+    start.elapsed().as_nanos() as f64 / f64::from(calls)
+}
+
+/// The least times of the checks and of the judgement in 15 rounds. Each round runs both, so that a busy moment meets both.
+fn least(octets: &[u8]) -> (f64, f64) {
+    let calls = (4_000_000 / octets.len() as u32 / 16).max(4);
+    (0..15).fold((f64::MAX, f64::MAX), |(check, whole), _| {
+        let checked = time(calls, || {
+            black_box(checks(black_box(octets)));
+        });
+        let judged = time(calls, || {
+            black_box(judge(black_box(octets)));
+        });
+        (check.min(checked), whole.min(judged))
+    })
 }
 
 fn times() {
@@ -69,13 +79,7 @@ fn times() {
     for (name, image, answer) in images() {
         let octets = image.octets();
         assert_eq!(judge(octets), answer, "{name}");
-        let calls = (4_000_000 / octets.len() as u32 / 16).max(4);
-        let check = least(calls, || {
-            black_box(checks(black_box(octets)));
-        });
-        let whole = least(calls, || {
-            black_box(judge(black_box(octets)));
-        });
+        let (check, whole) = least(octets);
         println!("{:<46} {:>6} {:>12.0} {:>12.0} {:>7.1}", name, answer, check, whole, whole / check);
     }
 }
