@@ -50,19 +50,10 @@ impl Form {
     pub const ALL: [Form; 3] = [Form::Nt40, Form::Response, Form::Ex];
 
     /// The opcodes of this form: answered, paused, user unknown.
-    pub fn opcodes(self) -> [u16; 3] {
+    fn opcodes(self) -> [u16; 3] {
         match self {
             Form::Nt40 | Form::Response => [19, 20, 21],
             Form::Ex => [23, 24, 25],
-        }
-    }
-
-    /// The version written at the end of a reply, where there is no name 8.
-    pub fn version(self) -> u32 {
-        match self {
-            Form::Nt40 => 1,
-            Form::Response => 3,
-            Form::Ex => 5,
         }
     }
 }
@@ -94,9 +85,13 @@ pub struct Choice<'a> {
     pub next_closest_site: Option<Site<'a>>,
 }
 
-/// Chooses the answer to a filter whose values passed 9: refusals 10 to 18, in that order.
-pub fn choose<'a>(table: &Table<'a>, client: ClientAddress, clauses: &Clauses<'a>) -> Result<Choice<'a>, Refusal> {
-    let version = version_asked(clauses)?;
+/// Chooses the answer to a filter whose values passed 9 and 10: refusals 11 to 18, in that order.
+pub fn choose<'a>(
+    table: &Table<'a>,
+    client: ClientAddress,
+    clauses: &Clauses<'a>,
+    version: u32,
+) -> Result<Choice<'a>, Refusal> {
     let by_guid = context_by_guid(table, clauses.domain_guid)?;
     let by_dns_name = context_by_dns_name(table, clauses.dns_domain)?;
     let context = by_guid.or(by_dns_name).unwrap_or(default_context(table));
@@ -115,15 +110,9 @@ pub fn choose<'a>(table: &Table<'a>, client: ClientAddress, clauses: &Clauses<'a
             Form::Nt40 | Form::Response => response_flags(table.server.roles),
         },
         client_site,
-        with_address: asks_for_address(version),
+        with_address: version & VERSION_5EX_WITH_ADDRESS != 0,
         next_closest_site: next_closest_site(table, version, client_site),
     })
-}
-
-/// The version bits v of the ping: refusal 10.
-fn version_asked(clauses: &Clauses) -> Result<u32, Refusal> {
-    let octets = clauses.nt_ver.ok_or(Refusal::NoVersion)?;
-    u32_whole(octets).ok_or(Refusal::ClauseValue)
 }
 
 /// The contexts among which a ping's clauses are looked up.
@@ -252,17 +241,7 @@ fn ex_flags(table: &Table, client_site: Option<Site>, names_application: bool) -
 
 /// The site that name 8 gives, none where the reply has no name 8.
 fn next_closest_site<'a>(table: &Table<'a>, version: u32, client_site: Option<Site>) -> Option<Site<'a>> {
-    let asked = asks_for_closest_site(version) && table.server.roles & ROLE_LEVEL_2008 != 0;
+    let asked = version & VERSION_WITH_CLOSEST_SITE != 0 && table.server.roles & ROLE_LEVEL_2008 != 0;
     let number = client_site?.next_closest.filter(|_| asked)?;
     table.site(number).copied()
-}
-
-/// Whether an EX reply to this v carries the server's address.
-pub fn asks_for_address(version: u32) -> bool {
-    version & VERSION_5EX_WITH_ADDRESS != 0
-}
-
-/// Whether an EX reply to this v may carry name 8.
-pub fn asks_for_closest_site(version: u32) -> bool {
-    version & VERSION_WITH_CLOSEST_SITE != 0
 }

@@ -1,7 +1,7 @@
 //! The filter: its reader and its writer (document 01, "The filter").
 
 use crate::answers::{require, Refusal};
-use crate::octets::{equal_folded, is_user_text, u16_big_endian_at};
+use crate::octets::{equal_folded, is_user_text, u16_big_endian_at, u32_whole};
 
 pub const LONGEST_FILTER: usize = 2048;
 const DEEPEST_AND: usize = 4;
@@ -112,16 +112,22 @@ pub fn take_apart(filter: &[u8]) -> Result<Clauses<'_>, Refusal> {
     let mut clauses = Clauses::default();
     for (name, value) in named {
         let earlier = clauses.slot(name).replace(value);
-        require(earlier.is_none(), Refusal::ClauseTwice)?;
+        require(earlier.is_none(), Refusal::DuplicateClause)?;
     }
     Ok(clauses)
 }
 
-/// Refusal 9: values that have a shape of their own, judged before their use.
-pub fn judge_values(clauses: &Clauses) -> Result<(), Refusal> {
+/// Judges the values of all clauses by 9, then by 10, and gives the version asked for.
+pub fn judge_values(clauses: &Clauses) -> Result<u32, Refusal> {
     let four_octets = |value: Option<&[u8]>| value.is_none_or(|octets| octets.len() == 4);
     let good = four_octets(clauses.nt_ver) && four_octets(clauses.aac) && clauses.user.is_none_or(is_user_text);
-    require(good, Refusal::ClauseValue)
+    require(good, Refusal::ClauseValue)?;
+    version_asked(clauses).ok_or(Refusal::NoVersion)
+}
+
+/// The version bits v of values that passed 9; none without NtVer.
+fn version_asked(clauses: &Clauses) -> Option<u32> {
+    clauses.nt_ver.and_then(u32_whole)
 }
 
 /// The equalities in filter order; none where the filter is not of the shape.
@@ -274,10 +280,10 @@ mod tests {
 
     #[test]
     fn refusals_are_judged_over_the_whole_filter() {
-        let strange = equality_octets(b"Strange", b"");
+        let unknown = equality_octets(b"Unknown", b"");
         let user = equality_octets(b"USER", b"a");
-        assert_eq!(number(&and(&[strange.clone(), vec![0x05, 0x00]].concat())), 6);
-        assert_eq!(number(&and(&[user.clone(), user.clone(), strange.clone()].concat())), 7);
+        assert_eq!(number(&and(&[unknown.clone(), vec![0x05, 0x00]].concat())), 6);
+        assert_eq!(number(&and(&[user.clone(), user.clone(), unknown.clone()].concat())), 7);
         assert_eq!(number(&and(&[user.clone(), and(&equality_octets(b"uSeR", b""))].concat())), 8);
         assert_eq!(number(&equality_octets(b"", b"")), 7);
         assert_eq!(number(&[0; 2049]), 5);
@@ -285,16 +291,36 @@ mod tests {
     }
 
     #[test]
-    fn values_are_judged_with_9() {
-        let judged = |clauses: Clauses| crate::answers::number_of(&judge_values(&clauses));
-        assert_eq!(judged(Clauses::default()), 0);
-        assert_eq!(judged(Clauses { nt_ver: Some(&[]), ..Clauses::default() }), 9);
-        assert_eq!(judged(Clauses { aac: Some(&[0; 5]), ..Clauses::default() }), 9);
-        assert_eq!(judged(Clauses { user: Some(&[]), ..Clauses::default() }), 0);
-        assert_eq!(judged(Clauses { user: Some(&[b'a'; 64]), ..Clauses::default() }), 9);
-        assert_eq!(judged(Clauses { user: Some(&[0]), ..Clauses::default() }), 9);
-        assert_eq!(judged(Clauses { user: Some(&[0x80]), ..Clauses::default() }), 9);
-        assert_eq!(judged(Clauses { host: Some(&[0x80]), ..Clauses::default() }), 0);
+    fn values_give_9_over_all_clauses_and_then_10() {
+        for nt_ver in [None, Some(&[6, 0, 0, 0][..])] {
+            let version = nt_ver.map(|_| 6).ok_or(Refusal::NoVersion);
+            let rest = Clauses { nt_ver, ..Clauses::default() };
+            let wrong = Err(Refusal::ClauseValue);
+            assert_eq!(judge_values(&rest), version);
+            for length in 0..9 {
+                let judged = judge_values(&Clauses { aac: Some(&[0; 9][..length]), ..rest });
+                assert_eq!(judged, if length == 4 { version } else { wrong });
+            }
+            for user in [&b""[..], b".", &[b'a'; 63], "\u{F8}".as_bytes()] {
+                assert_eq!(judge_values(&Clauses { user: Some(user), ..rest }), version);
+            }
+            for user in [&b"\0"[..], b"a\0b", &[b'a'; 64], &[0x80], &[0xC3]] {
+                assert_eq!(judge_values(&Clauses { user: Some(user), ..rest }), wrong);
+            }
+            let later = Clauses { host: Some(&[0x80]), dns_domain: Some(&[]), domain_guid: Some(&[]), ..rest };
+            assert_eq!(judge_values(&Clauses { domain_sid: Some(&[]), ..later }), version);
+        }
+    }
+
+    #[test]
+    fn the_version_is_four_octets_little_endian() {
+        let judged = |octets: &[u8]| judge_values(&Clauses { nt_ver: Some(octets), ..Clauses::default() });
+        for version in [0u32, 1, 6, 0x0102_0304, 0x0100_0006, 0xFFFF_FFFF] {
+            assert_eq!(judged(&version.to_le_bytes()), Ok(version));
+        }
+        for length in [0, 1, 2, 3, 5, 8] {
+            assert_eq!(judged(&vec![6; length]), Err(Refusal::ClauseValue));
+        }
     }
 
     #[test]

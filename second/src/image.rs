@@ -50,12 +50,17 @@ impl Default for ContextBlock<'_> {
         ContextBlock {
             number: 1,
             application: 0,
-            guid: std::array::from_fn(|place| place as u8 + 1),
+            guid: guid(1),
             sid: None,
             netbios_name: b"CORP",
             dns_name: b"corp.example",
         }
     }
+}
+
+/// A GUID whose octets count up from its first one.
+pub fn guid(first: u8) -> [u8; 16] {
+    std::array::from_fn(|place| first.wrapping_add(place as u8))
 }
 
 /// One record of a block of kind 4, 5 or 6.
@@ -106,6 +111,15 @@ fn put_text(octets: &mut [u8], at: usize, text: &[u8]) {
     put(octets, at + 1, text);
 }
 
+/// Makes the check of every whole block anew.
+pub fn put_checks(image: &mut [u8]) {
+    for block in image.chunks_exact_mut(BLOCK_LENGTH) {
+        let (a, b) = block_check(&block[..CHECKED_LENGTH]);
+        put(block, CHECKED_LENGTH, &a.to_le_bytes());
+        put(block, CHECKED_LENGTH + 2, &b.to_le_bytes());
+    }
+}
+
 impl Image {
     /// An image with a server and a forest block and nothing else.
     pub fn with_server(server: &ServerBlock, forest_name: &[u8]) -> Image {
@@ -125,6 +139,14 @@ impl Image {
         image
     }
 
+    /// The smallest table that is accepted: this server, and forest, context and site of the base table.
+    pub fn small(server: &ServerBlock) -> Image {
+        let mut image = Image::with_server(server, b"example");
+        image.push_context(&ContextBlock::default());
+        image.push_records(5, &[Record::site(1, b"HQ", 0)]);
+        image
+    }
+
     /// The base table of document 01, "Sample answers": server, forest, context, accounts, sites.
     pub fn base() -> Image {
         let mut image = Image::with_server(&ServerBlock::default(), b"example");
@@ -134,7 +156,7 @@ impl Image {
         image
     }
 
-    /// A block of any kind behind those there, its body filled with zeros to the end.
+    /// A block of any kind after those there, its body filled with zeros to the end.
     pub fn push(&mut self, kind: u8, body: &[u8]) {
         let mut block = [0; BLOCK_LENGTH];
         put(&mut block, 0, &[kind, 1]);
@@ -184,7 +206,7 @@ impl Image {
         }
     }
 
-    /// The image without one block, those behind it moved up to their new places.
+    /// The image without one block, those after it moved up to their new places.
     pub fn without_block(&self, left_out: usize) -> Image {
         let mut image = Image { blocks: Vec::new() };
         for (place, block) in self.blocks.iter().enumerate() {
@@ -197,14 +219,8 @@ impl Image {
 
     /// All blocks with their checks made.
     pub fn octets(&self) -> Vec<u8> {
-        let mut octets = Vec::new();
-        for block in &self.blocks {
-            let checked = &block[..CHECKED_LENGTH];
-            let (a, b) = block_check(checked);
-            octets.extend_from_slice(checked);
-            octets.extend(a.to_le_bytes());
-            octets.extend(b.to_le_bytes());
-        }
+        let mut octets = self.blocks.concat();
+        put_checks(&mut octets);
         octets
     }
 }

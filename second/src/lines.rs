@@ -4,7 +4,7 @@ use std::io::{BufRead, Write};
 
 use crate::answers::{number_of, Refusal, ANSWERED};
 use crate::choose::{ClientAddress, Form};
-use crate::filter::{take_apart, write_filter, ClauseName, Clauses};
+use crate::filter::{judge_values, take_apart, write_filter, ClauseName, Clauses};
 use crate::reader::{read_reply, Fields, Name, Reply};
 use crate::reply::{answer_ping, Answer};
 use crate::table::{block_check, read_table, CHECKED_LENGTH};
@@ -17,7 +17,7 @@ const MOST_DIGITS: usize = 10;
 /// What every octet of a lent buffer holds before the call.
 const UNWRITTEN: u8 = 0xA5;
 
-/// Answers lines one after the other; the latest image stands for the pings behind it.
+/// Answers lines one after the other; the latest image stands for the pings after it.
 #[derive(Default)]
 pub struct Answerer {
     image: Vec<u8>,
@@ -44,6 +44,7 @@ impl Answerer {
             ["table", octets] => self.answer_table(octets),
             ["ping", client, filter, room] => self.answer_ping(client, filter, room),
             ["filter", octets] => answer_filter(octets),
+            ["values", octets] => answer_values(octets),
             ["write", room, clauses @ ..] => answer_write(room, clauses),
             ["read", form, version, octets] => answer_read(form, version, octets),
             ["walk", offset, octets] => answer_walk(offset, octets),
@@ -88,6 +89,12 @@ fn answer_filter(octets: &str) -> Option<String> {
         line.push_str(&word_of_clause(clauses.get(name)));
     }
     Some(line)
+}
+
+fn answer_values(octets: &str) -> Option<String> {
+    let filter = octets_of_word(octets)?;
+    let result = take_apart(&filter).and_then(|clauses| judge_values(&clauses));
+    Some(format!("values {} {}", number_of(&result), word_of_bits(result.unwrap_or(0))))
 }
 
 fn answer_write(room: &str, words: &[&str]) -> Option<String> {
@@ -206,7 +213,7 @@ fn digit_of(character: u8) -> Option<u8> {
 }
 
 /// Pairs of small hex digits, possibly no pair at all.
-fn octets_of_hex(digits: &str) -> Option<Vec<u8>> {
+pub fn octets_of_hex(digits: &str) -> Option<Vec<u8>> {
     let (pairs, odd) = digits.as_bytes().as_chunks::<2>();
     if !odd.is_empty() {
         return None;
@@ -363,5 +370,24 @@ mod tests {
         assert_eq!(answers(b"walk 9999999999 -"), "walk none\n");
         assert_eq!(answers(b"read nt40 00000000 1300"), "read 31 0\n");
         assert_eq!(answers(b"read nt40 00000000 1300410000000000000001000000ffffffff"), "read 0 18 19 =4100 = = 1\n");
+    }
+
+    #[test]
+    fn values_give_a_number_and_a_version() {
+        let answer = |filter: &str| answers(format!("values {filter}").as_bytes());
+        assert_eq!(answer("a00fa30d04054e74566572040406000001"), "values 0 01000006\n");
+        assert_eq!(answer("a30d04054e747665720404ffffffff"), "values 0 ffffffff\n");
+        assert_eq!(answer("a30d04054e74566572040400000000"), "values 0 00000000\n");
+        assert_eq!(answer(&"00".repeat(2049)), "values 5 00000000\n");
+        assert_eq!(answer("a00fa30d04054e745665720404060000"), "values 6 00000000\n");
+        assert_eq!(answer("-"), "values 6 00000000\n");
+        assert_eq!(answer("a30404000400"), "values 7 00000000\n");
+        assert_eq!(answer("a016a30904054e745665720400a30904054e747665720400"), "values 8 00000000\n");
+        assert_eq!(answer("a30904054e745665720400"), "values 9 00000000\n");
+        assert_eq!(answer("a309040455736572040100"), "values 9 00000000\n");
+        assert_eq!(answer("a3080404557365720400"), "values 10 00000000\n");
+        for other in ["", ".", "=", "a3 ", "A3", "- -"] {
+            assert_eq!(answer(other), "?\n");
+        }
     }
 }

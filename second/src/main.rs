@@ -1,4 +1,5 @@
-//! The second program: it answers the vector lines on standard input, or writes the stored vectors anew.
+//! The second program: it answers the vector lines on standard input, writes the stored vectors anew, or
+//! writes request lines in bulk.
 
 #![forbid(unsafe_code)]
 
@@ -28,7 +29,9 @@ fn main() -> ExitCode {
         [] => lines::answer_all(&mut stdin().lock(), &mut BufWriter::new(stdout().lock())),
         ["generate", folder] => generate_vectors(Some(Path::new(folder))),
         ["counts"] => generate_vectors(None),
-        _ => Err(io::Error::other("takes no words, or: generate FOLDER, or: counts")),
+        ["bulk", count] => write_bulk(count, None),
+        ["bulk", count, "--seed", seed] => write_bulk(count, Some(seed)),
+        _ => Err(io::Error::other("takes no words, or: generate FOLDER, or: counts, or: bulk N [--seed S]")),
     };
     match done {
         Ok(()) => ExitCode::SUCCESS,
@@ -53,4 +56,11 @@ fn generate_vectors(folder: Option<&Path>) -> io::Result<()> {
     } else {
         Err(io::Error::other(format!("no line gives: {}", missing.join(", "))))
     }
+}
+
+/// Writes so many request lines to standard output, from the seed given or from that of the stored vectors.
+fn write_bulk(count: &str, seed: Option<&str>) -> io::Result<()> {
+    let count = count.parse().map_err(io::Error::other)?;
+    let seed = seed.map_or(Ok(generate::SEED), str::parse).map_err(io::Error::other)?;
+    generate::bulk::write_lines(count, seed, &mut BufWriter::new(stdout().lock()))
 }

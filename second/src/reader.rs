@@ -1,10 +1,43 @@
 //! The reader of replies (document 01, "Reading a reply"). It goes from the first octet to the last and refuses at
-//! the first one that fits no rule.
+//! the first one that fits no rule. It shares no constant with the writer, so that a mistake in either shows.
 
-use crate::choose::{asks_for_address, asks_for_closest_site, Form};
+use std::ops::RangeInclusive;
+
+use crate::choose::Form;
 use crate::octets::{u16_at, u16_big_endian_at, u32_at};
-use crate::reply::{ADDRESS_FAMILY, ADDRESS_PADDING, ADDRESS_SIZE, NULL_GUID, TOKEN, VERSION_WITH_NAME_8};
 
+const OPCODES: RangeInclusive<u16> = 19..=21;
+const OPCODES_EX: RangeInclusive<u16> = 23..=25;
+
+const VERSION_NT40: u32 = 1;
+const VERSION_RESPONSE: u32 = 3;
+const VERSION_EX: u32 = 5;
+const VERSION_EX_NAME_8: u32 = 0x15;
+/// The version and the two tokens after it, counted from a reply's end.
+const END_LENGTH: usize = 8;
+const TOKEN: &[u8] = &[0xFF, 0xFF];
+
+/// Bits of v: an EX reply to it has the server's address, and may have name 8.
+const ASKS_ADDRESS: u32 = 0x8;
+const ASKS_NAME_8: u32 = 0x10;
+
+const GUID_LENGTH: usize = 16;
+const NULL_GUID: &[u8] = &[0; GUID_LENGTH];
+/// EX's second number.
+const SECOND_NUMBER: &[u8] = &[0, 0];
+const ADDRESS_SIZE: &[u8] = &[0x10];
+const ADDRESS_FAMILY: &[u8] = &[0x02, 0, 0, 0];
+const ADDRESS_LENGTH: usize = 4;
+const ADDRESS_END: &[u8] = &[0; 8];
+
+const HIGH_SURROGATES: RangeInclusive<u16> = 0xD800..=0xDBFF;
+const LOW_SURROGATES: RangeInclusive<u16> = 0xDC00..=0xDFFF;
+
+const TOP_BITS: u8 = 0b1100_0000;
+const TOP_OF_LABEL: u8 = 0b0000_0000;
+const TOP_OF_POINTER: u8 = 0b1100_0000;
+const AIM_BITS: u16 = 0x3FFF;
+/// Of a name written out, its final zero counted.
 const LONGEST_NAME: usize = 255;
 const MOST_POINTERS: usize = 16;
 
@@ -68,8 +101,8 @@ pub fn read_reply(form: Form, version_asked: u32, octets: &[u8]) -> Result<Reply
         Form::Ex => reader.ex_fields(version_asked)?,
     };
     let version = reader.version(&fields, version_asked)?;
-    reader.fixed(&TOKEN)?;
-    reader.fixed(&TOKEN)?;
+    reader.fixed(TOKEN)?;
+    reader.fixed(TOKEN)?;
     if reader.at == octets.len() {
         Ok(Reply { opcode, fields, version })
     } else {
@@ -116,7 +149,11 @@ impl<'a> Reader<'a> {
 
     fn opcode(&mut self, form: Form) -> Result<u16, ReadRefusal> {
         let opcode = self.number_u16()?;
-        if form.opcodes().contains(&opcode) {
+        let opcodes = match form {
+            Form::Nt40 | Form::Response => OPCODES,
+            Form::Ex => OPCODES_EX,
+        };
+        if opcodes.contains(&opcode) {
             Ok(opcode)
         } else {
             Err(ReadRefusal::Opcode)
@@ -129,16 +166,16 @@ impl<'a> Reader<'a> {
 
     fn response_fields(&mut self) -> Result<Fields<'a>, ReadRefusal> {
         let texts = self.three_texts()?;
-        let guid = self.take(16)?;
-        self.fixed(&NULL_GUID)?;
+        let guid = self.take(GUID_LENGTH)?;
+        self.fixed(NULL_GUID)?;
         let names = [self.name()?, self.name()?, self.name()?];
-        Ok(Fields::Response { texts, guid, names, address: self.take(4)?, flags: self.number_u32()? })
+        Ok(Fields::Response { texts, guid, names, address: self.take(ADDRESS_LENGTH)?, flags: self.number_u32()? })
     }
 
     fn ex_fields(&mut self, version_asked: u32) -> Result<Fields<'a>, ReadRefusal> {
-        self.fixed(&[0, 0])?;
+        self.fixed(SECOND_NUMBER)?;
         let flags = self.number_u32()?;
-        let guid = self.take(16)?;
+        let guid = self.take(GUID_LENGTH)?;
         let names = [
             self.name()?,
             self.name()?,
@@ -149,31 +186,31 @@ impl<'a> Reader<'a> {
             self.name()?,
             self.name()?,
         ];
-        let address = if asks_for_address(version_asked) { Some(self.server_address()?) } else { None };
+        let address = if version_asked & ASKS_ADDRESS != 0 { Some(self.server_address()?) } else { None };
         let name_8 = if self.has_name_8() { Some(self.name()?) } else { None };
         Ok(Fields::Ex { flags, guid, names, address, name_8 })
     }
 
     fn server_address(&mut self) -> Result<&'a [u8], ReadRefusal> {
-        self.fixed(&ADDRESS_SIZE)?;
-        self.fixed(&ADDRESS_FAMILY)?;
-        let address = self.take(4)?;
-        self.fixed(&ADDRESS_PADDING)?;
+        self.fixed(ADDRESS_SIZE)?;
+        self.fixed(ADDRESS_FAMILY)?;
+        let address = self.take(ADDRESS_LENGTH)?;
+        self.fixed(ADDRESS_END)?;
         Ok(address)
     }
 
     /// Name 8 shows itself by the version eight octets from the end alone.
     fn has_name_8(&self) -> bool {
-        let version_at = self.octets.len().checked_sub(8);
-        version_at.and_then(|at| u32_at(self.octets, at)) == Some(VERSION_WITH_NAME_8)
+        let version_at = self.octets.len().checked_sub(END_LENGTH);
+        version_at.and_then(|at| u32_at(self.octets, at)) == Some(VERSION_EX_NAME_8)
     }
 
     fn version(&mut self, fields: &Fields, version_asked: u32) -> Result<u32, ReadRefusal> {
         let (expected, may_stand) = match fields {
-            Fields::Nt40 { .. } => (Form::Nt40.version(), true),
-            Fields::Response { .. } => (Form::Response.version(), true),
-            Fields::Ex { name_8: None, .. } => (Form::Ex.version(), true),
-            Fields::Ex { name_8: Some(_), .. } => (VERSION_WITH_NAME_8, asks_for_closest_site(version_asked)),
+            Fields::Nt40 { .. } => (VERSION_NT40, true),
+            Fields::Response { .. } => (VERSION_RESPONSE, true),
+            Fields::Ex { name_8: None, .. } => (VERSION_EX, true),
+            Fields::Ex { name_8: Some(_), .. } => (VERSION_EX_NAME_8, version_asked & ASKS_NAME_8 != 0),
         };
         let version = self.number_u32()?;
         if version == expected && may_stand {
@@ -189,23 +226,22 @@ impl<'a> Reader<'a> {
         let mut after_high = false;
         loop {
             let unit = self.number_u16()?;
-            let is_low = (0xDC00..=0xDFFF).contains(&unit);
-            if is_low != after_high {
+            if LOW_SURROGATES.contains(&unit) != after_high {
                 return Err(ReadRefusal::BrokenText);
             }
             if unit == 0 {
                 return Ok(self.octets.get(start..self.at - 2).unwrap_or_default());
             }
-            after_high = (0xD800..=0xDBFF).contains(&unit);
+            after_high = HIGH_SURROGATES.contains(&unit);
         }
     }
 
-    /// A name. Its field ends behind the first zero octet or pointer; any fault behind a pointer is 33.
+    /// A name. Its field ends with the first zero octet or pointer; any fault after a pointer is 33.
     fn name(&mut self) -> Result<Name<'a>, ReadRefusal> {
         let mut name = Name::default();
-        let mut place = self.at;
+        let mut offset = self.at;
         let mut run_start = self.at;
-        let mut behind_pointer = None;
+        let mut field_end = None;
         loop {
             let fault_here = |fault| {
                 if name.pointers == 0 {
@@ -214,20 +250,20 @@ impl<'a> Reader<'a> {
                     ReadRefusal::BrokenText
                 }
             };
-            match step_at(self.octets, place, run_start, &name).map_err(fault_here)? {
+            match step_at(self.octets, offset, run_start, &name).map_err(fault_here)? {
                 Step::End => {
-                    self.at = behind_pointer.unwrap_or(place + 1);
+                    self.at = field_end.unwrap_or(offset + 1);
                     return Ok(name);
                 }
                 Step::Label(label) => {
-                    place += 1 + label.len();
+                    offset += 1 + label.len();
                     name.labels.push(label);
                 }
                 Step::Pointer(aim) => {
-                    behind_pointer = behind_pointer.or(Some(place + 2));
+                    field_end = field_end.or(Some(offset + 2));
                     name.pointers += 1;
                     run_start = aim;
-                    place = aim;
+                    offset = aim;
                 }
             }
         }
@@ -235,29 +271,29 @@ impl<'a> Reader<'a> {
 }
 
 /// One step along a name, by the top two bits of the octet there.
-fn step_at<'a>(octets: &'a [u8], place: usize, run_start: usize, name: &Name) -> Result<Step<'a>, ReadRefusal> {
-    let first = *octets.get(place).ok_or(ReadRefusal::CutShort)?;
-    match first & 0xC0 {
-        0x00 if first == 0 => Ok(Step::End),
-        0x00 => label_behind(octets, place, usize::from(first), name),
-        0xC0 => pointer_at(octets, place, run_start, name),
+fn step_at<'a>(octets: &'a [u8], offset: usize, run_start: usize, name: &Name) -> Result<Step<'a>, ReadRefusal> {
+    let first = *octets.get(offset).ok_or(ReadRefusal::CutShort)?;
+    match first & TOP_BITS {
+        TOP_OF_LABEL if first == 0 => Ok(Step::End),
+        TOP_OF_LABEL => label_at(octets, offset, usize::from(first), name),
+        TOP_OF_POINTER => pointer_at(octets, offset, run_start, name),
         _ => Err(ReadRefusal::BrokenText),
     }
 }
 
 /// A label. Too long a name is judged at the length octet, so before the label is known to be all there.
-fn label_behind<'a>(octets: &'a [u8], place: usize, length: usize, name: &Name) -> Result<Step<'a>, ReadRefusal> {
+fn label_at<'a>(octets: &'a [u8], offset: usize, length: usize, name: &Name) -> Result<Step<'a>, ReadRefusal> {
     let written_out: usize = name.labels.iter().map(|label| 1 + label.len()).sum();
     if written_out + 1 + length + 1 > LONGEST_NAME {
         return Err(ReadRefusal::BrokenText);
     }
-    let label = octets.get(place + 1..place + 1 + length);
+    let label = octets.get(offset + 1..offset + 1 + length);
     label.map(Step::Label).ok_or(ReadRefusal::CutShort)
 }
 
-fn pointer_at<'a>(octets: &[u8], place: usize, run_start: usize, name: &Name) -> Result<Step<'a>, ReadRefusal> {
-    let pointer = u16_big_endian_at(octets, place).ok_or(ReadRefusal::CutShort)?;
-    let aim = usize::from(pointer & 0x3FFF);
+fn pointer_at<'a>(octets: &[u8], offset: usize, run_start: usize, name: &Name) -> Result<Step<'a>, ReadRefusal> {
+    let pointer = u16_big_endian_at(octets, offset).ok_or(ReadRefusal::CutShort)?;
+    let aim = usize::from(pointer & AIM_BITS);
     if aim < run_start && name.pointers < MOST_POINTERS {
         Ok(Step::Pointer(aim))
     } else {

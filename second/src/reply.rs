@@ -6,14 +6,17 @@ use crate::filter::{judge_values, take_apart};
 use crate::octets::utf16_octets;
 use crate::table::{read_table, ContextNumber, Table};
 
-/// The version of an EX reply that has name 8.
-pub const VERSION_WITH_NAME_8: u32 = 0x15;
-/// Size octet, address family and port in front of the server's address, and the zeros behind it.
-pub const ADDRESS_SIZE: [u8; 1] = [0x10];
-pub const ADDRESS_FAMILY: [u8; 4] = [0x02, 0x00, 0x00, 0x00];
-pub const ADDRESS_PADDING: [u8; 8] = [0; 8];
-pub const NULL_GUID: [u8; 16] = [0; 16];
-pub const TOKEN: [u8; 2] = [0xFF, 0xFF];
+/// The versions that end a reply, by its form.
+const VERSION_OF_NT40: u32 = 1;
+const VERSION_OF_RESPONSE: u32 = 3;
+const VERSION_OF_EX: u32 = 5;
+const VERSION_WITH_NAME_8: u32 = 0x15;
+/// Size octet, address family and port before the server's address, and the zeros after it.
+const ADDRESS_SIZE: [u8; 1] = [0x10];
+const ADDRESS_FAMILY: [u8; 4] = [0x02, 0x00, 0x00, 0x00];
+const ADDRESS_PADDING: [u8; 8] = [0; 8];
+const NULL_GUID: [u8; 16] = [0; 16];
+const TOKEN: [u8; 2] = [0xFF, 0xFF];
 
 /// What the answering call returns where it answered.
 #[derive(Debug, PartialEq, Eq)]
@@ -27,8 +30,8 @@ pub struct Answer {
 pub fn answer_ping(image: &[u8], client: ClientAddress, filter: &[u8], buffer: &mut [u8]) -> Result<Answer, Refusal> {
     let table = read_table(image)?;
     let clauses = take_apart(filter)?;
-    judge_values(&clauses)?;
-    let choice = choose(&table, client, &clauses)?;
+    let version = judge_values(&clauses)?;
+    let choice = choose(&table, client, &clauses, version)?;
     let reply = reply_octets(&table, &choice);
     // The length is known before the first octet goes into the buffer, so that 19 writes nothing.
     let place = buffer.get_mut(..reply.len()).ok_or(Refusal::BufferTooShort)?;
@@ -54,7 +57,7 @@ fn write_nt40(writer: &mut Writer, table: &Table, choice: &Choice) -> u32 {
     writer.text16(Some(table.server.netbios_name));
     writer.text16(choice.user);
     writer.text16(Some(choice.context.netbios_name));
-    Form::Nt40.version()
+    VERSION_OF_NT40
 }
 
 fn write_response<'a>(writer: &mut Writer<'a>, table: &Table<'a>, choice: &Choice<'a>) -> u32 {
@@ -68,7 +71,7 @@ fn write_response<'a>(writer: &mut Writer<'a>, table: &Table<'a>, choice: &Choic
     writer.name(Some(table.server.host_name));
     writer.octets(table.server.address);
     writer.octets(&choice.flags.to_le_bytes());
-    Form::Response.version()
+    VERSION_OF_RESPONSE
 }
 
 fn write_ex<'a>(writer: &mut Writer<'a>, table: &Table<'a>, choice: &Choice<'a>) -> u32 {
@@ -99,7 +102,7 @@ fn write_ex<'a>(writer: &mut Writer<'a>, table: &Table<'a>, choice: &Choice<'a>)
             writer.name(Some(site.name));
             VERSION_WITH_NAME_8
         }
-        None => Form::Ex.version(),
+        None => VERSION_OF_EX,
     }
 }
 

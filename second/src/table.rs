@@ -6,7 +6,7 @@ use crate::octets::{
 };
 
 pub const BLOCK_LENGTH: usize = 512;
-/// What the check is taken over; the check itself stands behind it.
+/// What the check is taken over; the check itself stands after it.
 pub const CHECKED_LENGTH: usize = 508;
 const FEWEST_OCTETS: usize = 1_024;
 const MOST_OCTETS: usize = 65_536;
@@ -144,7 +144,7 @@ fn read_layout(image: &[u8]) -> Option<Records<'_>> {
     Some(records)
 }
 
-/// A block behind the first two. Kinds 1 and 2 have no place here.
+/// A block after the first two. Kinds 1 and 2 have no place here.
 fn read_later_block<'a>(block: &'a [u8], place: usize, records: &mut Records<'a>) -> Option<()> {
     let kind = *block.first()?;
     let body = body_of_kind(block, place, kind)?;
@@ -355,7 +355,7 @@ pub fn same_account_name(held: &[u8], other: &[u8]) -> bool {
 mod tests {
     use super::*;
     use crate::answers::number_of;
-    use crate::image::{Image, Record};
+    use crate::image::{guid, ContextBlock, Image, Record};
 
     fn number(image: &Image) -> u8 {
         number_of(&read_table(&image.octets()))
@@ -482,14 +482,14 @@ mod tests {
         assert_eq!(changed(3, 0, 2), 4);
         assert_eq!(changed(4, 66, 1), 4);
         assert_eq!(changed(4, 66, 2), 4);
-        let with_context = |number_now: u16, guid: u8, name: &[u8]| {
+        let with_context = |number_now: u16, first: u8, name: &[u8]| {
             let mut image = Image::base();
-            image.push_context(&crate::image::ContextBlock {
+            image.push_context(&ContextBlock {
                 number: number_now,
-                guid: std::array::from_fn(|place| guid + place as u8),
+                guid: guid(first),
                 netbios_name: b"CORP",
                 dns_name: name,
-                ..Default::default()
+                ..ContextBlock::default()
             });
             number(&image)
         };

@@ -6,7 +6,7 @@ use crate::choose::{ClientAddress, Form};
 use crate::filter::{take_apart, write_filter, Clauses};
 use crate::generate::chance::Chance;
 use crate::generate::sample::{sample, Size};
-use crate::image::{ContextBlock, Image, Record, ServerBlock};
+use crate::image::{guid, ContextBlock, Image, Record, ServerBlock};
 use crate::octets::u32_whole;
 use crate::reader::{read_reply, Fields, Name, ReadRefusal};
 use crate::reply::answer_ping;
@@ -151,7 +151,6 @@ fn p12_check_of_zeros() {
 /// The base table with a second context that has a SID and a third one, an application context.
 fn three_contexts() -> Image {
     let mut image = Image::base();
-    let guid = |first: u8| std::array::from_fn(|place| first + place as u8);
     image.push_context(&ContextBlock {
         number: 2,
         guid: guid(0x20),
@@ -204,7 +203,7 @@ fn refusals_11_to_17_in_order() {
         let clauses = Clauses { domain_guid: guid, dns_domain: name, domain_sid: sid, ..version(VERSION_6) };
         number(&image, &clauses)
     };
-    let lab_guid: [u8; 16] = std::array::from_fn(|place| 0x20 + place as u8);
+    let lab_guid = guid(0x20);
     let sid: &[u8] = &[1, 0, 0, 0, 0, 0, 0, 5];
     assert_eq!(with(Some(&lab_guid[..15]), Some(b""), Some(b"")), 11);
     assert_eq!(with(Some(&[9; 16]), Some(b""), Some(b"")), 12);
@@ -229,13 +228,11 @@ fn flags(image: &Image, client: [u8; 4], clauses: &Clauses) -> u32 {
 #[test]
 fn the_application_flag_is_of_the_dns_clause() {
     let image = three_contexts();
-    let app_guid: [u8; 16] = std::array::from_fn(|place| 0x40 + place as u8);
-    let base_guid: [u8; 16] = std::array::from_fn(|place| 1 + place as u8);
-    let by_guid = Clauses { domain_guid: Some(&app_guid), ..version(VERSION_6) };
+    let by_guid = Clauses { domain_guid: Some(&guid(0x40)), ..version(VERSION_6) };
     assert_eq!(flags(&image, [0; 4], &by_guid), 0x198);
     let by_name = Clauses { dns_domain: Some(b"APP.example"), ..version(VERSION_6) };
     assert_eq!(flags(&image, [0; 4], &by_name), 0x598);
-    let by_both = Clauses { domain_guid: Some(&base_guid), ..by_name };
+    let by_both = Clauses { domain_guid: Some(&guid(1)), ..by_name };
     assert_eq!(flags(&image, [0; 4], &by_both), 0x598);
 }
 
@@ -244,9 +241,7 @@ fn each_role_sets_its_flag() {
     let expected = [0x199, 0x19C, 0x1B8, 0x1D8, 0x898, 0x398, 0x2198, 0x4198, 0x8198, 0x198, 0x1198, 0x198];
     for (bit, mut flags_now) in expected.into_iter().enumerate() {
         let server = ServerBlock { roles: 1 << bit, ..ServerBlock::default() };
-        let mut image = Image::with_server(&server, b"example");
-        image.push_context(&ContextBlock::default());
-        image.push_records(5, &[Record::site(1, b"HQ", 0)]);
+        let image = Image::small(&server);
         if bit == 4 {
             flags_now |= 0x80;
         }
@@ -311,9 +306,7 @@ fn name_8_needs_all_four_conditions() {
 fn each_cause_of_a_pause() {
     let paused = |roles: u32, state: u32, asked: u32| {
         let server = ServerBlock { roles, state, ..ServerBlock::default() };
-        let mut image = Image::with_server(&server, b"example");
-        image.push_context(&ContextBlock::default());
-        image.push_records(5, &[Record::site(1, b"HQ", 0)]);
+        let image = Image::small(&server);
         opcode(&image, &version(&asked.to_le_bytes())) == 24
     };
     assert!(!paused(0, 6, 4) && paused(0, 7, 4) && paused(1, 7, 4));
@@ -341,8 +334,8 @@ fn names_of<'a>(fields: &Fields<'a>) -> Vec<Name<'a>> {
     }
 }
 
-/// The offset behind a name's field: the first zero octet or pointer from its start.
-fn behind_name(reply: &[u8], start: usize) -> usize {
+/// The offset after a name's field: it ends with the first zero octet or pointer from its start.
+fn after_name(reply: &[u8], start: usize) -> usize {
     let mut at = start;
     loop {
         match reply[at] {
@@ -353,8 +346,8 @@ fn behind_name(reply: &[u8], start: usize) -> usize {
     }
 }
 
-/// The offset behind three texts of UTF-16 units, each up to its zero unit.
-fn behind_texts(reply: &[u8]) -> usize {
+/// The offset after three texts of UTF-16 units, each up to its zero unit.
+fn after_texts(reply: &[u8]) -> usize {
     let mut at = 2;
     for _ in 0..3 {
         while reply[at..at + 2] != [0, 0] {
@@ -367,14 +360,14 @@ fn behind_texts(reply: &[u8]) -> usize {
 
 /// The first offsets of a reply's names, found by the layout alone.
 fn name_offsets(form: Form, version_asked: u32, reply: &[u8], count: usize) -> Vec<usize> {
-    let mut at = if form == Form::Ex { 24 } else { behind_texts(reply) + 32 };
+    let mut at = if form == Form::Ex { 24 } else { after_texts(reply) + 32 };
     let mut offsets = Vec::new();
     for place in 0..count {
         if place == 8 && version_asked & 8 != 0 {
             at += 17;
         }
         offsets.push(at);
-        at = behind_name(reply, at);
+        at = after_name(reply, at);
     }
     offsets
 }
@@ -441,7 +434,7 @@ fn truncation_gives_31_and_34_where_name_8_is_lost() {
         let has_name_8 = low == 0x1C;
         let name_8_at = if has_name_8 { name_offsets(form, u32::from(low), &reply, 9)[8] } else { reply.len() };
         for length in 0..reply.len() {
-            // A reply cut behind its first four octets of name 8 shows no name 8, so they are read as a version.
+            // A reply cut after the first four octets of its name 8 shows no name 8, so they are read as a version.
             let expected = if length >= name_8_at + 4 { ReadRefusal::FixedField } else { ReadRefusal::CutShort };
             assert_eq!(read_reply(form, u32::from(low), &reply[..length]), Err(expected), "{form:?} {length}");
         }
@@ -478,6 +471,18 @@ fn names_that_are_read_and_names_that_are_not() {
 }
 
 #[test]
+fn a_pointer_aims_with_14_bits() {
+    let long = [&[63][..], &[b'x'; 63]].concat().repeat(3);
+    let more = [&long[..], &[0], &long, &[0]].concat();
+    let at = (24 + more.len()) as u16;
+    let pointer = (0xC000 | at).to_be_bytes();
+    let reply = [&P1[..24], &more, b"\x01a\x00", &pointer, &[0; 4], &P1[64..]].concat();
+    let read = read_reply(Form::Ex, 6, &reply).unwrap();
+    let name = names_of(&read.fields).remove(3);
+    assert!(at > 0xFF && name == Name { labels: vec![b"a"], pointers: 1 });
+}
+
+#[test]
 fn sixteen_pointers_and_no_more() {
     for (pointers, expected) in [(1, 0), (8, 0), (16, 0), (17, 33)] {
         assert_eq!(read_number(Form::Response, 2, &chain_in_texts(pointers)), expected, "{pointers}");
@@ -502,10 +507,10 @@ fn chain_in_texts(pointers: u8) -> Vec<u8> {
 }
 
 #[test]
-fn faults_behind_a_pointer_are_33() {
-    let cut_behind = [&P1[..24], &[0xC0, 0x10]].concat();
+fn faults_after_a_pointer_are_33() {
+    let cut_after = [&P1[..24], &[0xC0, 0x10]].concat();
     // Offset 10h holds 9: a label that runs off the end.
-    assert_eq!(read_number(Form::Ex, 6, &cut_behind), 33);
+    assert_eq!(read_number(Form::Ex, 6, &cut_after), 33);
     assert_eq!(read_number(Form::Ex, 6, &[&P1[..24], &[9]].concat()), 31);
 }
 
@@ -525,6 +530,19 @@ fn surrogates() {
     assert_eq!(text(&[0xD7FF, 0xE000, 0xFFFF, 0]), 0);
     assert_eq!(read_number(Form::Nt40, 0, &[19, 0, 0, 0xD8]), 31);
     assert_eq!(read_number(Form::Nt40, 0, &[19, 0, 0, 0xD8, 0]), 31);
+}
+
+#[test]
+fn each_form_reads_its_three_opcodes_alone() {
+    let forms = [(0, Form::Nt40, 19..=21), (2, Form::Response, 19..=21), (6, Form::Ex, 23..=25)];
+    for (low, form, opcodes) in forms {
+        let (mut reply, _) = ping(&Image::base(), &version(&[low, 0, 0, 0])).unwrap();
+        for opcode in 0..=0x01FF_u16 {
+            reply[..2].copy_from_slice(&opcode.to_le_bytes());
+            let expected = if opcodes.contains(&opcode) { 0 } else { 32 };
+            assert_eq!(read_number(form, u32::from(low), &reply), expected, "{form:?} {opcode}");
+        }
+    }
 }
 
 #[test]
@@ -561,7 +579,7 @@ fn version_15h_without_the_bit_is_34() {
     let at = without_name.len() - 8;
     without_name[at] = 0x15;
     assert_eq!(read_number(Form::Ex, 0x14, &without_name), 31);
-    // Name 8 takes in five octets behind its 5 and ends at the version's third; what follows is no version.
+    // Name 8 takes in five octets after its 5 and ends at the version's third; what follows is no version.
     let taken_in = [&without_name[..at], &[5, 0, 0, 0], &without_name[at..]].concat();
     assert_eq!(read_number(Form::Ex, 0x14, &taken_in), 34);
     let shifted = [&without_name[..at], &[0, 5, 0, 0, 0, 0, 0, 0, 0], &without_name[at..]].concat();

@@ -1,5 +1,5 @@
 //! The walk along one name of a reply (document 01, "Reading a reply"). It knows only octets and an offset, and
-//! shares nothing with the reader, so that each can be held against the other.
+//! shares no rule with the reader, so that each can be held against the other.
 
 use crate::octets::u16_big_endian_at;
 

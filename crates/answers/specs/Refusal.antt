@@ -2,7 +2,7 @@
 use Prim.Native.Nat.{ℕ}
 use Rattle.answers.specs.declared.Refusal.{Refusal}
 use Rattle.answers.specs.declared.Refusal.the-variants.{ImageLength, BlockCheck, BlockLayout, TableWhole}
-use Rattle.answers.specs.declared.Refusal.the-variants.{FilterLength, FilterShape, ClauseName, ClauseTwice, ClauseValue, NoVersion}
+use Rattle.answers.specs.declared.Refusal.the-variants.{FilterLength, FilterShape, UnknownClause, DuplicateClause, ClauseValue, NoVersion}
 use Rattle.answers.specs.declared.Refusal.the-variants.{GuidLength, GuidNotHeld, DnsNameEmpty, DnsNameNotHeld}
 use Rattle.answers.specs.declared.Refusal.the-variants.{SidShape, SidNotHeld, SidOfAnother, UserLabelEmpty, NoRoom}
 use Rattle.answers.specs.declared.Refusal.the-variants.{ReplyCut, ReplyOpcode, ReplyText, ReplyFixed, ReplyLeftOver}
@@ -14,8 +14,8 @@ number BlockLayout = 3
 number TableWhole = 4
 number FilterLength = 5
 number FilterShape = 6
-number ClauseName = 7
-number ClauseTwice = 8
+number UnknownClause = 7
+number DuplicateClause = 8
 number ClauseValue = 9
 number NoVersion = 10
 number GuidLength = 11

@@ -1,7 +1,6 @@
 -- A refusal, or what was asked for: how judgements stand one after the other.
 use mathlib.Core.Bool.{Bool, true, false}
 use Rattle.answers.specs.declared.Refusal.{Refusal}
-pub mod Properties
 
 pub data Try (A : Type 0) : Type 0 where
   refused : Refusal → Try A

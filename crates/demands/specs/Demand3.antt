@@ -1,5 +1,5 @@
--- Demand 3: for every table image, client address, filter and room that get an answer, each name of the reply, walked from its first octet,
--- is read back as exactly its labels, with few pointers; and the reader accepts the reply and counts as the walk does.
+-- Demand 3: of every answer, each name of the reply, walked from its first octet, is read back as exactly its labels, with few pointers;
+-- and the reader accepts the reply and counts as the walk does.
 use mathlib.Core.Path.{_≡_}
 use mathlib.Core.List.{List, [], _++_}
 use mathlib.Core.Option.{Option, none, some}
@@ -8,14 +8,16 @@ use lib.ListN.{length, getD, take}
 use Rattle.answers.specs.declared.Form.{Form}
 use Rattle.answers.specs.declared.Form.the-variants.{Nt40, Response, Ex}
 use Rattle.answers.specs.Try.{good}
-use Rattle.locator.specs.Answer.{Outcome, answerTo}
-use Rattle.names.specs.Name.{namesAt}
-use Rattle.names.specs.Walk.{Name, walk}
+use Rattle.filter_read.specs.Value.{Ping}
+use Rattle.locator.specs.Answer.{Outcome}
+use Rattle.names.specs.Name.{writeNames}
+use Rattle.names.specs.Walk.{WalkedName, walk}
 use Rattle.octets.specs.Label as label
-use Rattle.reader.specs.Reader.{Named, Fields, nt40, response, ex, readIn}
+use Rattle.reader.specs.Reader.{NameRead, Fields, nt40, response, ex, readIn}
 use Rattle.reply.specs.Reply.{Reply, responseHead, responseNames, exHead, exNames, addressIf}
-use Rattle.demands.specs.Made.{Made, said}
-pub mod Properties
+use Rattle.table.specs.declared.Caller.{Caller}
+use Rattle.table.specs.Table.{Table}
+use Rattle.demands.specs.Derivation.{Derivation, said, EveryAnswerOver, EveryAnswer}
 
 -- what stands before the first name of a form
 abbrev pub headOf : Form → Reply → List ℕ
@@ -31,38 +33,38 @@ namesOf Ex r = exNames r
 
 -- the first k names of a form, written
 abbrev pub namesBefore : Form → Reply → ℕ → List ℕ
-namesBefore form r k = namesAt [] (length (headOf form r)) (take k (namesOf form r)) .octets
+namesBefore form r k = writeNames [] (length (headOf form r)) (take k (namesOf form r)) .octets
 
--- the first octet of the name at place k: behind the head and the k names before it
+-- the first octet of the name at place k: after the head and the k names before it
 abbrev pub startOf : Form → Reply → ℕ → ℕ
 startOf form r k = length (headOf form r) + length (namesBefore form r k)
 
--- name 8, of the EX form alone, where it is written; its first octet is behind the eight names and the address
+-- name 8, of the EX form alone, where it is written; its first octet is after the eight names and the address
 abbrev pub lastOf : Form → Reply → Option (List ℕ)
 lastOf Nt40 r = none
 lastOf Response r = none
 lastOf Ex r = r .nextSite
 
 abbrev pub lastStart : Reply → ℕ
-lastStart r = length (exHead r ++ namesAt [] (length (exHead r)) (exNames r) .octets ++ addressIf (r .withAddress) (r .ipv4))
+lastStart r = length (exHead r ++ writeNames [] (length (exHead r)) (exNames r) .octets ++ addressIf (r .withAddress) (r .ipv4))
 
 -- what the reader gives back of names
-abbrev pub namesIn : Fields → List Named
+abbrev pub namesIn : Fields → List NameRead
 namesIn (nt40 f) = []
 namesIn (response f) = f .names
 namesIn (ex f) = f .names
 
-abbrev pub lastIn : Fields → Option Named
+abbrev pub lastIn : Fields → Option NameRead
 lastIn (nt40 f) = none
 lastIn (response f) = none
 lastIn (ex f) = f .nextSite
 
-abbrev pub noName : Named
+abbrev pub noName : NameRead
 noName = record { text = []; pointers = 0 }
 
 -- one name, at place k, with its first octet at `start` and its own octets `text`, and as the reader gave it back
-pub record Walked (s : List ℕ) (start k : ℕ) (text : List ℕ) (given : Named) : Type 0 where
-  pub name : Name
+pub record NameWalked (s : List ℕ) (start k : ℕ) (text : List ℕ) (given : NameRead) : Type 0 where
+  pub name : WalkedName
   pub found : walk s start ≡ some name
   pub reads : name .labels ≡ label.labels text
   pub joins : label.joined (name .labels) ≡ text
@@ -70,22 +72,26 @@ pub record Walked (s : List ℕ) (start k : ℕ) (text : List ℕ) (given : Name
   pub counted : given .pointers ≡ name .pointers
 
 -- name 8 is there for the reader exactly where it was written
-abbrev pub LastWalked : List ℕ → ℕ → Option (List ℕ) → Option Named → Type 0
+abbrev pub LastWalked : List ℕ → ℕ → Option (List ℕ) → Option NameRead → Type 0
 LastWalked s start none none = Unit {0}
 LastWalked s start none (some n) = ⊥
 LastWalked s start (some text) none = ⊥
-LastWalked s start (some text) (some n) = Walked s start 8 text n
+LastWalked s start (some text) (some n) = NameWalked s start 8 text n
 
 -- every name of a reply r in its form, whose octets are s
 pub record NamesWalked (form : Form) (v : ℕ) (r : Reply) (s : List ℕ) : Type 0 where
   pub fields : Fields
   pub accepted : readIn form v s ≡ good fields
   pub many : length (namesIn fields) ≡ length (namesOf form r)
-  pub names : (k : ℕ) → k < length (namesOf form r) → Walked s (startOf form r k) k (getD (namesOf form r) k []) (getD (namesIn fields) k noName)
+  pub names : (k : ℕ) → k < length (namesOf form r) → NameWalked s (startOf form r k) k (getD (namesOf form r) k []) (getD (namesIn fields) k noName)
   pub last : LastWalked s (lastStart r) (lastOf form r) (lastIn fields)
 
+-- an answer's reply, with every name walked
+abbrev pub ReplyWalked : Table → Caller → Ping → ℕ → Outcome → Type 0
+ReplyWalked t caller p room a = (d : Derivation t caller p room a) × NamesWalked (a .form) (p .version) (said d) (a .octets)
+
+abbrev pub Demand3Over : Type 0
+Demand3Over = EveryAnswerOver ReplyWalked
+
 abbrev pub Demand3 : Type 0
-Demand3 =
-    (image client filter : List ℕ) (room : ℕ) (a : Outcome)
-    → answerTo image client filter room ≡ good a
-    → (m : Made image client filter room a) × NamesWalked (a .form) (m .ping .version) (said m) (a .octets)
+Demand3 = EveryAnswer ReplyWalked

@@ -1,6 +1,5 @@
-pub mod Made
+pub mod Derivation
 pub mod ReplyLaw
 pub mod Demand3
 pub mod Length
 pub mod Pointers
-pub mod ReaderWalks

@@ -8,28 +8,33 @@ use Prim.Native.Nat.{ℕ}
 use lib.Dec.{leb, ltb}
 use lib.ListN.{length, take}
 use Rattle.answers.specs.declared.Form.{Form}
-use Rattle.answers.specs.Try.{good}
-use Rattle.locator.specs.Answer.{Outcome, answerTo}
-use Rattle.names.specs.Name.{Tail, namesAt}
-use Rattle.octets.specs.Lists.{all, apart, first}
+use Rattle.filter_read.specs.Value.{Ping}
+use Rattle.locator.specs.Answer.{Outcome}
+use Rattle.names.specs.Name.{pointerLimit, Tail, writeNames}
+use Rattle.octets.specs.Lists.{all, unique, first}
 use Rattle.octets.specs.Text.{same}
 use Rattle.reply.specs.Reply.{Reply}
+use Rattle.table.specs.declared.Caller.{Caller}
+use Rattle.table.specs.Table.{Table}
 use Rattle.demands.specs.Demand3.{headOf, namesOf}
-use Rattle.demands.specs.Made.{Made, said}
-pub mod Properties
+use Rattle.demands.specs.Derivation.{Derivation, said, EveryAnswerOver, EveryAnswer}
 
 -- the tails that the first k names of a form leave
 abbrev pub tailsBefore : Form → Reply → ℕ → List Tail
-tailsBefore form r k = namesAt [] (length (headOf form r)) (take k (namesOf form r)) .tails
+tailsBefore form r k = writeNames [] (length (headOf form r)) (take k (namesOf form r)) .tails
 
 pub record Fit (tails : List Tail) : Type 0 where
-  pub low : all (λ t. ltb (t .offset) 0x4000) tails ≡ true
-  pub once : apart (λ t u. same (t .text) (u .text)) tails ≡ true
+  pub low : all (λ t. ltb (t .offset) pointerLimit) tails ≡ true
+  pub once : unique (λ t u. same (t .text) (u .text)) tails ≡ true
   pub lowest : (text : List ℕ) (t : Tail)
       → first (λ u. same (u .text) text) tails ≡ some t → all (λ u. not (same (u .text) text) || leb (t .offset) (u .offset)) tails ≡ true
 
+-- an answer's reply, whose every pointer fits
+abbrev pub ReplyFits : Table → Caller → Ping → ℕ → Outcome → Type 0
+ReplyFits t caller p room a = (d : Derivation t caller p room a) × ((k : ℕ) → Fit (tailsBefore (a .form) (said d) k))
+
+abbrev pub PointersFitOver : Type 0
+PointersFitOver = EveryAnswerOver ReplyFits
+
 abbrev pub PointersFit : Type 0
-PointersFit =
-    (image client filter : List ℕ) (room : ℕ) (a : Outcome)
-    → answerTo image client filter room ≡ good a
-    → (m : Made image client filter room a) × ((k : ℕ) → Fit (tailsBefore (a .form) (said m) k))
+PointersFit = EveryAnswer ReplyFits

@@ -1,50 +1,49 @@
--- The reply law: for every table image, client address, filter and room that get an answer, the reader, given the reply's octets, its form
--- and the version bits asked, accepts the reply with its length and gives back the texts and numbers that went in.
+-- The reply law: of every answer, the reader, given the reply's octets, its form and the version bits asked, accepts the reply with its length
+-- and gives back the texts and numbers that went in.
 use mathlib.Core.Path.{_≡_}
 use mathlib.Core.Bool.{Bool, true, false}
 use mathlib.Core.List.{List, map}
-use mathlib.Core.Option.{Option, none, some}
+use mathlib.Core.Option.{Option, none, some, Option·map}
 use Prim.Native.Nat.{ℕ}
 use lib.ListN.{length}
 use Rattle.answers.specs.declared.Form.{Form}
 use Rattle.answers.specs.declared.Form.the-variants.{Nt40, Response, Ex}
 use Rattle.answers.specs.Try.{good}
-use Rattle.locator.specs.Answer.{Outcome, answerTo}
+use Rattle.answers.specs.Wire.{nt40Version, responseVersion, exVersion, exVersionWithNextSite}
+use Rattle.filter_read.specs.Value.{Ping}
+use Rattle.locator.specs.Answer.{Outcome}
 use Rattle.octets.specs.Lists.{cut}
-use Rattle.octets.specs.Utf16.{utf16}
-use Rattle.reader.specs.Reader.{Named, Nt40Fields, ResponseFields, ExFields, nt40, response, ex, readIn, readLength}
+use Rattle.unicode.specs.Utf16.{utf16}
+use Rattle.reader.specs.Reader.{NameRead, Nt40Fields, ResponseFields, ExFields, nt40, response, ex, readIn, readLength}
 use Rattle.reader.specs.Text.{Stretch}
 use Rattle.reply.specs.Reply.{Reply, responseNames, exNames}
-use Rattle.demands.specs.Made.{Made, said}
-pub mod Properties
+use Rattle.table.specs.declared.Caller.{Caller}
+use Rattle.table.specs.Table.{Table}
+use Rattle.demands.specs.Derivation.{Derivation, said, EveryAnswerOver, EveryAnswer}
 
 -- the octets of a stretch
 abbrev pub stretchOf : List ℕ → Stretch → List ℕ
 stretchOf s t = cut s (t .start) (t .len)
 
-abbrev pub textOf : Named → List ℕ
+abbrev pub textOf : NameRead → List ℕ
 textOf n = n .text
-
-abbrev pub textIfAny : Option Named → Option (List ℕ)
-textIfAny none = none
-textIfAny (some n) = some (n .text)
 
 -- the address, exactly where it was written
 abbrev pub addressWritten : Reply → Bool → Option (List ℕ)
 addressWritten r true = some (r .ipv4)
 addressWritten r false = none
 
--- the EX version: 15h with name 8
-abbrev pub exVersion : Option (List ℕ) → ℕ
-exVersion none = 5
-exVersion (some text) = 0x15
+-- the version of an EX, by name 8
+abbrev pub versionWritten : Option (List ℕ) → ℕ
+versionWritten none = exVersion
+versionWritten (some text) = exVersionWithNextSite
 
 pub record Nt40Back (r : Reply) (s : List ℕ) (f : Nt40Fields) : Type 0 where
   pub opcode : f .opcode ≡ r .opcode
   pub server : stretchOf s (f .server) ≡ utf16 (r .server)
   pub user : stretchOf s (f .user) ≡ utf16 (r .user)
   pub domain : stretchOf s (f .domain) ≡ utf16 (r .netbios)
-  pub version : f .version ≡ 1
+  pub version : f .version ≡ nt40Version
 
 pub record ResponseBack (r : Reply) (s : List ℕ) (f : ResponseFields) : Type 0 where
   pub opcode : f .opcode ≡ r .opcode
@@ -55,7 +54,7 @@ pub record ResponseBack (r : Reply) (s : List ℕ) (f : ResponseFields) : Type 0
   pub names : map textOf (f .names) ≡ responseNames r
   pub ipv4 : f .ipv4 ≡ r .ipv4
   pub flags : f .flags ≡ r .flags
-  pub version : f .version ≡ 3
+  pub version : f .version ≡ responseVersion
 
 pub record ExBack (r : Reply) (f : ExFields) : Type 0 where
   pub opcode : f .opcode ≡ r .opcode
@@ -63,8 +62,8 @@ pub record ExBack (r : Reply) (f : ExFields) : Type 0 where
   pub guid : f .guid ≡ r .guid
   pub names : map textOf (f .names) ≡ exNames r
   pub ipv4 : f .ipv4 ≡ addressWritten r (r .withAddress)
-  pub nextSite : textIfAny (f .nextSite) ≡ r .nextSite
-  pub version : f .version ≡ exVersion (r .nextSite)
+  pub nextSite : Option·map textOf (f .nextSite) ≡ r .nextSite
+  pub version : f .version ≡ versionWritten (r .nextSite)
 
 -- what the reader gives back of a reply r in its form, whose octets are s
 abbrev pub GivenBack : Form → ℕ → Reply → List ℕ → Type 0
@@ -72,10 +71,15 @@ GivenBack Nt40 v r s = (f : Nt40Fields) × (readIn Nt40 v s ≡ good (nt40 f)) �
 GivenBack Response v r s = (f : ResponseFields) × (readIn Response v s ≡ good (response f)) × ResponseBack r s f
 GivenBack Ex v r s = (f : ExFields) × (readIn Ex v s ≡ good (ex f)) × ExBack r f
 
+-- an answer's reply, read back
+abbrev pub ReadBack : Table → Caller → Ping → ℕ → Outcome → Type 0
+ReadBack t caller p room a =
+    (d : Derivation t caller p room a)
+    × GivenBack (a .form) (p .version) (said d) (a .octets)
+    × (readLength (readIn (a .form) (p .version) (a .octets)) (a .octets) ≡ length (a .octets))
+
+abbrev pub ReplyLawOver : Type 0
+ReplyLawOver = EveryAnswerOver ReadBack
+
 abbrev pub ReplyLaw : Type 0
-ReplyLaw =
-    (image client filter : List ℕ) (room : ℕ) (a : Outcome)
-    → answerTo image client filter room ≡ good a
-    → (m : Made image client filter room a)
-    × GivenBack (a .form) (m .ping .version) (said m) (a .octets)
-    × (readLength (readIn (a .form) (m .ping .version) (a .octets)) (a .octets) ≡ length (a .octets))
+ReplyLaw = EveryAnswer ReadBack

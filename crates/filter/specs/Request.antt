@@ -4,18 +4,18 @@ use mathlib.Core.List.{List, [], _∷_}
 use mathlib.Core.Option.{Option, none, some}
 use Prim.Native.Nat.{ℕ}
 use Rattle.octets.specs.Lists.{cut}
-use Rattle.filter.specs.declared.Clause.{Clause}
-use Rattle.filter.specs.declared.Clause.the-variants.{Absent, Present}
-use Rattle.filter.specs.declared.Name.{Name}
-use Rattle.filter.specs.declared.Name.the-variants.{DnsDomain, Host, DnsHostName, User, Aac, DomainSid, DomainGuid, NtVer}
-use Rattle.filter.specs.declared.Request.{Request}
+use Rattle.filter.specs.declared.request.Clause.{Clause}
+use Rattle.filter.specs.declared.request.Clause.the-variants.{Absent, Present}
+use Rattle.filter.specs.declared.request.ClauseName.{ClauseName}
+use Rattle.filter.specs.declared.request.ClauseName.the-variants.{DnsDomain, Host, DnsHostName, User, Aac, DomainSid, DomainGuid, NtVer}
+use Rattle.filter.specs.declared.request.Request.{Request}
 
 -- the clause names, in document 01's order
-abbrev pub names : List Name
-names = DnsDomain ∷ Host ∷ DnsHostName ∷ User ∷ Aac ∷ DomainSid ∷ DomainGuid ∷ NtVer ∷ []
+abbrev pub clauseNames : List ClauseName
+clauseNames = DnsDomain ∷ Host ∷ DnsHostName ∷ User ∷ Aac ∷ DomainSid ∷ DomainGuid ∷ NtVer ∷ []
 
 -- how a name is spelled, as document 01 lists it
-abbrev pub spelling : Name → List ℕ
+abbrev pub spelling : ClauseName → List ℕ
 spelling DnsDomain = 0x44 ∷ 0x6E ∷ 0x73 ∷ 0x44 ∷ 0x6F ∷ 0x6D ∷ 0x61 ∷ 0x69 ∷ 0x6E ∷ []
 spelling Host = 0x48 ∷ 0x6F ∷ 0x73 ∷ 0x74 ∷ []
 spelling DnsHostName = 0x44 ∷ 0x6E ∷ 0x73 ∷ 0x48 ∷ 0x6F ∷ 0x73 ∷ 0x74 ∷ 0x4E ∷ 0x61 ∷ 0x6D ∷ 0x65 ∷ []
@@ -26,7 +26,7 @@ spelling DomainGuid = 0x44 ∷ 0x6F ∷ 0x6D ∷ 0x61 ∷ 0x69 ∷ 0x6E ∷ 0x47
 spelling NtVer = 0x4E ∷ 0x74 ∷ 0x56 ∷ 0x65 ∷ 0x72 ∷ []
 
 -- the request whose clause for each name is given
-abbrev pub requestBy : (Name → Clause) → Request
+abbrev pub requestBy : (ClauseName → Clause) → Request
 requestBy f =
     record {
       «dns_domain» = f DnsDomain;
@@ -39,7 +39,7 @@ requestBy f =
       «nt_ver» = f NtVer;
     }
 
-abbrev pub clause : Request → Name → Clause
+abbrev pub clause : Request → ClauseName → Clause
 clause r DnsDomain = r .«dns_domain»
 clause r Host = r .«host»
 clause r DnsHostName = r .«dns_host_name»

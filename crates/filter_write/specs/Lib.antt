@@ -1,2 +1,3 @@
-pub mod Size
+pub mod Write
 pub mod RoundTrip
+pub mod Internal

@@ -1,26 +1,23 @@
--- Document 01, "The filter": "Taking apart what it wrote gives the same clauses." The statements; RoundTrip/Properties.antt has the proofs.
-pub mod Elements
-pub mod Clauses
-pub mod Properties
+-- Document 01, "The filter": "Taking apart what it wrote gives the same clauses." The statements.
 use mathlib.Core.Path.{_≡_}
 use mathlib.Core.List.{List}
 use Prim.Native.Nat.{ℕ}
 use lib.ListN.{length, take}
 use Rattle.answers.specs.Try.{good}
 use Rattle.octets.specs.Buffer.{over}
-use Rattle.filter.specs.declared.Name.{Name}
-use Rattle.filter.specs.declared.Request.{Request}
-use Rattle.filter.specs.declared.Taken.{Taken}
-use Rattle.filter.specs.declared.Taken.the-variants as taken
-use Rattle.filter.specs.declared.Written.{Written}
-use Rattle.filter.specs.declared.Written.the-variants as written
+use Rattle.filter.specs.declared.request.ClauseName.{ClauseName}
+use Rattle.filter.specs.declared.request.Request.{Request}
+use Rattle.filter_read.specs.declared.read.Taken.{Taken}
+use Rattle.filter_read.specs.declared.read.Taken.the-variants as taken
+use Rattle.filter_write.specs.declared.write.Written.{Written}
+use Rattle.filter_write.specs.declared.write.Written.the-variants as written
 use Rattle.filter.specs.Request.{clause, octetsOf}
-use Rattle.filter.specs.Taken.{requestIn, takenAs}
-use Rattle.filter.specs.Write.{filterFor, writtenAs, writtenOctets}
+use Rattle.filter_read.specs.Taken.{requestIn, takenAs}
+use Rattle.filter_write.specs.Write.{filterFor, writtenAs, writtenOctets}
 
 -- the same clauses: for each name both are absent, or both are present with the same octets
 abbrev pub SameClauses : List ℕ → Request → List ℕ → Request → Type 0
-SameClauses s q source r = (name : Name) → octetsOf s (clause q name) ≡ octetsOf source (clause r name)
+SameClauses s q source r = (name : ClauseName) → octetsOf s (clause q name) ≡ octetsOf source (clause r name)
 
 -- of the definitions: for all clauses and rooms where the writer refuses nothing, its octets are taken apart to the same clauses
 abbrev pub RoundTrip : Type 0

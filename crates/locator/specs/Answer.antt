@@ -1,5 +1,6 @@
--- Document 01, "Answer numbers": the answer to a ping, as one function of table image, client address, filter and room.
-use mathlib.Core.Bool.{Bool, true, false, not, _&&_, _||_}
+-- Document 01, "Answer numbers": the answer in three layers, and the whole as one function of table image, caller, filter and room. The first layer, the
+-- table of an image (1 to 4), is `tableIn`.
+use mathlib.Core.Bool.{Bool, true, false, _&&_}
 use mathlib.Core.List.{List, []}
 use mathlib.Core.Option.{Option, none, some}
 use Prim.Native.Nat.{ℕ}
@@ -10,14 +11,15 @@ use Rattle.answers.specs.declared.Form.the-variants.{Nt40, Response, Ex}
 use Rattle.answers.specs.declared.Refusal.the-variants.{UserLabelEmpty, NoRoom}
 use Rattle.answers.specs.Refusal.{number}
 use Rattle.answers.specs.Try.{Try, refused, good, refusedIf, _>>=_}
-use Rattle.filter.specs.Taken.{requestIn}
-use Rattle.filter.specs.Value.{Ping, pingIn}
+use Rattle.filter_read.specs.Taken.{requestIn}
+use Rattle.filter_read.specs.Value.{Ping, pingIn}
 use Rattle.octets.specs.Label.{labels}
 use Rattle.octets.specs.Lists.{any, holds}
 use Rattle.reply.specs.Reply.{octetsIn}
+use Rattle.table.specs.declared.Caller.{Caller}
 use Rattle.table.specs.declared.ContextNumber.{ContextNumber}
-use Rattle.table.specs.Judgement.{tableIn}
-use Rattle.table.specs.Records.{Context}
+use Rattle.table_whole.specs.Judgement.{tableIn}
+use Rattle.table.specs.Context.{Context}
 use Rattle.table.specs.Table.{Table}
 use Rattle.locator.specs.declared.Answer.{Answer}
 use Rattle.locator.specs.declared.Answer.the-variants as answer
@@ -39,21 +41,31 @@ pub record Outcome : Type 0 where
   pub form : Form
   pub octets : List ℕ
 
-unfoldable pub replyTo : Table → List ℕ → Ping → ℕ → Context → Try Outcome
-replyTo t client p room c =
+unfoldable pub replyTo : Table → Caller → Ping → ℕ → Context → Try Outcome
+replyTo t caller p room c =
     let form = formOf (t .server) (p .version) in
-    let octets = octetsIn form (replyFor t client p c form) in
+    let octets = octetsIn form (replyFor t caller p c form) in
     refusedIf (wrongUser form p) UserLabelEmpty
     (refusedIf (ltb room (length octets)) NoRoom (good (record { context = c .number; form = form; octets = octets })))
 
--- the numbers are judged in their order, each over the whole table or filter
-unfoldable pub answerTo : List ℕ → List ℕ → List ℕ → ℕ → Try Outcome
-answerTo image client filter room = do
-  t ← tableIn image
+-- 5 to 10: the ping of a filter
+unfoldable pub pingFrom : List ℕ → Try Ping
+pingFrom filter = do
   r ← requestIn filter
-  p ← pingIn filter r
+  pingIn filter r
+
+-- 11 to 19: the answer to a ping over a table, however either was come by
+unfoldable pub answerOver : Table → Caller → Ping → ℕ → Try Outcome
+answerOver t caller p room = do
   c ← contextIn t p
-  replyTo t client p room c
+  replyTo t caller p room c
+
+-- the numbers are judged in their order, each over the whole table or filter
+unfoldable pub answerTo : List ℕ → Caller → List ℕ → ℕ → Try Outcome
+answerTo image caller filter room = do
+  t ← tableIn image
+  p ← pingFrom filter
+  answerOver t caller p room
 
 -- the answer as the enum that the call returns
 abbrev pub answerAs : Try Outcome → Answer
@@ -66,18 +78,18 @@ octetsWritten (refused r) = []
 octetsWritten (good a) = a .octets
 
 -- document 01's values of an answer: its number; with a refusal length 0, context 0 and no form
-abbrev pub numberOf : Answer → ℕ
-numberOf (answer.Answered length context form) = 0
-numberOf (answer.Refused r) = number r
+abbrev pub answerNumber : Answer → ℕ
+answerNumber (answer.Answered length context form) = 0
+answerNumber (answer.Refused r) = number r
 
-abbrev pub lengthOf : Answer → ℕ
-lengthOf (answer.Answered length context form) = length
-lengthOf (answer.Refused r) = 0
+abbrev pub answerLength : Answer → ℕ
+answerLength (answer.Answered length context form) = length
+answerLength (answer.Refused r) = 0
 
-abbrev pub contextOf : Answer → ℕ
-contextOf (answer.Answered length context form) = context .0
-contextOf (answer.Refused r) = 0
+abbrev pub answerContext : Answer → ℕ
+answerContext (answer.Answered length context form) = context .0
+answerContext (answer.Refused r) = 0
 
-abbrev pub formIn : Answer → Option Form
-formIn (answer.Answered length context form) = some form
-formIn (answer.Refused r) = none
+abbrev pub answerForm : Answer → Option Form
+answerForm (answer.Answered length context form) = some form
+answerForm (answer.Refused r) = none

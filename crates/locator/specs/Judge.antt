@@ -7,10 +7,10 @@ use lib.Dec.{eqb}
 use lib.ListN.{length}
 use Rattle.answers.specs.declared.Refusal.the-variants.{GuidLength, GuidNotHeld, DnsNameEmpty, DnsNameNotHeld, SidShape, SidNotHeld, SidOfAnother, TableWhole}
 use Rattle.answers.specs.Try.{Try, refused, good, refusedIf, _>>=_}
-use Rattle.filter.specs.Value.{Ping}
+use Rattle.filter_read.specs.Value.{Ping}
 use Rattle.octets.specs.Lists.{isSome, holds}
-use Rattle.octets.specs.Sid.{isSid}
-use Rattle.table.specs.Records.{Context}
+use Rattle.octets.specs.Sid.{isSid, guidSize}
+use Rattle.table.specs.Context.{Context}
 use Rattle.table.specs.Table.{Table}
 use Rattle.table_find.specs.Find.{contextByGuid, contextByDnsName, contextBySid, holdsSid, defaultContext}
 
@@ -34,7 +34,7 @@ contextIn t p =
     let guid = p .domainGuid in
     let dns = p .dnsDomain in
     let sid = p .domainSid in
-    refusedIf (holds (λ g. not (eqb (length g) 16)) guid) GuidLength
+    refusedIf (holds (λ g. not (eqb (length g) guidSize)) guid) GuidLength
     (refusedIf (holds (λ g. not (isSome (contextByGuid t g))) guid) GuidNotHeld
     (refusedIf (holds (λ n. eqb (length n) 0) dns) DnsNameEmpty
     (refusedIf (holds (λ n. not (isSome (contextByDnsName t n))) dns) DnsNameNotHeld

@@ -2,3 +2,4 @@ pub mod Judge
 pub mod Choose
 pub mod Answer
 pub mod Samples
+pub mod ApplicationFlag

@@ -7,7 +7,6 @@ use Rattle.octets.specs.Label.{labels, joined}
 use Rattle.octets.specs.Lists.{first}
 use Rattle.octets.specs.Number.{bigOctets}
 use Rattle.octets.specs.Text.{same}
-pub mod Properties
 
 -- document 01's "name tail starting at a literally written label": the label's offset in the reply, and the octets from there to the end of the name
 pub record Tail : Type 0 where
@@ -19,35 +18,45 @@ pub record Writing : Type 0 where
   pub octets : List ℕ
   pub tails : List Tail
 
+-- a pointer's top two bits, and what its offset is below
+abbrev pub pointerBits : ℕ
+pointerBits = 0xC000
+
+abbrev pub pointerLimit : ℕ
+pointerLimit = 0x4000
+
 -- the top two bits set, then 14 bits of offset
-unfoldable pub pointer : ℕ → List ℕ
-pointer offset = bigOctets 2 (0xC000 + offset)
+unfoldable pub pointerTo : ℕ → List ℕ
+pointerTo offset = bigOctets 2 (pointerBits + offset)
 
-unfoldable pub label : List ℕ → List ℕ
-label l = length l ∷ l
+unfoldable pub literalLabel : List ℕ → List ℕ
+literalLabel l = length l ∷ l
 
--- a pointer ends the name, or a literal label goes before the rest
-abbrev pub placed : Option Tail → Writing → Writing
-placed (some t) literal = record { octets = pointer (t .offset); tails = [] }
-placed none literal = literal
+-- a label written out at an offset, and the rest of its name after it
+abbrev pub literally : ℕ → List ℕ → List ℕ → Writing → Writing
+literally at text l rest = record { octets = literalLabel l ++ rest .octets; tails = record { offset = at; text = text } ∷ rest .tails }
+
+-- a pointer ends the name where there is a tail to point to
+abbrev pub pointerOr : Option Tail → Writing → Writing
+pointerOr (some t) writing = record { octets = pointerTo (t .offset); tails = [] }
+pointerOr none writing = writing
 
 -- the rest of a name from a label on, at an offset. Earlier tails stand in the order of writing, so the first that fits is the lowest
-unfoldable pub labelsAt : List Tail → ℕ → List (List ℕ) → Writing
-labelsAt earlier at [] = record { octets = 0 ∷ []; tails = [] }
-labelsAt earlier at (l ∷ ls) =
+unfoldable pub writeLabels : List Tail → ℕ → List (List ℕ) → Writing
+writeLabels earlier at [] = record { octets = 0 ∷ []; tails = [] }
+writeLabels earlier at (l ∷ ls) =
     let text = joined (l ∷ ls) in
-    let rest = labelsAt earlier (at + (1 + length l)) ls in
-    let literal : Writing = record { octets = label l ++ rest .octets; tails = record { offset = at; text = text } ∷ rest .tails } in
-    placed (first (λ t. same (t .text) text) earlier) literal
+    let rest = writeLabels earlier (at + (1 + length l)) ls in
+    pointerOr (first (λ t. same (t .text) text) earlier) (literally at text l rest)
 
 -- a name's text at an offset; an absent or empty text is one zero octet
-unfoldable pub nameAt : List Tail → ℕ → List ℕ → Writing
-nameAt earlier at text = labelsAt earlier at (labels text)
+unfoldable pub writeName : List Tail → ℕ → List ℕ → Writing
+writeName earlier at text = writeLabels earlier at (labels text)
 
 -- names one after the other
-unfoldable pub namesAt : List Tail → ℕ → List (List ℕ) → Writing
-namesAt earlier at [] = record { octets = []; tails = [] }
-namesAt earlier at (text ∷ texts) =
-    let one = nameAt earlier at text in
-    let rest = namesAt (earlier ++ one .tails) (at + length (one .octets)) texts in
+unfoldable pub writeNames : List Tail → ℕ → List (List ℕ) → Writing
+writeNames earlier at [] = record { octets = []; tails = [] }
+writeNames earlier at (text ∷ texts) =
+    let one = writeName earlier at text in
+    let rest = writeNames (earlier ++ one .tails) (at + length (one .octets)) texts in
     record { octets = one .octets ++ rest .octets; tails = one .tails ++ rest .tails }

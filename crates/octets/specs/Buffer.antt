@@ -1,5 +1,4 @@
 -- What writing leaves in a lent buffer.
-pub mod Properties
 use mathlib.Core.List.{List, _++_}
 use Prim.Native.Nat.{ℕ}
 use lib.ListN.{length, drop}

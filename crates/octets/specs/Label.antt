@@ -3,7 +3,6 @@ use mathlib.Core.Bool.{Bool, true, false}
 use mathlib.Core.List.{List, [], _∷_, _++_}
 use Prim.Native.Nat.{ℕ}
 use lib.Dec.{eqb}
-pub mod Properties
 
 abbrev pub toFirst : ℕ → List (List ℕ) → List (List ℕ)
 toFirst x [] = (x ∷ []) ∷ []
@@ -18,7 +17,7 @@ unfoldable pub parts : List ℕ → List (List ℕ)
 parts [] = [] ∷ []
 parts (x ∷ xs) = onDot (eqb x 46) x (parts xs)
 
--- a name's labels: none if it is empty
+-- a name's labels, none if it is empty; how many they are is document 01's L
 unfoldable pub labels : List ℕ → List (List ℕ)
 labels [] = []
 labels (x ∷ xs) = parts (x ∷ xs)

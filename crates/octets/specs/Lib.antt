@@ -2,11 +2,7 @@ pub mod Lists
 pub mod Buffer
 pub mod Number
 pub mod Text
-pub mod Class
-pub mod Utf8
-pub mod Utf8Step
-pub mod Utf16
 pub mod Label
 pub mod NameRule
-pub mod LabelStep
 pub mod Sid
+pub mod Internal

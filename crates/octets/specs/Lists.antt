@@ -4,7 +4,6 @@ use mathlib.Core.List.{List, [], _∷_}
 use mathlib.Core.Option.{Option, none, some}
 use Prim.Native.Nat.{ℕ, zero, suc}
 use lib.ListN.{take, drop}
-pub mod Properties
 
 module _ {A : Type 0} where
   -- the test holds of each element
@@ -36,9 +35,9 @@ module _ {A : Type 0} where
   keep p (x ∷ xs) = keepIf (p x) x (keep p xs)
 
   -- no two elements are alike
-  unfoldable pub apart : (A → A → Bool) → List A → Bool
-  apart alike [] = true
-  apart alike (x ∷ xs) = not (any (alike x) xs) && apart alike xs
+  unfoldable pub unique : (A → A → Bool) → List A → Bool
+  unique alike [] = true
+  unique alike (x ∷ xs) = not (any (alike x) xs) && unique alike xs
 
   abbrev pub isSome : Option A → Bool
   isSome none = false
@@ -49,11 +48,16 @@ module _ {A : Type 0} where
   holds p none = false
   holds p (some x) = p x
 
+  -- what is there passes the test, if anything is there
+  abbrev pub noneOr : (A → Bool) → Option A → Bool
+  noneOr p none = true
+  noneOr p (some x) = p x
+
   -- a stretch: n elements from `at`, or as many of them as there are
   abbrev pub cut : List A → ℕ → ℕ → List A
   cut s at n = take n (drop at s)
 
-  -- n pieces of w elements each, one behind the other
+  -- n pieces of w elements each, one after the other
   unfoldable pub pieces : ℕ → ℕ → List A → List (List A)
   pieces zero w s = []
   pieces (suc n) w s = take w s ∷ pieces n w (drop w s)

@@ -1,4 +1,4 @@
--- Document 01, "The table image": what a name of each kind must be.
+-- Document 01, "The table image": what DNS, NetBIOS and site names must be.
 use mathlib.Core.Bool.{Bool, _&&_, not}
 use mathlib.Core.List.{List}
 use Prim.Native.Nat.{ℕ}
@@ -7,8 +7,6 @@ use lib.ListN.{length}
 use Rattle.octets.specs.Label.{parts}
 use Rattle.octets.specs.Lists.{all}
 use Rattle.octets.specs.Text.{within, isPrintable}
-use Rattle.octets.specs.Utf8.{isUtf8}
-pub mod Properties
 
 abbrev pub sized : ℕ → ℕ → List ℕ → Bool
 sized low high s = within low high (length s)
@@ -19,18 +17,31 @@ printable = all isPrintable
 abbrev pub without : ℕ → List ℕ → Bool
 without x = all (λ y. not (eqb y x))
 
+-- how many octets a label and a name of each kind may have; the table has room for as many
+abbrev pub labelMost : ℕ
+labelMost = 63
+
+abbrev pub dnsNameMost : ℕ
+dnsNameMost = 253
+
+abbrev pub netbiosNameMost : ℕ
+netbiosNameMost = 15
+
+abbrev pub siteNameMost : ℕ
+siteNameMost = 63
+
+abbrev pub userNameMost : ℕ
+userNameMost = 63
+
 unfoldable pub isDnsName : List ℕ → Bool
-isDnsName s = sized 1 253 s && printable s && all (sized 1 63) (parts s)
+isDnsName s = sized 1 dnsNameMost s && printable s && all (sized 1 labelMost) (parts s)
 
 -- NetBIOS and site names: the same octets, no dot, and as many as there is room for
 unfoldable pub isPlainName : ℕ → List ℕ → Bool
 isPlainName room s = sized 1 room s && printable s && without 46 s
 
 abbrev pub isNetbiosName : List ℕ → Bool
-isNetbiosName = isPlainName 15
+isNetbiosName = isPlainName netbiosNameMost
 
 abbrev pub isSiteName : List ℕ → Bool
-isSiteName = isPlainName 63
-
-unfoldable pub isAccountName : List ℕ → Bool
-isAccountName s = sized 1 63 s && isUtf8 s && without 0 s
+isSiteName = isPlainName siteNameMost

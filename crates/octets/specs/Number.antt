@@ -5,7 +5,6 @@ use Prim.Native.Nat.{ℕ, zero, suc, _+_, _*_, _/_, _%_}
 use lib.Bits.{bitAnd}
 use lib.Dec.{eqb}
 use Rattle.octets.specs.Lists.{cut}
-pub mod Properties
 
 -- the number that octets make, the least significant first
 unfoldable pub little : List ℕ → ℕ

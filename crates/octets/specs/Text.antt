@@ -1,10 +1,9 @@
--- Document 01, "The filter" and "The table image": texts are the same, or the same with ASCII case ignored.
+-- Document 01, "The filter" and "The table image": texts are the same, or the same with ASCII case ignored; and tests of their octets.
 use mathlib.Core.Bool.{Bool, true, false, cond, _&&_}
 use mathlib.Core.List.{List, [], _∷_, map}
 use Prim.Native.Nat.{ℕ, _+_}
 use lib.Dec.{eqb, leb}
 use Rattle.octets.specs.Lists.{all}
-pub mod Properties
 
 unfoldable pub same : List ℕ → List ℕ → Bool
 same [] [] = true

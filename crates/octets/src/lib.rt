@@ -3,4 +3,3 @@ pub mod name_rule;
 pub mod number;
 pub mod part;
 pub mod text;
-pub mod utf8;

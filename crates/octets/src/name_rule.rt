@@ -1,16 +1,24 @@
-// What a name of each kind must be, and a SID.
+// What DNS, NetBIOS and site names must be, and a SID.
 ghost use mathlib.Core.Path.{_≡_};
-ghost use Prim.Native.Nat.{_≤_};
-ghost use lib.ListN.{length};
 ghost use Rattle.octets.specs.Lists.{all};
 ghost use Rattle.octets.specs.Label.{parts};
-ghost use Rattle.octets.specs.LabelStep.{labelStep, InLabel};
-ghost use Rattle.octets.specs.NameRule.{sized, isDnsName, isPlainName, isNetbiosName, isSiteName, isAccountName};
+ghost use Rattle.octets.specs.Internal.LabelStep.{labelStep, InLabel};
+ghost use Rattle.octets.specs.NameRule.{sized, isDnsName, isPlainName, isNetbiosName, isSiteName};
 ghost use Rattle.octets.specs.Sid.{isSid};
 use crate::number::wide;
 use crate::text::is_printable;
 use crate::text::lacks;
-use crate::utf8::is_utf8;
+
+// How many octets a label and a name of each kind may have.
+const LABEL_MOST: usize = 63;
+
+pub const DNS_NAME_MOST: usize = 253;
+
+pub const NETBIOS_NAME_MOST: usize = 15;
+
+pub const SITE_NAME_MOST: usize = 63;
+
+pub const USER_NAME_MOST: usize = 63;
 
 fn is_sized(s: &[u8], low: usize, high: usize) -> bool
     ensures { λ r. ⌜ r ≡ sized low high (now (s .entry)) ⌝ }
@@ -37,13 +45,13 @@ fn label_step(n: usize, x: u8) -> LabelStep
         }
         return LabelStep::Length(0);
     }
-    if 63 <= n {
+    if LABEL_MOST <= n {
         return LabelStep::Bad;
     }
     LabelStep::Length(n + 1)
 }
 
-// Whether each label has 1 to 63 octets.
+// Whether no label is empty or too long.
 fn has_good_labels(s: &[u8]) -> bool
     ensures { λ r. ⌜ r ≡ all (sized 1 63) (parts (now (s .entry))) ⌝ }
 {
@@ -62,7 +70,7 @@ fn has_good_labels(s: &[u8]) -> bool
 pub fn is_dns_name(s: &[u8]) -> bool
     ensures { λ r. ⌜ r ≡ isDnsName (now (s .entry)) ⌝ }
 {
-    if !is_sized(s, 1, 253) {
+    if !is_sized(s, 1, DNS_NAME_MOST) {
         return false;
     }
     if !is_printable(s) {
@@ -86,25 +94,13 @@ fn is_plain_name(s: &[u8], room: usize) -> bool
 pub fn is_netbios_name(s: &[u8]) -> bool
     ensures { λ r. ⌜ r ≡ isNetbiosName (now (s .entry)) ⌝ }
 {
-    is_plain_name(s, 15)
+    is_plain_name(s, NETBIOS_NAME_MOST)
 }
 
 pub fn is_site_name(s: &[u8]) -> bool
     ensures { λ r. ⌜ r ≡ isSiteName (now (s .entry)) ⌝ }
 {
-    is_plain_name(s, 63)
-}
-
-pub fn is_account_name(s: &[u8]) -> bool
-    ensures { λ r. ⌜ r ≡ isAccountName (now (s .entry)) ⌝ }
-{
-    if !is_sized(s, 1, 63) {
-        return false;
-    }
-    if !is_utf8(s) {
-        return false;
-    }
-    lacks(s, 0)
+    is_plain_name(s, SITE_NAME_MOST)
 }
 
 pub fn is_sid(s: &[u8]) -> bool

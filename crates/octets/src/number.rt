@@ -36,14 +36,6 @@ pub fn big_u16_at(s: &[u8], at: usize) -> u16
     (256 * wide(s[at]) + wide(s[at + 1])) as u16
 }
 
-// The big-endian number of four octets at an offset.
-pub fn big_u32_at(s: &[u8], at: usize) -> u32
-    requires { ⌜ at + 4 ≤ length (now s) ⌝ }
-    ensures { λ r. ⌜ r ≡ big (cut (now (s .entry)) at 4) ⌝ }
-{
-    65536 * (big_u16_at(s, at) as u32) + (big_u16_at(s, at + 2) as u32)
-}
-
 // Whether some bit of a mask is set.
 pub fn has_bits(bits: u32, mask: u32) -> bool
     ensures { λ r. ⌜ r ≡ has bits mask ⌝ }

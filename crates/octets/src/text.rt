@@ -1,13 +1,11 @@
 // Texts: comparing them, and what their octets must be.
 ghost use mathlib.Core.Path.{_≡_};
-ghost use mathlib.Core.Bool.{Bool};
 ghost use mathlib.Core.List.{map};
-ghost use Prim.Native.Nat.{_+_, _≤_, _<_};
-ghost use lib.ListN.{length};
-ghost use Rattle.octets.specs.Class.{isOf};
+ghost use Prim.Native.Nat.{_+_, _<_};
+ghost use Rattle.octets.specs.Internal.Class.{isOf};
 ghost use Rattle.octets.specs.Lists.{all};
-ghost use Rattle.octets.specs.NameRule.{printable, without, isDnsName, isNetbiosName, isSiteName, isAccountName};
-ghost use Rattle.octets.specs.Text.{same, lower, sameFolded, allZero, foldIf};
+ghost use Rattle.octets.specs.NameRule.{printable, without};
+ghost use Rattle.octets.specs.Text.{same, sameFolded, allZero, foldIf};
 
 // A class of octets that a text may be made of.
 pub enum Class {
@@ -65,7 +63,7 @@ pub fn lacks(s: &[u8], x: u8) -> bool
 }
 
 // An octet as it is compared: with ASCII case ignored, A to Z are a to z.
-fn folded(x: u8, ignore_case: bool) -> u8
+pub fn folded(x: u8, ignore_case: bool) -> u8
     ensures { λ r. ⌜ r ≡ foldIf «ignore_case» x ⌝ }
 {
     if ignore_case {

@@ -1,25 +1,24 @@
 -- Document 01, "Reading a reply": fields of a received reply, what was read, and where the next field starts. A field counts whole at its first octet.
-use mathlib.Core.Bool.{Bool, not}
-use mathlib.Core.List.{List, [], _∷_}
+use mathlib.Core.Bool.{not}
+use mathlib.Core.List.{List}
 use Prim.Native.Nat.{ℕ, _+_}
 use lib.Dec.{ltb}
 use lib.ListN.{length}
 use Rattle.answers.specs.declared.Refusal.the-variants.{ReplyCut, ReplyFixed}
-use Rattle.answers.specs.Try.{Try, refused, good, refusedIf, _>>=_}
+use Rattle.answers.specs.Try.{Try, good, refusedIf, _>>=_}
 use Rattle.octets.specs.Lists.{cut}
 use Rattle.octets.specs.Text.{same}
-pub mod Properties
 
 pub record Read (A : Type 0) : Type 0 where
   pub value : A
   pub next : ℕ
 
 -- n octets from `at`; 31 if they are not all there
-unfoldable pub octetsAt : List ℕ → ℕ → ℕ → Try (Read (List ℕ))
-octetsAt s at n = refusedIf (ltb (length s) (at + n)) ReplyCut (good (record { value = cut s at n; next = at + n }))
+unfoldable pub readOctets : List ℕ → ℕ → ℕ → Try (Read (List ℕ))
+readOctets s at n = refusedIf (ltb (length s) (at + n)) ReplyCut (good (record { value = cut s at n; next = at + n }))
 
 -- a fixed field: 31 if it is not all there, 34 if it is another
-unfoldable pub fixedAt : List ℕ → ℕ → List ℕ → Try (Read (List ℕ))
-fixedAt s at octets = do
-  f ← octetsAt s at (length octets)
+unfoldable pub readFixed : List ℕ → ℕ → List ℕ → Try (Read (List ℕ))
+readFixed s at octets = do
+  f ← readOctets s at (length octets)
   refusedIf (not (same (f .value) octets)) ReplyFixed (good f)

@@ -2,3 +2,4 @@ pub mod Field
 pub mod Text
 pub mod Name
 pub mod Reader
+pub mod ReaderWalks

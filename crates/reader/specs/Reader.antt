@@ -1,25 +1,25 @@
 -- Document 01, "Reading a reply": the reader, a function of a reply's octets, the form and the version bits asked.
-use mathlib.Core.Bool.{Bool, true, false, cond, not, _&&_, _||_}
+use mathlib.Core.Bool.{Bool, true, false, not, _&&_}
 use mathlib.Core.List.{List, [], _∷_}
 use mathlib.Core.Option.{Option, none, some}
-use Prim.Native.Nat.{ℕ, zero, suc, _+_, _-_}
+use Prim.Native.Nat.{ℕ, zero, suc, _-_}
 use lib.Dec.{eqb, leb}
-use lib.ListN.{length, replicate}
+use lib.ListN.{length}
 use Rattle.answers.specs.declared.Form.{Form}
 use Rattle.answers.specs.declared.Form.the-variants.{Nt40, Response, Ex}
 use Rattle.answers.specs.declared.Refusal.the-variants.{ReplyOpcode, ReplyFixed, ReplyLeftOver}
 use Rattle.answers.specs.Try.{Try, refused, good, refusedIf, _>>=_}
-use Rattle.names.specs.Walk.{Name}
+use Rattle.answers.specs.Wire.{NETLOGON-NT-VERSION-5EX-WITH-IP, NETLOGON-NT-VERSION-WITH-CLOSEST-SITE, nt40Version, responseVersion, exVersion, exVersionWithNextSite, Opcodes, olderOpcodes, exOpcodes, isOneOf, Sbz, NullGuid, LmNtToken, Lm20Token, DcSockAddrSize, sin-family, sin-zero}
+use Rattle.names.specs.Walk.{WalkedName}
 use Rattle.octets.specs.Label.{joined}
+use Rattle.octets.specs.Sid.{guidSize, ipv4Size}
 use Rattle.octets.specs.Number.{little, littleOctets, u32At, has}
-use Rattle.octets.specs.Text.{within}
-use Rattle.reader.specs.Field.{Read, octetsAt, fixedAt}
-use Rattle.reader.specs.Name.{nameAt}
-use Rattle.reader.specs.Text.{Stretch, textAt}
-pub mod Properties
+use Rattle.reader.specs.Field.{Read, readOctets, readFixed}
+use Rattle.reader.specs.Name.{readName}
+use Rattle.reader.specs.Text.{Stretch, readText}
 
 -- a name as it is given back: its labels joined by dots, with its pointer count
-pub record Named : Type 0 where
+pub record NameRead : Type 0 where
   pub text : List ℕ
   pub pointers : ℕ
 
@@ -36,7 +36,7 @@ pub record ResponseFields : Type 0 where
   pub user : Stretch
   pub domain : Stretch
   pub guid : List ℕ
-  pub names : List Named
+  pub names : List NameRead
   pub ipv4 : List ℕ
   pub flags : ℕ
   pub version : ℕ
@@ -45,9 +45,9 @@ pub record ExFields : Type 0 where
   pub opcode : ℕ
   pub flags : ℕ
   pub guid : List ℕ
-  pub names : List Named
+  pub names : List NameRead
   pub ipv4 : Option (List ℕ)
-  pub nextSite : Option Named
+  pub nextSite : Option NameRead
   pub version : ℕ
 
 pub data Fields : Type 0 where
@@ -56,36 +56,36 @@ pub data Fields : Type 0 where
   ex : ExFields → Fields
 
 -- 32: an opcode that is not of this form
-unfoldable pub opcodeIn : ℕ → ℕ → List ℕ → Try (Read ℕ)
-opcodeIn low high s = do
-  f ← octetsAt s 0 2
-  let n = little (f .value) in refusedIf (not (within low high n)) ReplyOpcode (good (record { value = n; next = f .next }))
+unfoldable pub readOpcode : Opcodes → List ℕ → Try (Read ℕ)
+readOpcode codes s = do
+  f ← readOctets s 0 2
+  let n = little (f .value) in refusedIf (not (isOneOf codes n)) ReplyOpcode (good (record { value = n; next = f .next }))
 
-unfoldable pub numberAt : List ℕ → ℕ → Try (Read ℕ)
-numberAt s at = do
-  f ← octetsAt s at 4
+unfoldable pub readNumber : List ℕ → ℕ → Try (Read ℕ)
+readNumber s at = do
+  f ← readOctets s at 4
   good (record { value = little (f .value); next = f .next })
 
-abbrev pub named : Name → Named
-named n = record { text = joined (n .labels); pointers = n .pointers }
+abbrev pub joinedName : WalkedName → NameRead
+joinedName n = record { text = joined (n .labels); pointers = n .pointers }
 
 -- n names, one after the other
-unfoldable pub namesAt : ℕ → List ℕ → ℕ → Try (Read (List Named))
-namesAt zero s at = good (record { value = []; next = at })
-namesAt (suc n) s at = do
-  f ← nameAt s at
-  rest ← namesAt n s (f .next)
-  good (record { value = named (f .value) ∷ rest .value; next = rest .next })
+unfoldable pub readNames : ℕ → List ℕ → ℕ → Try (Read (List NameRead))
+readNames zero s at = good (record { value = []; next = at })
+readNames (suc n) s at = do
+  f ← readName s at
+  rest ← readNames n s (f .next)
+  good (record { value = joinedName (f .value) ∷ rest .value; next = rest .next })
 
 -- a fixed number of w octets
-abbrev pub constantAt : ℕ → ℕ → List ℕ → ℕ → Try (Read (List ℕ))
-constantAt w n s at = fixedAt s at (littleOctets w n)
+abbrev pub readConstant : ℕ → ℕ → List ℕ → ℕ → Try (Read (List ℕ))
+readConstant w n s at = readFixed s at (littleOctets w n)
 
 -- the two tokens, and 35 where octets are left over
-unfoldable pub tokensAt : List ℕ → ℕ → Fields → Try Fields
-tokensAt s at fields = do
-  f ← constantAt 2 0xFFFF s at
-  g ← constantAt 2 0xFFFF s (f .next)
+unfoldable pub readTokens : List ℕ → ℕ → Fields → Try Fields
+readTokens s at fields = do
+  f ← readConstant 2 LmNtToken s at
+  g ← readConstant 2 Lm20Token s (f .next)
   refusedIf (not (eqb (g .next) (length s))) ReplyLeftOver (good fields)
 
 -- the opcode and the three texts of the older forms
@@ -95,73 +95,73 @@ pub record Opening : Type 0 where
   pub user : Stretch
   pub domain : Stretch
 
-unfoldable pub openingOf : List ℕ → Try (Read Opening)
-openingOf s = do
-  o ← opcodeIn 19 21 s
-  a ← textAt s (o .next)
-  u ← textAt s (a .next)
-  d ← textAt s (u .next)
+unfoldable pub readOpening : List ℕ → Try (Read Opening)
+readOpening s = do
+  o ← readOpcode olderOpcodes s
+  a ← readText s (o .next)
+  u ← readText s (a .next)
+  d ← readText s (u .next)
   good (record { value = record { opcode = o .value; server = a .value; user = u .value; domain = d .value }; next = d .next })
 
 unfoldable pub readNt40 : List ℕ → Try Fields
 readNt40 s = do
-  o ← openingOf s
-  e ← constantAt 4 1 s (o .next)
+  o ← readOpening s
+  e ← readConstant 4 nt40Version s (o .next)
   let w = o .value in
-      tokensAt s (e .next) (nt40 (record { opcode = w .opcode; server = w .server; user = w .user; domain = w .domain; version = 1 }))
+      readTokens s (e .next) (nt40 (record { opcode = w .opcode; server = w .server; user = w .user; domain = w .domain; version = nt40Version }))
 
 unfoldable pub readResponse : List ℕ → Try Fields
 readResponse s = do
-  o ← openingOf s
-  g ← octetsAt s (o .next) 16
-  z ← fixedAt s (g .next) (replicate 16 0)
-  n ← namesAt 3 s (z .next)
-  i ← octetsAt s (n .next) 4
-  f ← numberAt s (i .next)
-  e ← constantAt 4 3 s (f .next)
+  o ← readOpening s
+  g ← readOctets s (o .next) guidSize
+  z ← readFixed s (g .next) NullGuid
+  n ← readNames 3 s (z .next)
+  i ← readOctets s (n .next) ipv4Size
+  f ← readNumber s (i .next)
+  e ← readConstant 4 responseVersion s (f .next)
   let w = o .value in
-      tokensAt s (e .next)
+      readTokens s (e .next)
       (response
-      (record { opcode = w .opcode; server = w .server; user = w .user; domain = w .domain; guid = g .value; names = n .value; ipv4 = i .value; flags = f .value; version = 3 }))
+      (record { opcode = w .opcode; server = w .server; user = w .user; domain = w .domain; guid = g .value; names = n .value; ipv4 = i .value; flags = f .value; version = responseVersion }))
 
--- the address, where v has 8
-unfoldable pub addressAt : Bool → List ℕ → ℕ → Try (Read (Option (List ℕ)))
-addressAt false s at = good (record { value = none; next = at })
-addressAt true s at = do
-  a ← fixedAt s at (0x10 ∷ [])
-  b ← constantAt 4 2 s (a .next)
-  i ← octetsAt s (b .next) 4
-  z ← fixedAt s (i .next) (replicate 8 0)
+-- the address, where v asks for it
+unfoldable pub readAddress : Bool → List ℕ → ℕ → Try (Read (Option (List ℕ)))
+readAddress false s at = good (record { value = none; next = at })
+readAddress true s at = do
+  a ← readFixed s at (DcSockAddrSize ∷ [])
+  b ← readConstant 4 sin-family s (a .next)
+  i ← readOctets s (b .next) ipv4Size
+  z ← readFixed s (i .next) sin-zero
   good (record { value = some (i .value); next = z .next })
 
 -- name 8 is present exactly when the version 8 octets from the end is 15h
 unfoldable pub hasNextSite : List ℕ → Bool
-hasNextSite s = leb 8 (length s) && eqb (u32At s (length s - 8)) 0x15
+hasNextSite s = leb 8 (length s) && eqb (u32At s (length s - 8)) exVersionWithNextSite
 
 -- name 8 where it is present, and the version that goes with it
 pub record Last : Type 0 where
-  pub nextSite : Option Named
+  pub nextSite : Option NameRead
   pub version : ℕ
 
-unfoldable pub lastAt : Bool → ℕ → List ℕ → ℕ → Try (Read Last)
-lastAt false v s at = do
-  e ← constantAt 4 5 s at
-  good (record { value = record { nextSite = none; version = 5 }; next = e .next })
-lastAt true v s at = do
-  n ← nameAt s at
-  e ← constantAt 4 0x15 s (n .next)
-  refusedIf (not (has v 0x10)) ReplyFixed (good (record { value = record { nextSite = some (named (n .value)); version = 0x15 }; next = e .next }))
+unfoldable pub readLast : Bool → ℕ → List ℕ → ℕ → Try (Read Last)
+readLast false v s at = do
+  e ← readConstant 4 exVersion s at
+  good (record { value = record { nextSite = none; version = exVersion }; next = e .next })
+readLast true v s at = do
+  n ← readName s at
+  e ← readConstant 4 exVersionWithNextSite s (n .next)
+  refusedIf (not (has v NETLOGON-NT-VERSION-WITH-CLOSEST-SITE)) ReplyFixed (good (record { value = record { nextSite = some (joinedName (n .value)); version = exVersionWithNextSite }; next = e .next }))
 
 unfoldable pub readEx : ℕ → List ℕ → Try Fields
 readEx v s = do
-  o ← opcodeIn 23 25 s
-  z ← constantAt 2 0 s (o .next)
-  f ← numberAt s (z .next)
-  g ← octetsAt s (f .next) 16
-  n ← namesAt 8 s (g .next)
-  i ← addressAt (has v 8) s (n .next)
-  l ← lastAt (hasNextSite s) v s (i .next)
-  tokensAt s (l .next)
+  o ← readOpcode exOpcodes s
+  z ← readConstant 2 Sbz s (o .next)
+  f ← readNumber s (z .next)
+  g ← readOctets s (f .next) guidSize
+  n ← readNames 8 s (g .next)
+  i ← readAddress (has v NETLOGON-NT-VERSION-5EX-WITH-IP) s (n .next)
+  l ← readLast (hasNextSite s) v s (i .next)
+  readTokens s (l .next)
       (ex
       (record { opcode = o .value; flags = f .value; guid = g .value; names = n .value; ipv4 = i .value; nextSite = l .value .nextSite; version = l .value .version }))
 

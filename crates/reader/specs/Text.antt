@@ -1,15 +1,14 @@
 -- Document 01, "Reading a reply": a UTF-16 text of a received reply, two-octet units up to a zero unit, 33 at a lone surrogate.
 use mathlib.Core.Bool.{Bool, true, false, cond}
 use mathlib.Core.List.{List}
-use Prim.Native.Nat.{ℕ, zero, suc, _+_, _-_}
+use Prim.Native.Nat.{ℕ, zero, suc, _-_}
 use lib.Dec.{eqb}
 use lib.ListN.{length}
 use Rattle.answers.specs.declared.Refusal.the-variants.{ReplyCut, ReplyText}
 use Rattle.answers.specs.Try.{Try, refused, good, _>>=_}
 use Rattle.octets.specs.Number.{little}
-use Rattle.octets.specs.Utf16.{isHigh, isLow}
-use Rattle.reader.specs.Field.{Read, octetsAt}
-pub mod Properties
+use Rattle.unicode.specs.Utf16.{isHigh, isLow}
+use Rattle.reader.specs.Field.{Read, readOctets}
 
 -- a stretch of the reply: where it starts, and how many octets it has
 pub record Stretch : Type 0 where
@@ -26,7 +25,7 @@ pub data Unit16 : Type 0 where
 unfoldable pub unitOf : ℕ → Unit16
 unitOf u = cond (eqb u 0) ends (cond (isHigh u) high (cond (isLow u) low plain))
 
--- what a unit leads to, behind a high surrogate or not: the text ends, it goes on, or 33
+-- what a unit leads to, after a high surrogate or not: the text ends, it goes on, or 33
 pub data Turn : Type 0 where
   stop : Turn
   go : Bool → Turn
@@ -48,14 +47,14 @@ onTurn (go afterHigh) end next = next afterHigh
 onTurn wrong end next = refused ReplyText
 
 -- k units at most from `at`, in the text that starts at `start`
-unfoldable pub textFrom : ℕ → List ℕ → ℕ → ℕ → Bool → Try (Read Stretch)
-textFrom zero s start at afterHigh = refused ReplyCut
-textFrom (suc k) s start at afterHigh = do
-  u ← octetsAt s at 2
+unfoldable pub readTextFrom : ℕ → List ℕ → ℕ → ℕ → Bool → Try (Read Stretch)
+readTextFrom zero s start at afterHigh = refused ReplyCut
+readTextFrom (suc k) s start at afterHigh = do
+  u ← readOctets s at 2
   onTurn (turn afterHigh (unitOf (little (u .value))))
       (good (record { value = record { start = start; len = at - start }; next = u .next }))
-      (λ h. textFrom k s start (u .next) h)
+      (λ h. readTextFrom k s start (u .next) h)
 
 -- the text at `at`, as its stretch before the zero unit
-unfoldable pub textAt : List ℕ → ℕ → Try (Read Stretch)
-textAt s at = textFrom (suc (length s)) s at at false
+unfoldable pub readText : List ℕ → ℕ → Try (Read Stretch)
+readText s at = readTextFrom (suc (length s)) s at at false

@@ -3,14 +3,15 @@ use mathlib.Core.Bool.{Bool, true, false}
 use mathlib.Core.List.{List, [], _∷_, _++_}
 use mathlib.Core.Option.{Option, none, some}
 use Prim.Native.Nat.{ℕ}
-use lib.ListN.{length, replicate}
+use lib.ListN.{length}
 use Rattle.answers.specs.declared.Form.{Form}
 use Rattle.answers.specs.declared.Form.the-variants.{Nt40, Response, Ex}
-use Rattle.names.specs.Name.{Writing, nameAt, namesAt}
+use Rattle.answers.specs.Wire.{nt40Version, responseVersion, exVersion, exVersionWithNextSite, Sbz, NullGuid, LmNtToken, Lm20Token, DcSockAddrSize, sin-family, sin-zero}
+use Rattle.names.specs.Name.{Writing, writeName, writeNames}
 use Rattle.octets.specs.Number.{littleOctets}
-use Rattle.octets.specs.Utf16.{utf16}
+use Rattle.unicode.specs.Utf16.{utf16}
 
--- what a reply says, in any form; a text that is absent has no octets. The EX form alone writes the address and the next closest site
+-- what a reply says, in any form; a text that is absent has no octets. RESPONSE always writes the address, EX with `withAddress`; EX alone writes sites
 pub record Reply : Type 0 where
   pub opcode : ℕ
   pub flags : ℕ
@@ -39,18 +40,18 @@ text16 s = utf16 s ++ u16 0
 
 -- the version, and the two tokens that end every reply
 unfoldable pub ending : ℕ → List ℕ
-ending version = u32 version ++ u16 0xFFFF ++ u16 0xFFFF
+ending version = u32 version ++ u16 LmNtToken ++ u16 Lm20Token
 
--- the three texts of the older forms, behind the opcode
+-- the opcode and the three texts of the older forms
 unfoldable pub opening : Reply → List ℕ
 opening r = u16 (r .opcode) ++ text16 (r .server) ++ text16 (r .user) ++ text16 (r .netbios)
 
 unfoldable pub nt40Octets : Reply → List ℕ
-nt40Octets r = opening r ++ ending 1
+nt40Octets r = opening r ++ ending nt40Version
 
 -- before the names of a RESPONSE
 unfoldable pub responseHead : Reply → List ℕ
-responseHead r = opening r ++ r .guid ++ replicate 16 0
+responseHead r = opening r ++ r .guid ++ NullGuid
 
 abbrev pub responseNames : Reply → List (List ℕ)
 responseNames r = r .forest ∷ r .dns ∷ r .host ∷ []
@@ -58,29 +59,29 @@ responseNames r = r .forest ∷ r .dns ∷ r .host ∷ []
 unfoldable pub responseOctets : Reply → List ℕ
 responseOctets r =
     let head = responseHead r in
-    head ++ namesAt [] (length head) (responseNames r) .octets ++ r .ipv4 ++ u32 (r .flags) ++ ending 3
+    head ++ writeNames [] (length head) (responseNames r) .octets ++ r .ipv4 ++ u32 (r .flags) ++ ending responseVersion
 
 -- before the names of an EX
 unfoldable pub exHead : Reply → List ℕ
-exHead r = u16 (r .opcode) ++ u16 0 ++ u32 (r .flags) ++ r .guid
+exHead r = u16 (r .opcode) ++ u16 Sbz ++ u32 (r .flags) ++ r .guid
 
 -- the names at places 0 to 7
 abbrev pub exNames : Reply → List (List ℕ)
 exNames r = r .forest ∷ r .dns ∷ r .host ∷ r .netbios ∷ r .server ∷ r .user ∷ r .ownSite ∷ r .clientSite ∷ []
 
 abbrev pub addressIf : Bool → List ℕ → List ℕ
-addressIf true ipv4 = (0x10 ∷ []) ++ u32 2 ++ ipv4 ++ replicate 8 0
+addressIf true ipv4 = (DcSockAddrSize ∷ []) ++ u32 sin-family ++ ipv4 ++ sin-zero
 addressIf false ipv4 = []
 
--- name 8, at its offset behind what came before it, and the version by it
+-- name 8, at its offset after what came before it, and the version by it
 abbrev pub exLast : Option (List ℕ) → Writing → ℕ → List ℕ
-exLast none names at = ending 5
-exLast (some text) names at = nameAt (names .tails) at text .octets ++ ending 0x15
+exLast none names at = ending exVersion
+exLast (some text) names at = writeName (names .tails) at text .octets ++ ending exVersionWithNextSite
 
 unfoldable pub exOctets : Reply → List ℕ
 exOctets r =
     let head = exHead r in
-    let names = namesAt [] (length head) (exNames r) in
+    let names = writeNames [] (length head) (exNames r) in
     let front = head ++ names .octets ++ addressIf (r .withAddress) (r .ipv4) in
     front ++ exLast (r .nextSite) names (length front)
 

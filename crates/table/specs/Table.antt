@@ -1,15 +1,21 @@
 -- Document 01, "The table image": the table that an image holds, its server, forest, contexts, accounts, sites and subnets, in table order.
-use mathlib.Core.Bool.{not}
+use mathlib.Core.Bool.{Bool, not}
 use mathlib.Core.List.{List, [], map, flatMap}
-use Prim.Native.Nat.{ℕ, _*_, _/_}
+use Prim.Native.Nat.{ℕ}
 use lib.Dec.{eqb}
-use lib.ListN.{length, getD}
-use Rattle.octets.specs.Lists.{cut, keep, pieces}
+use lib.ListN.{getD}
+use Rattle.octets.specs.Lists.{keep}
 use Rattle.octets.specs.Text.{allZero}
-use Rattle.table.specs.Field.{textAt}
-use Rattle.table.specs.Layout.{body}
-use Rattle.table.specs.Records.{Server, Context, Account, Site, Subnet, serverOf, contextOf, accountOf, siteOf, subnetOf}
-pub mod Properties
+use Rattle.table.specs.declared.record.RecordKind.{RecordKind}
+use Rattle.table.specs.declared.record.RecordKind.the-variants as kind
+use Rattle.table.specs.Account.{Account, accountOf}
+use Rattle.table.specs.Block.{blocksOf, kindIn, body}
+use Rattle.table.specs.Context.{Context, contextOf}
+use Rattle.table.specs.Forest.{forestPlace, forestOf}
+use Rattle.table.specs.Format.{formatOf, recordsIn}
+use Rattle.table.specs.Server.{Server, serverPlace, serverOf}
+use Rattle.table.specs.Site.{Site, siteOf}
+use Rattle.table.specs.Subnet.{Subnet, subnetOf}
 
 pub record Table : Type 0 where
   pub server : Server
@@ -19,29 +25,29 @@ pub record Table : Type 0 where
   pub sites : List Site
   pub subnets : List Subnet
 
--- the block at a place
-abbrev pub blockAt : List ℕ → ℕ → List ℕ
-blockAt image place = cut image (512 * place) 512
-
--- the blocks of an image
-unfoldable pub blocksOf : List ℕ → List (List ℕ)
-blocksOf image = pieces (length image / 512) 512 image
-
 -- the bodies of the blocks of one kind
 unfoldable pub bodies : ℕ → List (List ℕ) → List (List ℕ)
-bodies kind blocks = map body (keep (λ block. eqb (getD block 0 0) kind) blocks)
+bodies kind blocks = map body (keep (λ block. eqb (kindIn block) kind) blocks)
 
--- the records of one kind that are used: n of w octets in each body
-unfoldable pub recordsOf : ℕ → ℕ → ℕ → List (List ℕ) → List (List ℕ)
-recordsOf kind n w blocks = keep (λ r. not (allZero r)) (flatMap (pieces n w) (bodies kind blocks))
+-- an unused record is all zeros
+abbrev pub isUsed : List ℕ → Bool
+isUsed r = not (allZero r)
+
+-- the used records of a kind; a context's body of zeros is none either, and no table has one: its layout is refused with 3 before
+unfoldable pub recordsOf : RecordKind → List (List ℕ) → List (List ℕ)
+recordsOf kind blocks = keep isUsed (flatMap (recordsIn (formatOf kind)) (bodies (formatOf kind .kind) blocks))
 
 unfoldable pub tableOf : List (List ℕ) → Table
 tableOf blocks =
     record {
-      server = serverOf (body (getD blocks 0 []));
-      forest = textAt (body (getD blocks 1 [])) 0;
-      contexts = map contextOf (bodies 3 blocks);
-      accounts = map accountOf (recordsOf 4 6 84 blocks);
-      sites = map siteOf (recordsOf 5 7 72 blocks);
-      subnets = map subnetOf (recordsOf 6 42 12 blocks);
+      server = serverOf (body (getD blocks (serverPlace .0) []));
+      forest = forestOf (body (getD blocks (forestPlace .0) []));
+      contexts = map contextOf (recordsOf kind.Context blocks);
+      accounts = map accountOf (recordsOf kind.Account blocks);
+      sites = map siteOf (recordsOf kind.Site blocks);
+      subnets = map subnetOf (recordsOf kind.Subnet blocks);
     }
+
+-- the table of an image
+abbrev pub tableFrom : List ℕ → Table
+tableFrom image = tableOf (blocksOf image)

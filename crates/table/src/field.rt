@@ -1,53 +1,46 @@
-// Fields of a body or a record: texts behind their length octets, and room that must be zero.
+// Fields of a block, a body or a record. An octet that is not there counts as 0, as in the definitions.
 ghost use mathlib.Core.Path.{_≡_};
-ghost use Prim.Native.Nat.{_≤_, _<_};
-ghost use lib.ListN.{length};
-ghost use Rattle.table.specs.Field.{zeros, textField};
-ghost use Rattle.table.specs.Rule.{ruleOf};
-use octets::name_rule::is_account_name;
-use octets::name_rule::is_dns_name;
-use octets::name_rule::is_netbios_name;
-use octets::name_rule::is_site_name;
+ghost use Prim.Native.Nat.{_≤_};
+ghost use lib.ListN.{getD};
+ghost use Rattle.octets.specs.Number.{u16At, u32At};
+ghost use Rattle.table.specs.Block.{blockSize};
+ghost use Rattle.table.specs.Field.{textAt};
 use octets::number::wide;
 use octets::part::part;
-use octets::text::all_zero;
 
-// Whether the octets from at up to end are zero; where end is not past at there are none.
-pub fn is_zero_room(s: &[u8], at: usize, end: usize) -> bool
-    ensures { λ r. ⌜ r ≡ zeros (now (s .entry)) at end ⌝ }
+// Where a text's length octet stands, and how many octets of room are after that.
+pub struct TextField {
+    pub offset: usize,
+    pub room: usize,
+}
+
+pub fn octet_in(s: &[u8], offset: usize) -> u8
+    ensures { λ r. ⌜ r ≡ getD (now (s .entry)) offset 0 ⌝ }
 {
-    if end <= at {
-        return true;
+    if s.len() <= offset {
+        return 0;
     }
-    all_zero(part(s, at, end - at))
+    s[offset]
 }
 
-// What the text of a field must be.
-pub enum Rule {
-    Dns,
-    Netbios,
-    NetbiosOrEmpty,
-    Site,
-    Account,
-}
-
-fn keeps(rule: Rule, s: &[u8]) -> bool
-    ensures { λ r. ⌜ r ≡ ruleOf rule (now (s .entry)) ⌝ }
+pub fn u16_in(s: &[u8], offset: usize) -> u16
+    requires { ⌜ offset ≤ blockSize ⌝ }
+    ensures { λ r. ⌜ r ≡ u16At (now (s .entry)) offset ⌝ }
 {
-    match rule {
-        Rule::Dns => is_dns_name(s),
-        Rule::Netbios => is_netbios_name(s),
-        Rule::NetbiosOrEmpty => (s.len() == 0) | is_netbios_name(s),
-        Rule::Site => is_site_name(s),
-        Rule::Account => is_account_name(s),
-    }
+    (wide(octet_in(s, offset)) + 256 * wide(octet_in(s, offset + 1))) as u16
 }
 
-// A text by its rule, with its length octet at an offset and its room behind that, the unused rest zero.
-pub fn text_field(s: &[u8], rule: Rule, at: usize, room: usize) -> bool
-    requires { ⌜ (at < length (now s)) × (at ≤ 504) × (room ≤ 255) ⌝ }
-    ensures { λ r. ⌜ r ≡ textField (ruleOf rule) (now (s .entry)) at room ⌝ }
+pub fn u32_in(s: &[u8], offset: usize) -> u32
+    requires { ⌜ offset ≤ 510 ⌝ }
+    ensures { λ r. ⌜ r ≡ u32At (now (s .entry)) offset ⌝ }
 {
-    let len = wide(s[at]) as usize;
-    (len <= room) & keeps(rule, part(s, at + 1, len)) & is_zero_room(s, at + 1 + len, at + 1 + room)
+    (u16_in(s, offset) as u32) + 65536 * (u16_in(s, offset + 2) as u32)
+}
+
+pub fn text_in(s: &[u8], field: TextField) -> &[u8]
+    requires { ⌜ field .offset ≤ blockSize ⌝ }
+    ensures { λ r. ⌜ now r ≡ textAt (now (s .entry)) field ⌝ }
+{
+    let offset = field.offset;
+    part(s, offset + 1, wide(octet_in(s, offset)) as usize)
 }

@@ -1,12 +1,15 @@
-// The table image: document 01, "The table image".
-use answers::Refusal;
-
+// The table image: document 01, "The table image". What stands where, and how it is read.
+pub mod account;
 pub mod address;
 pub mod block;
-pub mod check;
+pub mod context;
 pub mod field;
-pub mod layout;
+pub mod forest;
 pub mod record;
+pub mod same_name;
+pub mod server;
+pub mod site;
+pub mod subnet;
 
 // Naming-context numbers, site numbers and block places are three countings, and none is used for another.
 pub struct ContextNumber(pub u16);
@@ -15,8 +18,7 @@ pub struct SiteNumber(pub u16);
 
 pub struct BlockPlace(pub u16);
 
-// What judging an image gives: 0, or 1 to 4.
-pub enum Judgement {
-    Passed,
-    Refused(Refusal),
+// Who asks: the client's IPv4 address, in dotted order.
+pub struct Caller {
+    pub address: [u8; 4],
 }

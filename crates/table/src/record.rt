@@ -1,40 +1,43 @@
-// Fields of a record that may be cut short: an octet that is not there counts as 0, as in the definitions.
+// The kinds of blocks that hold records.
 ghost use mathlib.Core.Path.{_≡_};
-ghost use Prim.Native.Nat.{_≤_};
-ghost use lib.ListN.{getD};
-ghost use Rattle.octets.specs.Number.{u16At};
-ghost use Rattle.table.specs.Field.{textAt};
-ghost use Rattle.table.specs.Records.{sidAt};
-use octets::number::wide;
+ghost use Rattle.table.specs.Format.{formatOf};
+ghost use Rattle.table.specs.Internal.RecordAt.{recordAt};
+use crate::account;
+use crate::context;
+use crate::site;
+use crate::subnet;
 use octets::part::part;
 
-pub fn octet_in(s: &[u8], at: usize) -> u8
-    ensures { λ r. ⌜ r ≡ getD (now (s .entry)) at 0 ⌝ }
+pub enum RecordKind {
+    Context,
+    Account,
+    Site,
+    Subnet,
+}
+
+// The kind of the blocks that hold such records, how many there are in a body, and of how many octets each.
+pub struct RecordFormat {
+    pub kind: u8,
+    pub count: usize,
+    pub width: usize,
+}
+
+pub fn format_of(kind: RecordKind) -> RecordFormat
+    ensures { λ r. ⌜ r ≡ formatOf kind ⌝ }
 {
-    if s.len() <= at {
-        return 0;
+    match kind {
+        RecordKind::Context => context::FORMAT,
+        RecordKind::Account => account::FORMAT,
+        RecordKind::Site => site::FORMAT,
+        RecordKind::Subnet => subnet::FORMAT,
     }
-    s[at]
 }
 
-pub fn number_in(s: &[u8], at: usize) -> u16
-    requires { ⌜ at ≤ 512 ⌝ }
-    ensures { λ r. ⌜ r ≡ u16At (now (s .entry)) at ⌝ }
+// The record of a kind at an offset of the image.
+pub fn record_at(image: &[u8], kind: RecordKind, offset: u16) -> &[u8]
+    ensures { λ r. ⌜ now r ≡ recordAt (now (image .entry)) kind offset ⌝ }
 {
-    (wide(octet_in(s, at)) + 256 * wide(octet_in(s, at + 1))) as u16
-}
-
-// The text whose length octet is at an offset.
-pub fn text_in(s: &[u8], at: usize) -> &[u8]
-    requires { ⌜ at ≤ 512 ⌝ }
-    ensures { λ r. ⌜ now r ≡ textAt (now (s .entry)) at ⌝ }
-{
-    part(s, at + 1, wide(octet_in(s, at)) as usize)
-}
-
-// The octets in a SID's room, as many as their own count says.
-pub fn sid_in(b: &[u8]) -> &[u8]
-    ensures { λ r. ⌜ now r ≡ sidAt (now (b .entry)) ⌝ }
-{
-    part(b, 20, 8 + 4 * (wide(octet_in(b, 21)) as usize))
+    let format = format_of(kind);
+    let width = format.width;
+    part(image, offset as usize, width)
 }

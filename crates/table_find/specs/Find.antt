@@ -1,19 +1,23 @@
--- Document 01, "Choosing the answer": what is looked up in the table. Found or nothing; a record is never taken for a missing one.
+-- Document 01, "Choosing the answer": what is looked up in the table.
 use mathlib.Core.Bool.{Bool, _&&_}
 use mathlib.Core.List.{List, [], _∷_}
 use mathlib.Core.Option.{Option, none, some}
 use Prim.Native.Nat.{ℕ}
 use Rattle.octets.specs.Lists.{first, holds}
 use Rattle.octets.specs.Text.{same}
+use Rattle.table.specs.declared.Caller.{Caller}
 use Rattle.table.specs.declared.ContextNumber.{ContextNumber}
 use Rattle.table.specs.declared.SiteNumber.{SiteNumber}
-use Rattle.table.specs.Address.{sharePrefix}
-use Rattle.table.specs.Records.{Context, Account, Site, Subnet, sameContext, sameSite}
+use Rattle.table.specs.Account.{Account}
+use Rattle.table.specs.Address.{addressNumber, sharePrefix}
+use Rattle.table.specs.Context.{Context}
+use Rattle.table.specs.Countings.{sameContext, sameSite}
+use Rattle.table.specs.SameName.{sameDnsName, sameAccountName}
+use Rattle.table.specs.Site.{Site}
+use Rattle.table.specs.Subnet.{Subnet}
 use Rattle.table.specs.Table.{Table}
-use Rattle.table.specs.Whole.{sameDnsName, sameAccountName}
-pub mod Properties
 
--- the contexts that a ping's clauses are held against
+-- the contexts that are searched
 unfoldable pub contextsSearched : Table → List Context
 contextsSearched t = t .contexts
 
@@ -47,9 +51,13 @@ accountByName t n name = first (λ a. sameContext (a .context) n && sameAccountN
 unfoldable pub siteByNumber : Table → SiteNumber → Option Site
 siteByNumber t n = first (λ s. sameSite (s .number) n) (t .sites)
 
--- the subnet that decides: the first in table order that holds the client's address
-unfoldable pub subnetFor : Table → List ℕ → Option Subnet
-subnetFor t client = first (λ n. sharePrefix (n .prefix) client (n .address)) (t .subnets)
+-- a subnet holds the address that has this number
+unfoldable pub inSubnet : ℕ → Subnet → Bool
+inSubnet address n = sharePrefix (n .prefix) address (addressNumber (n .address))
+
+-- the subnet that decides: the first in table order that holds the caller's address
+unfoldable pub subnetFor : Table → Caller → Option Subnet
+subnetFor t caller = first (inSubnet (addressNumber (caller .address))) (t .subnets)
 
 -- the site of a number that may be none
 abbrev pub siteIfAny : Table → Option SiteNumber → Option Site
@@ -61,10 +69,10 @@ siteOfSubnet t none = none
 siteOfSubnet t (some n) = siteIfAny t (n .site)
 
 -- document 01's client site s: the only site, or that of the subnet that decides
-abbrev pub siteFor : Table → List ℕ → List Site → Option Site
-siteFor t client [] = none
-siteFor t client (s ∷ []) = some s
-siteFor t client (s ∷ r ∷ rest) = siteOfSubnet t (subnetFor t client)
+abbrev pub siteFor : Table → Caller → List Site → Option Site
+siteFor t caller [] = none
+siteFor t caller (s ∷ []) = some s
+siteFor t caller (s ∷ r ∷ rest) = siteOfSubnet t (subnetFor t caller)
 
-unfoldable pub clientSite : Table → List ℕ → Option Site
-clientSite t client = siteFor t client (t .sites)
+unfoldable pub clientSite : Table → Caller → Option Site
+clientSite t caller = siteFor t caller (t .sites)

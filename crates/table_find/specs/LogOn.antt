@@ -3,8 +3,9 @@ use mathlib.Core.Bool.{Bool, not, _&&_}
 use Prim.Native.Nat.{ℕ}
 use lib.Bits.{bitAnd}
 use Rattle.octets.specs.Number.{has}
-use Rattle.table.specs.Records.{Account}
+use Rattle.table.specs.Account.{Account}
+use Rattle.table.specs.Bits.{USER-ACCOUNT-DISABLED, accountKinds}
 
 -- an account is not disabled, and the allowed kinds meet its own
 unfoldable pub mayLogOn : ℕ → Account → Bool
-mayLogOn aac a = not (has (a .control) 0x1) && has (bitAnd aac (a .control)) 0x1D8
+mayLogOn aac a = not (has (a .control) USER-ACCOUNT-DISABLED) && has (bitAnd aac (a .control)) accountKinds

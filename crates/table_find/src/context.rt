@@ -1,73 +1,33 @@
-// A naming context by its body's octets.
+// What is asked of a naming context, by its record's octets.
 ghost use mathlib.Core.Path.{_≡_};
-ghost use lib.ListN.{length};
-ghost use Rattle.table.specs.Records.{contextOf, sameContext};
+ghost use Rattle.table.specs.Context.{contextOf};
+ghost use Rattle.table.specs.Countings.{sameContext};
 ghost use Rattle.table_find.specs.Find.{isNamedBy, holdsSid};
-use octets::number::u16_at;
-use octets::part::part;
-use octets::text::same_folded;
 use octets::text::same_octets;
 use table::ContextNumber;
-use table::record::sid_in;
-use table::record::text_in;
-
-pub fn context_number(body: &[u8]) -> ContextNumber
-    requires { ⌜ length (now body) ≡ 504 ⌝ }
-    ensures { λ r. ⌜ r ≡ contextOf (now (body .entry)) .number ⌝ }
-{
-    ContextNumber(u16_at(body, 0))
-}
-
-pub fn is_application(body: &[u8]) -> bool
-    requires { ⌜ length (now body) ≡ 504 ⌝ }
-    ensures { λ r. ⌜ r ≡ contextOf (now (body .entry)) .application ⌝ }
-{
-    body[2] == 1
-}
-
-pub fn context_guid(body: &[u8]) -> &[u8]
-    ensures { λ r. ⌜ now r ≡ contextOf (now (body .entry)) .guid ⌝ }
-{
-    part(body, 4, 16)
-}
-
-pub fn context_netbios(body: &[u8]) -> &[u8]
-    requires { ⌜ length (now body) ≡ 504 ⌝ }
-    ensures { λ r. ⌜ now r ≡ contextOf (now (body .entry)) .netbios ⌝ }
-{
-    text_in(body, 88)
-}
-
-pub fn context_dns_name(body: &[u8]) -> &[u8]
-    requires { ⌜ length (now body) ≡ 504 ⌝ }
-    ensures { λ r. ⌜ now r ≡ contextOf (now (body .entry)) .dns ⌝ }
-{
-    text_in(body, 104)
-}
+use table::context;
+use table::same_name::same_dns_name;
 
 // Whether the context has this SID; one without SID has none.
-pub fn holds_sid(body: &[u8], sid: &[u8]) -> bool
-    requires { ⌜ length (now body) ≡ 504 ⌝ }
-    ensures { λ r. ⌜ r ≡ holdsSid (now (sid .entry)) (contextOf (now (body .entry))) ⌝ }
+pub fn holds_sid(octets: &[u8], sid: &[u8]) -> bool
+    ensures { λ r. ⌜ r ≡ holdsSid (now (sid .entry)) (contextOf (now (octets .entry))) ⌝ }
 {
-    if body[3] != 1 {
+    if !context::has_sid(octets) {
         return false;
     }
-    same_octets(sid_in(body), sid)
+    same_octets(context::sid(octets), sid)
 }
 
 // Whether a DnsDomain value names the context.
-pub fn is_named_by(body: &[u8], asked: &[u8]) -> bool
-    requires { ⌜ length (now body) ≡ 504 ⌝ }
-    ensures { λ r. ⌜ r ≡ isNamedBy (now (asked .entry)) (contextOf (now (body .entry))) ⌝ }
+pub fn is_named_by(octets: &[u8], asked: &[u8]) -> bool
+    ensures { λ r. ⌜ r ≡ isNamedBy (now (asked .entry)) (contextOf (now (octets .entry))) ⌝ }
 {
-    same_folded(context_dns_name(body), asked)
+    same_dns_name(context::dns_name(octets), asked)
 }
 
-pub fn is_numbered(body: &[u8], asked: ContextNumber) -> bool
-    requires { ⌜ length (now body) ≡ 504 ⌝ }
-    ensures { λ r. ⌜ r ≡ sameContext (contextOf (now (body .entry)) .number) asked ⌝ }
+pub fn is_numbered(octets: &[u8], asked: ContextNumber) -> bool
+    ensures { λ r. ⌜ r ≡ sameContext (contextOf (now (octets .entry)) .number) asked ⌝ }
 {
-    let number = context_number(body);
+    let number = context::number(octets);
     number.0 == asked.0
 }

@@ -1,8 +1,6 @@
-// What is looked up in a table image that passed: document 01, "Choosing the answer". Records are lent as parts of the image.
+// How a record of a table image is found: document 01, "Choosing the answer".
 pub mod account;
 pub mod context;
-pub mod lookup;
 pub mod search;
-pub mod server;
 pub mod site;
 pub mod subnet;

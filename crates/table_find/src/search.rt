@@ -1,15 +1,17 @@
-// One search for every lookup: the first record that a key finds, block by block and record by record.
+// One search for every lookup: the first used record that a key finds, block by block and record by record.
 ghost use mathlib.Core.Path.{_≡_};
-ghost use Prim.Native.Nat.{_+_, _*_, _≤_, _<_, _/_};
+ghost use Prim.Native.Nat.{_+_, _≤_, _<_, _/_};
 ghost use lib.ListN.{length};
 ghost use Rattle.octets.specs.Lists.{cut};
-ghost use Rattle.table.specs.Table.{blockAt, blocksOf};
-ghost use Rattle.table.specs.Records.{contextOf, siteOf};
-ghost use Rattle.table_find.specs.Found.{recordAt, LiesIn};
-ghost use Rattle.table_find.specs.Key.{isContext, isSite, isRecord, isFoundBy, shapeOf, shapeOfRecord};
-ghost use Rattle.table_find.specs.Search.{firstInBody, firstInBlock, firstIn};
+ghost use Rattle.table.specs.Block.{blockSize, blockAt, blocksOf, bodySize};
+ghost use Rattle.table.specs.Context.{contextOf};
+ghost use Rattle.table.specs.Format.{formatOf};
+ghost use Rattle.table.specs.Site.{siteOf};
+ghost use Rattle.table_whole.specs.Judgement.{Accepted};
+ghost use Rattle.table_find.specs.Internal.Found.{recordFound, LiesIn};
+ghost use Rattle.table_find.specs.Internal.Key.{kindFor, isContext, isSite, isAskedFor, isFoundBy};
+ghost use Rattle.table_find.specs.Internal.Search.{firstInBody, firstInBlock, firstIn};
 use crate::account::is_account;
-use crate::context::context_guid;
 use crate::context::holds_sid;
 use crate::context::is_named_by;
 use crate::context::is_numbered;
@@ -18,12 +20,19 @@ use crate::subnet::holds_address;
 use octets::part::part;
 use octets::text::all_zero;
 use octets::text::same_octets;
+use table::BlockPlace;
 use table::ContextNumber;
 use table::SiteNumber;
+use table::block::BLOCK_SIZE;
+use table::block::BODY;
 use table::block::block_at;
 use table::block::kind_of;
+use table::context;
+use table::record::RecordFormat;
+use table::record::RecordKind;
+use table::record::format_of;
 
-// Where a record stands in the image, or nothing.
+// The offset of a record in the image, or nothing.
 pub enum Found {
     At(usize),
     Nothing,
@@ -43,74 +52,43 @@ pub enum SiteKey {
     OtherThan(SiteNumber),
 }
 
-// What a used record is looked up by. An account's name stands in the octets asked for; a subnet is asked for by an address that it holds.
-pub enum RecordKey {
+// What a record is looked up by. An account's name stands in the octets asked for; a subnet is asked for by an address that it holds.
+pub enum Key {
+    Context(ContextKey),
     Account(ContextNumber),
     Site(SiteKey),
     Subnet(u32),
 }
 
-pub enum Key {
-    Context(ContextKey),
-    Used(RecordKey),
-}
-
-// The kind of the blocks that hold such records, how many there are in a body and of how many octets.
-pub struct Shape {
-    pub kind: u8,
-    pub count: usize,
-    pub width: usize,
-}
-
-fn shape_of_record(key: RecordKey) -> Shape
-    ensures { λ r. ⌜ r ≡ shapeOfRecord key ⌝ }
+fn kind_for(key: Key) -> RecordKind
+    ensures { λ r. ⌜ r ≡ kindFor key ⌝ }
 {
     match key {
-        RecordKey::Account(_) => Shape {
-            kind: 4,
-            count: 6,
-            width: 84,
-        },
-        RecordKey::Site(_) => Shape {
-            kind: 5,
-            count: 7,
-            width: 72,
-        },
-        RecordKey::Subnet(_) => Shape {
-            kind: 6,
-            count: 42,
-            width: 12,
-        },
+        Key::Context(_) => RecordKind::Context,
+        Key::Account(_) => RecordKind::Account,
+        Key::Site(_) => RecordKind::Site,
+        Key::Subnet(_) => RecordKind::Subnet,
     }
 }
 
-fn shape_of(key: Key) -> Shape
-    ensures { λ r. ⌜ r ≡ shapeOf key ⌝ }
+fn format_for(key: Key) -> RecordFormat
+    ensures { λ r. ⌜ r ≡ formatOf (kindFor key) ⌝ }
 {
-    match key {
-        Key::Context(_) => Shape {
-            kind: 3,
-            count: 1,
-            width: 504,
-        },
-        Key::Used(k) => shape_of_record(k),
-    }
+    format_of(kind_for(key))
 }
 
-fn is_context(body: &[u8], key: ContextKey, asked: &[u8]) -> bool
-    requires { ⌜ length (now body) ≡ 504 ⌝ }
-    ensures { λ r. ⌜ r ≡ isContext key (now (asked .entry)) (contextOf (now (body .entry))) ⌝ }
+fn is_context(octets: &[u8], key: ContextKey, asked: &[u8]) -> bool
+    ensures { λ r. ⌜ r ≡ isContext key (now (asked .entry)) (contextOf (now (octets .entry))) ⌝ }
 {
     match key {
-        ContextKey::Number(n) => is_numbered(body, n),
-        ContextKey::Guid => same_octets(context_guid(body), asked),
-        ContextKey::DnsName => is_named_by(body, asked),
-        ContextKey::Sid => holds_sid(body, asked),
+        ContextKey::Number(n) => is_numbered(octets, n),
+        ContextKey::Guid => same_octets(context::guid(octets), asked),
+        ContextKey::DnsName => is_named_by(octets, asked),
+        ContextKey::Sid => holds_sid(octets, asked),
     }
 }
 
 fn is_site(octets: &[u8], key: SiteKey) -> bool
-    requires { ⌜ length (now octets) ≡ 72 ⌝ }
     ensures { λ r. ⌜ r ≡ isSite key (siteOf (now (octets .entry))) ⌝ }
 {
     match key {
@@ -120,76 +98,73 @@ fn is_site(octets: &[u8], key: SiteKey) -> bool
     }
 }
 
-fn is_record(octets: &[u8], key: RecordKey, asked: &[u8]) -> bool
-    requires { ⌜ length (now octets) ≡ shapeOfRecord key .width ⌝ }
-    ensures { λ r. ⌜ r ≡ isRecord key (now (asked .entry)) (now (octets .entry)) ⌝ }
-{
-    match key {
-        RecordKey::Account(n) => is_account(octets, n, asked),
-        RecordKey::Site(k) => is_site(octets, k),
-        RecordKey::Subnet(address) => holds_address(octets, address),
-    }
-}
-
-fn is_found_by(octets: &[u8], key: Key, asked: &[u8]) -> bool
-    requires { ⌜ length (now octets) ≡ shapeOf key .width ⌝ }
-    ensures { λ r. ⌜ r ≡ isFoundBy key (now (asked .entry)) (now (octets .entry)) ⌝ }
+fn is_asked_for(octets: &[u8], key: Key, asked: &[u8]) -> bool
+    ensures { λ r. ⌜ r ≡ isAskedFor key (now (asked .entry)) (now (octets .entry)) ⌝ }
 {
     match key {
         Key::Context(k) => is_context(octets, k, asked),
-        Key::Used(k) => {
-            if all_zero(octets) {
-                return false;
-            }
-            is_record(octets, k, asked)
-        }
+        Key::Account(n) => is_account(octets, n, asked),
+        Key::Site(k) => is_site(octets, k),
+        Key::Subnet(address) => holds_address(octets, address),
     }
 }
 
-// The first record of a body that the key finds.
-fn first_in_body(image: &[u8], body: usize, key: Key, asked: &[u8]) -> Found
-    requires { ⌜ body + 504 ≤ length (now image) ⌝ }
-    ensures { λ r. ⌜ recordAt (now (image .entry)) (shapeOf key .width) r ≡ firstInBody key (now (asked .entry)) (cut (now (image .entry)) body 504) ⌝ }
-    ensures { λ r. ⌜ LiesIn (now (image .entry)) (shapeOf key .width) r ⌝ }
+// An unused record is found by no key.
+fn is_found_by(octets: &[u8], key: Key, asked: &[u8]) -> bool
+    ensures { λ r. ⌜ r ≡ isFoundBy key (now (asked .entry)) (now (octets .entry)) ⌝ }
 {
-    let shape = shape_of(key);
-    let width = shape.width;
-    let mut left = shape.count;
-    let mut at = body;
+    if all_zero(octets) {
+        return false;
+    }
+    is_asked_for(octets, key, asked)
+}
+
+// The first record that the key finds in the body at an offset.
+fn first_in_body(image: &[u8], body: usize, key: Key, asked: &[u8]) -> Found
+    requires { ⌜ body + bodySize ≤ length (now image) ⌝ }
+    ensures { λ r. ⌜ recordFound (now (image .entry)) (kindFor key) r ≡ firstInBody key (now (asked .entry)) (cut (now (image .entry)) body bodySize) ⌝ }
+    ensures { λ r. ⌜ LiesIn (now (image .entry)) (kindFor key) r ⌝ }
+{
+    let format = format_for(key);
+    let width = format.width;
+    let mut left = format.count;
+    let mut offset = body;
     while 0 < left {
-        if is_found_by(part(image, at, width), key, asked) {
-            return Found::At(at);
+        if is_found_by(part(image, offset, width), key, asked) {
+            return Found::At(offset);
         }
-        at += width;
+        offset += width;
         left -= 1;
     }
     Found::Nothing
 }
 
-// The first record of a block that the key finds; a block of another kind has none.
-fn first_in_block(image: &[u8], place: usize, key: Key, asked: &[u8]) -> Found
-    requires { ⌜ (place < length (now image) / 512) × (length (now image) ≤ 65536) ⌝ }
-    ensures { λ r. ⌜ recordAt (now (image .entry)) (shapeOf key .width) r ≡ firstInBlock key (now (asked .entry)) (blockAt (now (image .entry)) place) ⌝ }
-    ensures { λ r. ⌜ LiesIn (now (image .entry)) (shapeOf key .width) r ⌝ }
+// The first record that the key finds in the block at a place; a block of another kind has none.
+fn first_in_block(image: &[u8], place: BlockPlace, key: Key, asked: &[u8]) -> Found
+    requires { ⌜ place .0 < length (now image) / blockSize ⌝ }
+    ensures { λ r. ⌜ recordFound (now (image .entry)) (kindFor key) r ≡ firstInBlock key (now (asked .entry)) (blockAt (now (image .entry)) place) ⌝ }
+    ensures { λ r. ⌜ LiesIn (now (image .entry)) (kindFor key) r ⌝ }
 {
-    let shape = shape_of(key);
-    if kind_of(block_at(image, place)) != shape.kind {
+    let format = format_for(key);
+    if kind_of(block_at(image, place)) != format.kind {
         return Found::Nothing;
     }
-    first_in_body(image, 512 * place + 4, key, asked)
+    let block = BLOCK_SIZE * (place.0 as usize);
+    first_in_body(image, block + BODY, key, asked)
 }
 
 // The first record of an image that the key finds.
 pub fn first_record(image: &[u8], key: Key, asked: &[u8]) -> Found
-    requires { ⌜ length (now image) ≤ 65536 ⌝ }
-    ensures { λ r. ⌜ recordAt (now (image .entry)) (shapeOf key .width) r ≡ firstIn key (now (asked .entry)) (blocksOf (now (image .entry))) ⌝ }
-    ensures { λ r. ⌜ LiesIn (now (image .entry)) (shapeOf key .width) r ⌝ }
+    requires { ⌜ Accepted (now image) ⌝ }
+    ensures { λ r. ⌜ recordFound (now (image .entry)) (kindFor key) r ≡ firstIn key (now (asked .entry)) (blocksOf (now (image .entry))) ⌝ }
+    ensures { λ r. ⌜ LiesIn (now (image .entry)) (kindFor key) r ⌝ }
 {
-    let mut place = 0;
-    while place < image.len() / 512 {
-        match first_in_block(image, place, key, asked) {
-            Found::At(at) => return Found::At(at),
-            Found::Nothing => place += 1,
+    let blocks = image.len() / BLOCK_SIZE;
+    let mut i = 0;
+    while i < blocks {
+        match first_in_block(image, BlockPlace(i as u16), key, asked) {
+            Found::At(offset) => return Found::At(offset),
+            Found::Nothing => i += 1,
         }
     }
     Found::Nothing

@@ -1,6 +1,3 @@
-pub mod Place
-pub mod Mark
-pub mod Refer
-pub mod Alike
-pub mod Half
-pub mod BlockRule
+pub mod Whole
+pub mod Judgement
+pub mod Internal

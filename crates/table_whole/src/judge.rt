@@ -1,42 +1,41 @@
 // An image judged: 1 to 4 in order, each over the whole image once the earlier ones passed.
 ghost use mathlib.Core.Path.{_≡_};
-ghost use Prim.Native.Nat.{_≤_};
-ghost use lib.ListN.{length};
-ghost use Rattle.table.specs.Judgement.{goodLength, tableIn, judgedAs};
-ghost use Rattle.table.specs.Table.{blocksOf};
-ghost use Rattle.table_whole.specs.BlockRule.{blocksPass};
+ghost use Rattle.table_whole.specs.Judgement.{goodLength, tableIn, judgedAs, judgementNumber};
 use crate::whole::good_whole;
 use answers::Refusal;
-use table::Judgement;
-use table::check::good_checks;
-use table::layout::good_layouts;
+use answers::number_of;
+use table::block::BLOCK_SIZE;
+use table::block::IMAGE_LEAST;
+use table::block::IMAGE_MOST;
+use table_check::check::good_checks;
+use table_layout::layout::good_layouts;
 
 // A multiple of 512 from 1,024 to 65,536.
 fn has_good_length(image: &[u8]) -> bool
     ensures { λ r. ⌜ r ≡ goodLength (now (image .entry)) ⌝ }
 {
-    if image.len() < 1024 {
+    if image.len() < IMAGE_LEAST {
         return false;
     }
-    if 65536 < image.len() {
+    if IMAGE_MOST < image.len() {
         return false;
     }
-    image.len() % 512 == 0
+    image.len() % BLOCK_SIZE == 0
 }
 
-// What is judged of every block: first the checks of all, then the layouts of all.
-pub enum BlockRule {
-    Checks,
-    Layouts,
+// What judging an image gives: 0, or 1 to 4.
+pub enum Judgement {
+    Passed,
+    Refused(Refusal),
 }
 
-fn blocks_pass(image: &[u8], rule: BlockRule) -> bool
-    requires { ⌜ length (now image) ≤ 65536 ⌝ }
-    ensures { λ r. ⌜ r ≡ blocksPass rule (blocksOf (now (image .entry))) ⌝ }
+// Document 01's number of it.
+pub fn judgement_number(judgement: Judgement) -> u8
+    ensures { λ r. ⌜ r ≡ judgementNumber judgement ⌝ }
 {
-    match rule {
-        BlockRule::Checks => good_checks(image),
-        BlockRule::Layouts => good_layouts(image),
+    match judgement {
+        Judgement::Passed => 0,
+        Judgement::Refused(r) => number_of(r),
     }
 }
 
@@ -46,10 +45,10 @@ pub fn judge(image: &[u8]) -> Judgement
     if !has_good_length(image) {
         return Judgement::Refused(Refusal::ImageLength);
     }
-    if !blocks_pass(image, BlockRule::Checks) {
+    if !good_checks(image) {
         return Judgement::Refused(Refusal::BlockCheck);
     }
-    if !blocks_pass(image, BlockRule::Layouts) {
+    if !good_layouts(image) {
         return Judgement::Refused(Refusal::BlockLayout);
     }
     if !good_whole(image) {

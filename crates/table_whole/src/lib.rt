@@ -1,7 +1,3 @@
 // The table as a whole, and an image judged: document 01, "As a whole" and answer numbers 1 to 4.
-pub mod alike;
 pub mod judge;
-pub mod mark;
-pub mod place;
-pub mod refer;
 pub mod whole;

@@ -1,81 +1,78 @@
 // The table as a whole: contexts with their accounts, then sites with their subnets.
 ghost use mathlib.Core.Path.{_≡_};
 ghost use Prim.Native.Nat.{_≤_};
+ghost use Rattle.table.specs.Block.{blockSize, imageMost};
 ghost use lib.ListN.{length};
-ghost use Rattle.table.specs.Table.{blocksOf, tableOf, bodies, recordsOf};
-ghost use Rattle.table.specs.Whole.{goodWhole};
-ghost use Rattle.table_whole.specs.Place.{recordsAt};
-ghost use Rattle.table_whole.specs.Half.{ContextMarks, SiteMarks, serverNumber, goodAccounts, goodContexts, goodSubnets, goodSites, contextHalf, siteHalf};
-use crate::alike::Likeness;
-use crate::alike::all_apart;
-use crate::mark::has_context;
-use crate::mark::has_site;
-use crate::mark::mark_numbers;
-use crate::place::places_of;
-use crate::refer::Reference;
-use crate::refer::all_refer;
-use table::ContextNumber;
-use table::SiteNumber;
-use table::block::block_at;
-use table::block::body_of;
-use table::record::number_in;
+ghost use Rattle.table.specs.Table.{tableFrom};
+ghost use Rattle.table.specs.declared.record.RecordKind.the-variants as kind;
+ghost use Rattle.table_whole.specs.Whole.{goodWhole};
+ghost use Rattle.table_whole.specs.Internal.Half.{AllOf, SiteMarks, goodAccounts, goodContexts, goodSubnets, goodReferences, goodSites, contextHalf, siteHalf};
+use table::account;
+use table::block::BLOCKS_MOST;
+use table::context;
+use table::record::RecordKind;
+use table::server;
+use table::site;
+use table::subnet;
+use table_records::alike::Likeness;
+use table_records::alike::all_unique;
+use table_records::offset::offsets_of;
+use table_refer::mark::MARKS_SIZE;
+use table_refer::mark::is_marked;
+use table_refer::mark::mark_sites;
+use table_refer::refer::Referrer;
+use table_refer::refer::all_refer;
+use table_refer::refer::are_in_contexts;
+use table_refer::refer::has_context;
+use table_sort::unique::are_accounts_unique;
 
-// A number of the server's block.
-fn server_number(image: &[u8], at: usize) -> u16
-    requires { ⌜ (512 ≤ length (now image)) × (at ≤ 512) ⌝ }
-    ensures { λ r. ⌜ r ≡ serverNumber (blocksOf (now (image .entry))) at ⌝ }
+// Of each kind, as many records as the most blocks hold.
+const CONTEXTS_MOST: usize = context::FORMAT.count * BLOCKS_MOST;
+
+const ACCOUNTS_MOST: usize = account::FORMAT.count * BLOCKS_MOST;
+
+const SITES_MOST: usize = site::FORMAT.count * BLOCKS_MOST;
+
+const SUBNETS_MOST: usize = subnet::FORMAT.count * BLOCKS_MOST;
+
+// The accounts: each one's context exists, and no two of a context have one name.
+fn are_accounts_good(image: &[u8], accounts: &mut [u16], contexts: &[u16]) -> bool
+    requires { ⌜ AllOf kind.Account (now image) (now accounts) × AllOf kind.Context (now image) (now contexts) ⌝ }
+    ensures { λ r. ⌜ r ≡ goodAccounts (tableFrom (now (image .entry))) ⌝ }
 {
-    number_in(body_of(block_at(image, 0)), at)
+    are_in_contexts(image, accounts, contexts) & are_accounts_unique(image, accounts)
 }
 
-// The accounts at places: each one's context exists, and no two of a context have one name.
-fn are_accounts_good(image: &[u8], accounts: &[usize], marks: &[bool]) -> bool
-    requires { ⌜ recordsAt (now image) 84 (now accounts) ≡ recordsOf 4 6 84 (blocksOf (now image)) ⌝ }
-    requires { ⌜ ContextMarks (now marks) (tableOf (blocksOf (now image))) ⌝ }
-    ensures { λ r. ⌜ r ≡ goodAccounts (tableOf (blocksOf (now (image .entry)))) ⌝ }
+fn good_accounts_of(image: &[u8], contexts: &[u16]) -> bool
+    requires { ⌜ (length (now image) ≤ imageMost) × AllOf kind.Context (now image) (now contexts) ⌝ }
+    ensures { λ r. ⌜ r ≡ goodAccounts (tableFrom (now (image .entry))) ⌝ }
 {
-    if !all_refer(image, accounts, 84, Reference::AccountContext, marks) {
-        return false;
-    }
-    all_apart(image, accounts, 84, Likeness::Accounts)
+    let mut accounts: [u16; ACCOUNTS_MOST] = [0; ACCOUNTS_MOST];
+    let count = offsets_of(image, RecordKind::Account, &mut accounts);
+    are_accounts_good(image, &mut accounts[..count], contexts)
 }
 
-fn good_accounts_of(image: &[u8], marks: &[bool]) -> bool
-    requires { ⌜ length (now image) ≤ 65536 ⌝ }
-    requires { ⌜ ContextMarks (now marks) (tableOf (blocksOf (now image))) ⌝ }
-    ensures { λ r. ⌜ r ≡ goodAccounts (tableOf (blocksOf (now (image .entry)))) ⌝ }
+// No two contexts have one number, GUID, SID or DNS name, the default one exists, and their accounts are good.
+fn are_contexts_good(image: &[u8], contexts: &[u16]) -> bool
+    requires { ⌜ (blockSize ≤ length (now image)) × (length (now image) ≤ imageMost) × AllOf kind.Context (now image) (now contexts) ⌝ }
+    ensures { λ r. ⌜ r ≡ goodContexts (tableFrom (now (image .entry))) ⌝ }
 {
-    let mut accounts: [usize; 768] = [0; 768];
-    let count = places_of(image, 4, 6, 84, false, &mut accounts);
-    are_accounts_good(image, &accounts[..count], marks)
-}
-
-// The contexts at places: no two have one number, GUID, SID or DNS name, the default one exists, and their accounts are good.
-fn are_contexts_good(image: &[u8], contexts: &[usize]) -> bool
-    requires { ⌜ (512 ≤ length (now image)) × (length (now image) ≤ 65536) ⌝ }
-    requires { ⌜ recordsAt (now image) 504 (now contexts) ≡ bodies 3 (blocksOf (now image)) ⌝ }
-    ensures { λ r. ⌜ r ≡ goodContexts (tableOf (blocksOf (now (image .entry)))) ⌝ }
-{
-    let mut marks = [false; 65536];
-    if !mark_numbers(image, contexts, 504, &mut marks) {
-        return false;
-    }
-    if !all_apart(image, contexts, 504, Likeness::Contexts) {
-        return false;
-    }
-    if !has_context(&marks, ContextNumber(server_number(image, 14))) {
-        return false;
-    }
-    good_accounts_of(image, &marks)
+    all_unique(image, contexts, Likeness::Contexts)
+        & has_context(
+            image,
+            contexts,
+            server::default_context(server::server_of(image)),
+        )
+        & good_accounts_of(image, contexts)
 }
 
 // 1 to 16 contexts, and what is said of them; no pair is compared where there are more.
 fn is_context_half_good(image: &[u8]) -> bool
-    requires { ⌜ (512 ≤ length (now image)) × (length (now image) ≤ 65536) ⌝ }
-    ensures { λ r. ⌜ r ≡ contextHalf (tableOf (blocksOf (now (image .entry)))) ⌝ }
+    requires { ⌜ (blockSize ≤ length (now image)) × (length (now image) ≤ imageMost) ⌝ }
+    ensures { λ r. ⌜ r ≡ contextHalf (tableFrom (now (image .entry))) ⌝ }
 {
-    let mut contexts: [usize; 128] = [0; 128];
-    let count = places_of(image, 3, 1, 504, true, &mut contexts);
+    let mut contexts: [u16; CONTEXTS_MOST] = [0; CONTEXTS_MOST];
+    let count = offsets_of(image, RecordKind::Context, &mut contexts);
     if count == 0 {
         return false;
     }
@@ -85,41 +82,44 @@ fn is_context_half_good(image: &[u8]) -> bool
     are_contexts_good(image, &contexts[..count])
 }
 
-fn good_subnets_of(image: &[u8], marks: &[bool]) -> bool
-    requires { ⌜ length (now image) ≤ 65536 ⌝ }
-    requires { ⌜ SiteMarks (now marks) (tableOf (blocksOf (now image))) ⌝ }
-    ensures { λ r. ⌜ r ≡ goodSubnets (tableOf (blocksOf (now (image .entry)))) ⌝ }
+fn good_subnets_of(image: &[u8], marks: &[u8]) -> bool
+    requires { ⌜ (length (now image) ≤ imageMost) × SiteMarks (now marks) (tableFrom (now image)) ⌝ }
+    ensures { λ r. ⌜ r ≡ goodSubnets (tableFrom (now (image .entry))) ⌝ }
 {
-    let mut subnets: [usize; 5376] = [0; 5376];
-    let count = places_of(image, 6, 42, 12, false, &mut subnets);
-    all_refer(image, &subnets[..count], 12, Reference::SubnetSite, marks)
+    let mut subnets: [u16; SUBNETS_MOST] = [0; SUBNETS_MOST];
+    let count = offsets_of(image, RecordKind::Subnet, &mut subnets);
+    all_refer(image, &subnets[..count], Referrer::Subnet, marks)
 }
 
-// The sites at places: no two have one number, the server's own exists, each next closest one exists and is another, and subnets refer rightly.
-fn are_sites_good(image: &[u8], sites: &[usize]) -> bool
-    requires { ⌜ (512 ≤ length (now image)) × (length (now image) ≤ 65536) ⌝ }
-    requires { ⌜ recordsAt (now image) 72 (now sites) ≡ recordsOf 5 7 72 (blocksOf (now image)) ⌝ }
-    ensures { λ r. ⌜ r ≡ goodSites (tableOf (blocksOf (now (image .entry)))) ⌝ }
+// The server's own site exists, each next closest one exists and is another, and subnets refer rightly.
+fn are_sites_referred(image: &[u8], sites: &[u16], marks: &[u8]) -> bool
+    requires { ⌜ (blockSize ≤ length (now image)) × (length (now image) ≤ imageMost) ⌝ }
+    requires { ⌜ AllOf kind.Site (now image) (now sites) × SiteMarks (now marks) (tableFrom (now image)) ⌝ }
+    ensures { λ r. ⌜ r ≡ goodReferences (tableFrom (now (image .entry))) ⌝ }
 {
-    let mut marks = [false; 65536];
-    if !mark_numbers(image, sites, 72, &mut marks) {
+    is_marked(marks, server::own_site(server::server_of(image)))
+        & all_refer(image, sites, Referrer::Site, marks)
+        & good_subnets_of(image, marks)
+}
+
+// No two sites have one number, and what refers to them does so rightly.
+fn are_sites_good(image: &[u8], sites: &[u16]) -> bool
+    requires { ⌜ (blockSize ≤ length (now image)) × (length (now image) ≤ imageMost) × AllOf kind.Site (now image) (now sites) ⌝ }
+    ensures { λ r. ⌜ r ≡ goodSites (tableFrom (now (image .entry))) ⌝ }
+{
+    let mut marks = [0u8; MARKS_SIZE];
+    if !mark_sites(image, sites, &mut marks) {
         return false;
     }
-    if !has_site(&marks, SiteNumber(server_number(image, 12))) {
-        return false;
-    }
-    if !all_refer(image, sites, 72, Reference::NextSite, &marks) {
-        return false;
-    }
-    good_subnets_of(image, &marks)
+    are_sites_referred(image, sites, &marks)
 }
 
 fn is_site_half_good(image: &[u8]) -> bool
-    requires { ⌜ (512 ≤ length (now image)) × (length (now image) ≤ 65536) ⌝ }
-    ensures { λ r. ⌜ r ≡ siteHalf (tableOf (blocksOf (now (image .entry)))) ⌝ }
+    requires { ⌜ (blockSize ≤ length (now image)) × (length (now image) ≤ imageMost) ⌝ }
+    ensures { λ r. ⌜ r ≡ siteHalf (tableFrom (now (image .entry))) ⌝ }
 {
-    let mut sites: [usize; 896] = [0; 896];
-    let count = places_of(image, 5, 7, 72, false, &mut sites);
+    let mut sites: [u16; SITES_MOST] = [0; SITES_MOST];
+    let count = offsets_of(image, RecordKind::Site, &mut sites);
     if count == 0 {
         return false;
     }
@@ -128,8 +128,8 @@ fn is_site_half_good(image: &[u8]) -> bool
 
 // Whether the table is good as a whole, for an image of a whole block at least.
 pub fn good_whole(image: &[u8]) -> bool
-    requires { ⌜ (512 ≤ length (now image)) × (length (now image) ≤ 65536) ⌝ }
-    ensures { λ r. ⌜ r ≡ goodWhole (tableOf (blocksOf (now (image .entry)))) ⌝ }
+    requires { ⌜ (blockSize ≤ length (now image)) × (length (now image) ≤ imageMost) ⌝ }
+    ensures { λ r. ⌜ r ≡ goodWhole (tableFrom (now (image .entry))) ⌝ }
 {
     if !is_context_half_good(image) {
         return false;

@@ -1,23 +1,16 @@
 // The answer to one request line.
-ghost use mathlib.Core.Path.{_≡_};
-ghost use Rattle.filter.specs.Taken.{numberOf as takenNumber};
-ghost use Rattle.table.specs.Judgement.{numberOf};
+use crate::filter_lines::answer_filter;
+use crate::filter_lines::answer_values;
 use crate::parse::decode;
 use crate::parse::is_octets;
 use crate::parse::space_count;
 use crate::parse::word;
 use crate::say::say;
-use crate::say::say_hex;
 use crate::say::say_number;
 use crate::say::say_unknown;
 use crate::write::answer_write;
-use answers::number_of;
-use filter::Clause;
-use filter::Request;
-use filter::Taken;
 use octets::part::part;
 use octets::text::same_octets;
-use table::Judgement;
 
 // The longest line that is read, without its LF.
 const LONGEST: usize = 140100;
@@ -29,7 +22,7 @@ fn answer_check(text: &[u8]) {
     }
     let mut block = [0u8; 508];
     decode(text, &mut block);
-    let check = table::check::check_of(&block);
+    let check = table_check::check::check_of(&block);
     say(b"check ");
     say_number(check.a as u64);
     say(b" ");
@@ -37,76 +30,11 @@ fn answer_check(text: &[u8]) {
     say(b"\n");
 }
 
-fn judgement_number(judgement: Judgement) -> u8
-    ensures { λ r. ⌜ r ≡ numberOf judgement ⌝ }
-{
-    match judgement {
-        Judgement::Passed => 0,
-        Judgement::Refused(r) => number_of(r),
-    }
-}
-
 fn answer_table(text: &[u8], space: &mut [u8]) {
     let n = decode(text, space);
     let judgement = table_whole::judge::judge(part(space, 0, n));
     say(b"table ");
-    say_number(judgement_number(judgement) as u64);
-    say(b"\n");
-}
-
-fn say_clause(filter: &[u8], clause: Clause) {
-    match clause {
-        Clause::Absent => say(b" ."),
-        Clause::Present { start, len } => {
-            say(b" =");
-            say_hex(part(filter, start, len));
-        }
-    }
-}
-
-fn say_request(filter: &[u8], r: Request) {
-    let dns_domain = r.dns_domain;
-    say_clause(filter, dns_domain);
-    let host = r.host;
-    say_clause(filter, host);
-    let dns_host_name = r.dns_host_name;
-    say_clause(filter, dns_host_name);
-    let user = r.user;
-    say_clause(filter, user);
-    let aac = r.aac;
-    say_clause(filter, aac);
-    let domain_sid = r.domain_sid;
-    say_clause(filter, domain_sid);
-    let domain_guid = r.domain_guid;
-    say_clause(filter, domain_guid);
-    let nt_ver = r.nt_ver;
-    say_clause(filter, nt_ver);
-}
-
-fn taken_number(taken: Taken) -> u8
-    ensures { λ r. ⌜ r ≡ takenNumber taken ⌝ }
-{
-    match taken {
-        Taken::Request(_) => 0,
-        Taken::Refused(r) => number_of(r),
-    }
-}
-
-// The clauses of a refused filter are all absent.
-fn say_clauses(filter: &[u8], taken: Taken) {
-    match taken {
-        Taken::Request(r) => say_request(filter, r),
-        Taken::Refused(_) => say(b" . . . . . . . ."),
-    }
-}
-
-fn answer_filter(text: &[u8], space: &mut [u8]) {
-    let n = decode(text, space);
-    let filter = part(space, 0, n);
-    let taken = filter::take_apart(filter);
-    say(b"filter ");
-    say_number(taken_number(taken) as u64);
-    say_clauses(filter, taken);
+    say_number(table_whole::judge::judgement_number(judgement) as u64);
     say(b"\n");
 }
 
@@ -126,6 +54,10 @@ fn answer_octets(kind: &[u8], text: &[u8], space: &mut [u8]) {
     }
     if same_octets(kind, b"filter") {
         answer_filter(text, space);
+        return;
+    }
+    if same_octets(kind, b"values") {
+        answer_values(text, space);
         return;
     }
     say_unknown();

@@ -1,8 +1,7 @@
 // Words and octets of a request line.
-ghost use mathlib.Core.Path.{_≡_};
 ghost use Prim.Native.Nat.{_≤_, _<_};
 ghost use lib.ListN.{length};
-ghost use Rattle.vectors.specs.Bounds.{Small};
+ghost use Rattle.vectors.specs.Internal.Bounds.{Small};
 
 // The value of a lowercase hex digit.
 pub enum Digit {
@@ -114,7 +113,7 @@ pub fn space_count(line: &[u8]) -> usize {
     n
 }
 
-// Where the word of a number starts, from 0; behind its last word a line has nothing but its end.
+// Where the word of a number starts, from 0; after its last word a line has nothing but its end.
 pub fn word_start(line: &[u8], number: usize) -> usize
     ensures { λ r. ⌜ r ≤ length (now (line .entry)) ⌝ }
 {

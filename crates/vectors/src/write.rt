@@ -1,6 +1,6 @@
 // `write` lines: a filter is written from eight clauses.
 ghost use mathlib.Core.Path.{_≡_};
-ghost use Rattle.filter.specs.Write.{numberOf, lengthOf};
+ghost use Rattle.filter_write.specs.Write.{writtenNumber, writtenLength};
 ghost use lib.ListN.{length};
 use crate::parse::Decimal;
 use crate::parse::decimal_of;
@@ -13,17 +13,26 @@ use crate::say::say_number;
 use crate::say::say_octets;
 use crate::say::say_unknown;
 use answers::number_of;
-use filter::Clause;
-use filter::Request;
-use filter::Written;
+use filter::request::CLAUSE_COUNT;
+use filter::request::Clause;
+use filter::request::Request;
+use filter::request::clause_name_at;
+use filter::request::no_clauses;
+use filter_write::write::Written;
+use filter_write::write::write_filter;
 
 // The most room that a line may lend.
 const MOST_ROOM: u64 = 4096;
 
-// The eight words behind the room stand for clauses.
+// The words of the clauses: the first, and the one after the last.
+const FIRST_CLAUSE: usize = 2;
+
+const CLAUSES_END: usize = 10;
+
+// The words after the room stand for clauses.
 fn has_clauses(line: &[u8]) -> bool {
-    let mut number = 2;
-    while number < 10 {
+    let mut number = FIRST_CLAUSE;
+    while number < CLAUSES_END {
         if !is_clause(word(line, number)) {
             return false;
         }
@@ -33,7 +42,7 @@ fn has_clauses(line: &[u8]) -> bool {
 }
 
 // Puts a clause's octets into the source where its word stands in the line: they take half as much room, so no two meet.
-fn place_clause(line: &[u8], number: usize, source: &mut [u8]) {
+fn copy_clause(line: &[u8], number: usize, source: &mut [u8]) {
     let start = word_start(line, number);
     let text = word(line, number);
     if text.len() == 0 {
@@ -45,10 +54,10 @@ fn place_clause(line: &[u8], number: usize, source: &mut [u8]) {
     decode(&text[1..], &mut source[start..]);
 }
 
-fn place_clauses(line: &[u8], source: &mut [u8]) {
-    let mut number = 2;
-    while number < 10 {
-        place_clause(line, number, source);
+fn copy_clauses(line: &[u8], source: &mut [u8]) {
+    let mut number = FIRST_CLAUSE;
+    while number < CLAUSES_END {
+        copy_clause(line, number, source);
         number += 1;
     }
 }
@@ -67,21 +76,19 @@ fn clause_at(line: &[u8], number: usize) -> Clause {
     }
 }
 
+// The clauses of a line, in document 01's order.
 fn request_of(line: &[u8]) -> Request {
-    Request {
-        dns_domain: clause_at(line, 2),
-        host: clause_at(line, 3),
-        dns_host_name: clause_at(line, 4),
-        user: clause_at(line, 5),
-        aac: clause_at(line, 6),
-        domain_sid: clause_at(line, 7),
-        domain_guid: clause_at(line, 8),
-        nt_ver: clause_at(line, 9),
+    let mut request = no_clauses();
+    let mut i = 0;
+    while i < CLAUSE_COUNT {
+        request = request.with(clause_name_at(i), clause_at(line, FIRST_CLAUSE + i));
+        i += 1;
     }
+    request
 }
 
 fn written_number(written: Written) -> u8
-    ensures { λ r. ⌜ r ≡ numberOf written ⌝ }
+    ensures { λ r. ⌜ r ≡ writtenNumber written ⌝ }
 {
     match written {
         Written::Length(_) => 0,
@@ -90,7 +97,7 @@ fn written_number(written: Written) -> u8
 }
 
 fn written_length(written: Written) -> usize
-    ensures { λ r. ⌜ r ≡ lengthOf written ⌝ }
+    ensures { λ r. ⌜ r ≡ writtenLength written ⌝ }
 {
     match written {
         Written::Length(n) => n,
@@ -99,7 +106,7 @@ fn written_length(written: Written) -> usize
 }
 
 fn write_into(line: &[u8], source: &[u8], out: &mut [u8]) {
-    let written = filter_write::write_filter(source, request_of(line), out);
+    let written = write_filter(source, request_of(line), out);
     say(b"write ");
     say_number(written_number(written) as u64);
     say(b" ");
@@ -129,7 +136,7 @@ pub fn answer_write(line: &[u8], space: &mut [u8]) {
         say_unknown();
         return;
     }
-    place_clauses(line, space);
+    copy_clauses(line, space);
     let mut out = filled();
     let end = room as usize;
     write_into(line, space, &mut out[..end]);

@@ -1,23 +1,12 @@
 //! Filter lines: shapes, lengths, nesting, names, and octets that are no filter.
 
 use super::chance::Chance;
+use super::elements::{
+    and, element, element_with, equality, nested, version_6, LengthForm, AND, EQUALITY, LENGTH_FORMS, STRING,
+};
 use super::requests::{Asked, Requests};
 use super::sample::random_case;
 use crate::filter::ClauseName;
-
-const AND: u8 = 0xA0;
-const EQUALITY: u8 = 0xA3;
-const STRING: u8 = 0x04;
-
-/// How a length is spelled, whether or not it could be shorter.
-#[derive(Clone, Copy)]
-enum LengthForm {
-    One,
-    Two,
-    Three,
-}
-
-const LENGTH_FORMS: [LengthForm; 3] = [LengthForm::One, LengthForm::Two, LengthForm::Three];
 
 pub fn add_all(requests: &mut Requests, chance: &mut Chance) {
     add_names(requests, chance);
@@ -26,49 +15,12 @@ pub fn add_all(requests: &mut Requests, chance: &mut Chance) {
     add_length_forms(requests);
     add_wrong_lengths(requests);
     add_wrong_tags(requests);
-    add_doubles(requests);
+    add_duplicates(requests);
     add_orders(requests);
     add_longest(requests);
     add_truncated(requests);
     add_mutated(requests, chance);
     add_random(requests, chance);
-}
-
-fn element_with(tag: u8, form: LengthForm, content: &[u8]) -> Vec<u8> {
-    let length = content.len();
-    let mut octets = vec![tag];
-    match form {
-        LengthForm::One => octets.push(length as u8),
-        LengthForm::Two => octets.extend([0x81, length as u8]),
-        LengthForm::Three => octets.extend([0x82, (length >> 8) as u8, length as u8]),
-    }
-    octets.extend(content);
-    octets
-}
-
-fn element(tag: u8, content: &[u8]) -> Vec<u8> {
-    let form = match content.len() {
-        0..=0x7F => LengthForm::One,
-        0x80..=0xFF => LengthForm::Two,
-        _ => LengthForm::Three,
-    };
-    element_with(tag, form, content)
-}
-
-fn and(children: &[Vec<u8>]) -> Vec<u8> {
-    element(AND, &children.concat())
-}
-
-fn equality(name: &[u8], value: &[u8]) -> Vec<u8> {
-    element(EQUALITY, &[element(STRING, name), element(STRING, value)].concat())
-}
-
-fn version_6() -> Vec<u8> {
-    equality(b"NtVer", &[6, 0, 0, 0])
-}
-
-fn nested(filter: Vec<u8>, depth: usize) -> Vec<u8> {
-    (0..depth).fold(filter, |inner, _| and(&[inner]))
 }
 
 fn add_names(requests: &mut Requests, chance: &mut Chance) {
@@ -95,8 +47,8 @@ fn add_names(requests: &mut Requests, chance: &mut Chance) {
             requests.filter(&equality(&near, b""));
         }
     }
-    for strange in [&b""[..], b"\0", b"NtVer\0", b"(NtVer", b"objectClass", &[0xFF; 200]] {
-        requests.filter(&and(&[version_6(), equality(strange, b"")]));
+    for unknown in [&b""[..], b"\0", b"NtVer\0", b"(NtVer", b"objectClass", &[0xFF; 200]] {
+        requests.filter(&and(&[version_6(), equality(unknown, b"")]));
     }
 }
 
@@ -230,8 +182,8 @@ fn add_wrong_tags(requests: &mut Requests) {
     requests.filter(&and(&[string]));
 }
 
-fn add_doubles(requests: &mut Requests) {
-    requests.note("a clause twice, across case and nesting");
+fn add_duplicates(requests: &mut Requests) {
+    requests.note("a duplicate clause, across case and nesting");
     for name in ClauseName::ALL {
         let one = equality(name.spelled(), b"1");
         let other = equality(&name.spelled().to_ascii_uppercase(), b"");
@@ -246,16 +198,16 @@ fn add_doubles(requests: &mut Requests) {
 /// 6 over the whole filter comes before 7, and 7 before 8.
 fn add_orders(requests: &mut Requests) {
     requests.note("two faults at once");
-    let strange = equality(b"Strange", b"");
-    let twice = [version_6(), version_6()];
+    let unknown = equality(b"Strange", b"");
+    let duplicates = [version_6(), version_6()];
     let broken = vec![0x05, 0x00];
-    requests.filter(&and(&[strange.clone(), broken.clone()]));
-    requests.filter(&and(&[broken.clone(), strange.clone()]));
-    requests.filter(&and(&[twice.concat(), broken.clone()]));
-    requests.filter(&and(&[twice.concat(), strange.clone()]));
-    requests.filter(&and(&[strange.clone(), twice.concat()]));
-    requests.filter(&and(&[strange.clone(), strange.clone()]));
-    requests.filter(&and(&[and(&[strange, twice.concat()]), broken]));
+    requests.filter(&and(&[unknown.clone(), broken.clone()]));
+    requests.filter(&and(&[broken.clone(), unknown.clone()]));
+    requests.filter(&and(&[duplicates.concat(), broken.clone()]));
+    requests.filter(&and(&[duplicates.concat(), unknown.clone()]));
+    requests.filter(&and(&[unknown.clone(), duplicates.concat()]));
+    requests.filter(&and(&[unknown.clone(), unknown.clone()]));
+    requests.filter(&and(&[and(&[unknown, duplicates.concat()]), broken]));
 }
 
 fn add_longest(requests: &mut Requests) {
@@ -319,7 +271,7 @@ fn add_random(requests: &mut Requests, chance: &mut Chance) {
     }
 }
 
-fn random_filter(chance: &mut Chance, depth: usize) -> Vec<u8> {
+pub fn random_filter(chance: &mut Chance, depth: usize) -> Vec<u8> {
     if depth == 0 {
         let name = *chance.pick(&ClauseName::ALL);
         let value = chance.below(6);

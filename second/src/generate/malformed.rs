@@ -9,6 +9,7 @@ pub fn add_of_kind(requests: &mut Requests, kind: &str) {
         "table" => &TABLE,
         "ping" => &PING,
         "filter" => &FILTER,
+        "values" => &VALUES,
         "write" => &WRITE,
         "read" => &READ,
         _ => &WALK,
@@ -26,13 +27,9 @@ pub fn add_of_kind(requests: &mut Requests, kind: &str) {
     ] {
         requests.raw(around.as_bytes());
     }
-    requests.raw(b"");
-    requests.raw(b"#");
-    requests.raw(b"#table -");
-    requests.raw(b" ");
-    requests.raw(b"?");
-    requests.raw(b".");
-    requests.raw(b"-");
+    for line in ["", "#", "#table -", " ", "?", ".", "-"] {
+        requests.raw(line.as_bytes());
+    }
 }
 
 const CHECK: [&[u8]; 9] = [
@@ -102,6 +99,18 @@ const FILTER: [&[u8]; 9] = [
     b"filter -a0",
 ];
 
+const VALUES: [&[u8]; 9] = [
+    b"values a",
+    b"values A3",
+    b"values a3 04",
+    b"values  a3",
+    b"values a3 ",
+    b"values .",
+    b"values =a3",
+    b"values 0 00000006",
+    b"value a30d04054e74566572040406000000",
+];
+
 const WRITE: [&[u8]; 17] = [
     b"write 10",
     b"write 10 .",
@@ -155,14 +164,3 @@ const WALK: [&[u8]; 12] = [
     b"walk  00",
     b"walk 0 =00",
 ];
-
-/// Lines whose numbers have zeros in front, and are good.
-pub fn add_numbers_with_zeros(requests: &mut Requests) {
-    requests.note("numbers with zeros in front");
-    requests.raw(b"walk 00 00");
-    requests.raw(b"walk 0000000001 0000");
-    requests.raw(b"walk 00000000001 0000");
-    requests.raw(b"walk 4294967295 00");
-    requests.raw(b"walk 4294967296 00");
-    requests.raw(b"walk 9999999999 00");
-}

@@ -1,7 +1,9 @@
 //! The seeded generator of the stored vectors: requests by kind, their answers, and a count of each answer number.
 
+pub mod bulk;
 pub mod chance;
 mod checks;
+mod elements;
 mod filters;
 mod layout;
 mod malformed;
@@ -11,6 +13,7 @@ mod requests;
 pub mod sample;
 mod tables;
 mod texts;
+mod values;
 
 use std::collections::BTreeMap;
 use std::fs;
@@ -21,7 +24,7 @@ use crate::lines::Answerer;
 use chance::Chance;
 use requests::Requests;
 
-const SEED: u64 = 0x5EED_0F71_4E6A_12AA;
+pub const SEED: u64 = 0x5EED_0F71_4E6A_12AA;
 
 /// A kind of stored file and what fills it.
 struct Kind {
@@ -29,7 +32,7 @@ struct Kind {
     fill: fn(&mut Requests, &mut Chance),
 }
 
-const KINDS: [Kind; 7] = [
+const KINDS: [Kind; 8] = [
     Kind { name: "check", fill: checks::add_all },
     Kind { name: "table", fill: tables::add_all },
     Kind { name: "ping", fill: pings::add_all },
@@ -37,6 +40,7 @@ const KINDS: [Kind; 7] = [
     Kind { name: "write", fill: filters::add_writes },
     Kind { name: "read", fill: replies::add_reads },
     Kind { name: "walk", fill: replies::add_walks },
+    Kind { name: "values", fill: values::add_all },
 ];
 
 /// How often each answer number was given, by kind of line; lines without a number are counted by their words.
@@ -94,10 +98,11 @@ pub fn generate(folder: Option<&Path>) -> io::Result<Counts> {
 }
 
 /// The numbers that each kind of line can give.
-const NUMBERS_BY_KIND: [(&str, &[u8]); 5] = [
+const NUMBERS_BY_KIND: [(&str, &[u8]); 6] = [
     ("table", &[0, 1, 2, 3, 4]),
     ("ping", &[0, 1, 2, 3, 4, 5, 6, 7, 8, 9, 10, 11, 12, 13, 14, 15, 16, 17, 18, 19]),
     ("filter", &[0, 5, 6, 7, 8]),
+    ("values", &[0, 5, 6, 7, 8, 9, 10]),
     ("write", &[0, 5, 6, 19]),
     ("read", &[0, 31, 32, 33, 34, 35]),
 ];

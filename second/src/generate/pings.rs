@@ -1,12 +1,13 @@
-//! Ping lines, each group behind the table line that it stands on.
+//! Ping lines, each group after the table line that it stands on.
 
 use super::chance::Chance;
+use super::elements::{and, version_6};
 use super::requests::{Asked, Requests};
 use super::sample::{sample, Size};
 use super::texts::{account_texts, dns_name_of_length};
 use crate::choose::{ClientAddress, Form};
 use crate::filter::ClauseName;
-use crate::image::{ContextBlock, Image, Record, ServerBlock};
+use crate::image::{guid, ContextBlock, Image, Record, ServerBlock};
 use crate::reply::answer_ping;
 
 pub fn add_all(requests: &mut Requests, chance: &mut Chance) {
@@ -82,25 +83,13 @@ impl Pings<'_> {
     }
 }
 
-fn guid(first: u8) -> [u8; 16] {
-    std::array::from_fn(|place| first.wrapping_add(place as u8))
-}
-
-/// Server, forest, context and site.
-fn small(server: &ServerBlock) -> Image {
-    let mut image = Image::with_server(server, b"example");
-    image.push_context(&ContextBlock::default());
-    image.push_records(5, &[Record::site(1, b"HQ", 0)]);
-    image
-}
-
 fn add_bad_tables(pings: &mut Pings) {
     pings.note("before the first table, and on tables that are refused");
     let filters = [Asked::version(6).filter(), Vec::new(), vec![0; 2049]];
     for filter in &filters {
         pings.filter(NO_CLIENT, filter);
     }
-    let good = small(&ServerBlock::default());
+    let good = Image::small(&ServerBlock::default());
     let mut wrong_check = good.octets();
     wrong_check[700] ^= 1;
     let mut wrong_layout = good.clone();
@@ -154,12 +143,9 @@ fn add_filter_refusals(pings: &mut Pings, chance: &mut Chance) {
         changed[place] ^= chance.octet_not_zero();
         pings.filter(NO_CLIENT, &changed);
     }
-    // The content of the filter's AND twice over: every clause stands in it twice.
-    let content = good[2..].repeat(2);
-    pings.filter(NO_CLIENT, &[&[0xA0, content.len() as u8][..], &content].concat());
-    let version = Asked::version(6).filter()[2..].to_vec();
-    let and_twice = [&version[..], &[0xA0, 0x0F], &version].concat();
-    pings.filter(NO_CLIENT, &[&[0xA0, and_twice.len() as u8][..], &and_twice].concat());
+    // The content of the filter's AND twice over, so that each of its clauses has a duplicate.
+    pings.filter(NO_CLIENT, &and(&[good[2..].repeat(2)]));
+    pings.filter(NO_CLIENT, &and(&[version_6(), and(&[version_6()])]));
     for length in [0, 1, 3, 5, 8] {
         pings.ask(NO_CLIENT, &Asked::default().with(ClauseName::NtVer, &vec![6; length]));
         pings.ask(NO_CLIENT, &Asked::version(6).with(ClauseName::Aac, &vec![6; length]));
@@ -175,7 +161,7 @@ fn add_filter_refusals(pings: &mut Pings, chance: &mut Chance) {
 fn add_versions_and_rooms(pings: &mut Pings) {
     pings.note("every version bit, and rooms of every form");
     let server = ServerBlock { roles: 0x801, address: [192, 0, 2, 1], ..ServerBlock::default() };
-    pings.table(&small(&server));
+    pings.table(&Image::small(&server));
     for low in 0..32 {
         pings.ask(NO_CLIENT, &Asked::version(low));
         pings.ask_tight(NO_CLIENT, &Asked::version(low).with_user(b"bob"));
@@ -198,7 +184,7 @@ fn add_roles(pings: &mut Pings) {
     pings.note("each role alone, and all of them but one");
     for bit in 0..12 {
         for roles in [1 << bit, 0xFFF ^ (1 << bit)] {
-            pings.table(&small(&ServerBlock { roles, ..ServerBlock::default() }));
+            pings.table(&Image::small(&ServerBlock { roles, ..ServerBlock::default() }));
             for version in [0x0, 0x2, 0x0100_0004, 0x1C] {
                 pings.ask(NO_CLIENT, &Asked::version(version));
             }
@@ -210,7 +196,7 @@ fn add_states(pings: &mut Pings) {
     pings.note("every state, for the PDC and for another");
     for state in 0..16 {
         for roles in [0, 1] {
-            pings.table(&small(&ServerBlock { roles, state, ..ServerBlock::default() }));
+            pings.table(&Image::small(&ServerBlock { roles, state, ..ServerBlock::default() }));
             for version in [0x4, 0x1000_0004, 0x4000_0004, 0x5000_0004] {
                 pings.ask(NO_CLIENT, &Asked::version(version));
             }
@@ -445,7 +431,7 @@ fn add_sites(pings: &mut Pings) {
             pings.ask(client, &Asked::version(4));
         }
     }
-    let mut one_site = small(&ServerBlock::default());
+    let mut one_site = Image::small(&ServerBlock::default());
     one_site.push_records(6, &[Record::subnet([10, 0, 0, 0], 8, 1, 0)]);
     pings.table(&one_site);
     pings.ask([10, 0, 0, 1], &Asked::version(4));

@@ -1,7 +1,6 @@
 //! Read and walk lines: replies as they are written, cut, changed, and built by hand to break each rule.
 
 use super::chance::Chance;
-use super::malformed::add_numbers_with_zeros;
 use super::pings::reply_to;
 use super::requests::{Asked, Requests};
 use super::sample::{sample, version_bits, Size};
@@ -121,7 +120,7 @@ const EX_END: [u8; 8] = [5, 0, 0, 0, 0xFF, 0xFF, 0xFF, 0xFF];
 /// Where the names of an EX reply begin.
 const NAMES_AT: usize = 24;
 
-/// An EX reply with these octets in place of its names and all behind them but the end.
+/// An EX reply with these octets in place of its names and all after them but the end.
 fn ex_with(names: &[u8]) -> Vec<u8> {
     [&[23, 0, 0, 0, 1, b'f', 0, 0][..], &GUID, names, &EX_END].concat()
 }
@@ -365,7 +364,7 @@ fn add_random(requests: &mut Requests, chance: &mut Chance) {
         for _ in 0..40 {
             let length = chance.below(48);
             requests.read(form, version_bits(chance), &chance.octets(length));
-            let opcode = form.opcodes()[0] as u8;
+            let opcode = if form == Form::Ex { 23 } else { 19 };
             let rest = name_like(chance, 60);
             requests.read(form, version_bits(chance), &[&[opcode, 0, 0, 0], &rest[..]].concat());
         }
@@ -384,7 +383,7 @@ fn add_random(requests: &mut Requests, chance: &mut Chance) {
 }
 
 /// Octets such as names are made of: short labels, zeros and pointers near by.
-fn name_like(chance: &mut Chance, most: usize) -> Vec<u8> {
+pub fn name_like(chance: &mut Chance, most: usize) -> Vec<u8> {
     let mut octets = Vec::new();
     while octets.len() < most {
         match chance.below(7) {
@@ -430,5 +429,8 @@ pub fn add_walks(requests: &mut Requests, chance: &mut Chance) {
         let octets = name_like(chance, 40);
         requests.walk(chance.below(octets.len() + 1), &octets);
     }
-    add_numbers_with_zeros(requests);
+    requests.note("numbers with zeros in front");
+    for walk in ["00 00", "0000000001 0000", "00000000001 0000", "4294967295 00", "4294967296 00", "9999999999 00"] {
+        requests.raw(format!("walk {walk}").as_bytes());
+    }
 }

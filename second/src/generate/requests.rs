@@ -42,6 +42,10 @@ impl Requests {
         self.raw(format!("filter {}", word_of_octets(octets)).as_bytes());
     }
 
+    pub fn values(&mut self, octets: &[u8]) {
+        self.raw(format!("values {}", word_of_octets(octets)).as_bytes());
+    }
+
     pub fn write(&mut self, room: usize, asked: &Asked) {
         let words: Vec<String> = asked.values.iter().map(|value| word_of_clause(value.as_deref())).collect();
         self.raw(format!("write {room} {}", words.join(" ")).as_bytes());

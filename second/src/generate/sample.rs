@@ -2,6 +2,7 @@
 
 use super::chance::Chance;
 use super::requests::Asked;
+use super::texts::account_texts;
 use crate::filter::ClauseName;
 use crate::image::{ContextBlock, Image, Record, ServerBlock};
 
@@ -210,6 +211,33 @@ impl Sample {
             asked = asked.with_aac(if chance.once_in(2) { 0x1D8 } else { *chance.pick(&CONTROLS) });
         }
         asked
+    }
+}
+
+/// Clauses by chance alone, their values good and bad.
+pub fn random_asked(chance: &mut Chance) -> Asked {
+    let mut asked = Asked::default();
+    for name in ClauseName::ALL {
+        if chance.once_in(2) {
+            asked = asked.with(name, &random_value(chance, name));
+        }
+    }
+    asked
+}
+
+/// A value for this clause, more often good than bad.
+pub fn random_value(chance: &mut Chance, name: ClauseName) -> Vec<u8> {
+    if chance.once_in(6) {
+        let length = *chance.pick(&[0, 1, 3, 4, 5, 8, 15, 16, 17, 63, 64]);
+        return chance.octets(length);
+    }
+    match name {
+        ClauseName::NtVer => version_bits(chance).to_le_bytes().to_vec(),
+        ClauseName::Aac => chance.pick(&CONTROLS).to_le_bytes().to_vec(),
+        ClauseName::User => chance.pick(&account_texts()).clone(),
+        ClauseName::DomainSid => sid(chance),
+        ClauseName::DomainGuid => chance.octets(16),
+        ClauseName::DnsDomain | ClauseName::Host | ClauseName::DnsHostName => dns_name(chance),
     }
 }
 

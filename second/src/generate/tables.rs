@@ -4,14 +4,14 @@ use super::chance::Chance;
 use super::layout::add_layouts;
 use super::requests::Requests;
 use super::sample::{sample, Size};
-use crate::image::{ContextBlock, Image, Record, ServerBlock};
+use crate::image::{guid, ContextBlock, Image, Record, ServerBlock};
 
 pub fn add_all(requests: &mut Requests, chance: &mut Chance) {
     add_lengths(requests, chance);
     add_checks(requests, chance);
     add_layouts(requests, chance);
     add_counts(requests);
-    add_doubles(requests);
+    add_duplicates(requests);
     add_references(requests);
     add_orders(requests);
     add_random(requests, chance);
@@ -19,16 +19,8 @@ pub fn add_all(requests: &mut Requests, chance: &mut Chance) {
     add_large(requests, chance);
 }
 
-/// Server, forest, context and site: the smallest table that is accepted.
 fn smallest() -> Image {
-    let mut image = Image::with_server(&ServerBlock::default(), b"example");
-    image.push_context(&ContextBlock::default());
-    image.push_records(5, &[Record::site(1, b"HQ", 0)]);
-    image
-}
-
-fn guid(first: u8) -> [u8; 16] {
-    std::array::from_fn(|place| first.wrapping_add(place as u8))
+    Image::small(&ServerBlock::default())
 }
 
 /// A second context that has nothing in common with the first.
@@ -115,7 +107,7 @@ fn add_counts(requests: &mut Requests) {
     requests.table(&sites_in_two_blocks);
 }
 
-fn add_doubles(requests: &mut Requests) {
+fn add_duplicates(requests: &mut Requests) {
     requests.note("what must be unique, and what need not");
     let sid: &[u8] = &[1, 1, 0, 0, 0, 0, 0, 5, 21, 0, 0, 0];
     let near: &[u8] = &[1, 1, 0, 0, 0, 0, 0, 5, 21, 0, 0, 1];
@@ -151,12 +143,12 @@ fn add_doubles(requests: &mut Requests) {
         image.push_records(5, &[Record::site(1, b"HQ", 0)]);
         requests.table(&image);
     }
-    add_double_names(requests);
-    add_double_sites(requests);
+    add_duplicate_names(requests);
+    add_duplicate_sites(requests);
 }
 
 /// Folding takes letters alone: `@` and a grave accent, `[` and `{` stay apart.
-fn add_double_names(requests: &mut Requests) {
+fn add_duplicate_names(requests: &mut Requests) {
     let pairs: [(&[u8], &[u8]); 7] =
         [(b"@a", b"`a"), (b"[a", b"{a"), (b"a", b"A"), (b"z", b"Z"), (b"0", b"P"), (b"a", b"aa"), (b"ann", b"ann")];
     for (one, other) in pairs {
@@ -182,7 +174,7 @@ fn add_double_names(requests: &mut Requests) {
     requests.table(&across_contexts);
 }
 
-fn add_double_sites(requests: &mut Requests) {
+fn add_duplicate_sites(requests: &mut Requests) {
     for (number, name) in [(1, &b"B"[..]), (2, b"HQ"), (257, b"hq")] {
         let mut image = no_site();
         image.push_records(5, &[Record::site(1, b"HQ", 0), Record::unused(72), Record::site(number, name, 0)]);
@@ -197,9 +189,9 @@ fn add_references(requests: &mut Requests) {
     requests.note("numbers referred to");
     for number in [1, 2, 256, 257, 0xFFFF] {
         let server = ServerBlock { own_site: number, ..ServerBlock::default() };
-        requests.table(&with_server_block(&server));
+        requests.table(&Image::small(&server));
         let server = ServerBlock { default_context: number, ..ServerBlock::default() };
-        requests.table(&with_server_block(&server));
+        requests.table(&Image::small(&server));
         let mut account = smallest();
         account.push_records(4, &[Record::account(number, 0x10, b"ann")]);
         requests.table(&account);
@@ -216,13 +208,6 @@ fn add_references(requests: &mut Requests) {
     each_other.set_all(3, 72 + 66, &2u16.to_le_bytes());
     requests.table(&each_other);
     add_countings(requests);
-}
-
-fn with_server_block(server: &ServerBlock) -> Image {
-    let mut image = Image::with_server(server, b"example");
-    image.push_context(&ContextBlock::default());
-    image.push_records(5, &[Record::site(1, b"HQ", 0)]);
-    image
 }
 
 /// Contexts, sites and blocks are three countings: a number good in one is none in another.
@@ -257,7 +242,7 @@ fn add_orders(requests: &mut Requests) {
     requests.table_octets(&octets);
     octets.push(0);
     requests.table_octets(&octets);
-    let mut whole_first = with_server_block(&ServerBlock { own_site: 2, ..ServerBlock::default() });
+    let mut whole_first = Image::small(&ServerBlock { own_site: 2, ..ServerBlock::default() });
     requests.table(&whole_first);
     whole_first.set(3, 503, 1);
     requests.table(&whole_first);

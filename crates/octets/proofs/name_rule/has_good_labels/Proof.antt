@@ -1,8 +1,8 @@
 use Rattle.octets.specs.declared.name_rule.LabelStep.{LabelStep}
 use Rattle.octets.specs.NameRule.{sized}
 use Rattle.octets.specs.Lists.{all}
-use Rattle.octets.specs.LabelStep.Properties.{goodLabels, good-whole, behind, step-good, end-good}
-use Rattle.octets.specs.LabelStep.{InLabel}
+use Rattle.octets.proofs.Laws.LabelStep.{goodLabels, good-whole, after, step-good, end-good}
+use Rattle.octets.specs.Internal.LabelStep.{InLabel}
 use Rattle.octets.specs.Label.{parts}
 use borrow.Author.Needs.{needs}
 use lib.ListN.{length, drop}
@@ -37,7 +37,7 @@ returns : tie.Need-returns Inv-loop μ-loop
 returns c =
     let l = c .before .before .before .before .before .loop in
     let s = c .before .before .before .before .before .before .before .args .s .now in
-    ap (λ (k : LabelStep). behind k (drop (l .i + 1) s)) (sym (c .enum-told .given .1) ∙ c .before .before .label-step .ensures .0)
+    ap (λ (k : LabelStep). after k (drop (l .i + 1) s)) (sym (c .enum-told .given .1) ∙ c .before .before .label-step .ensures .0)
     ∙ step-good (l .n) s (l .i) (l .inv .1) (omega arith)
     ∙ l .inv .2
 
@@ -54,7 +54,7 @@ loop-again c =
     let e = c .before .next .given .1 in (
       omega arith,
       subst InLabel e (c .before .before .before .label-step .ensures .1),
-      ap (λ (k : LabelStep). behind k (drop (l .i + 1) s)) (sym e ∙ c .before .before .before .label-step .ensures .0)
+      ap (λ (k : LabelStep). after k (drop (l .i + 1) s)) (sym e ∙ c .before .before .before .label-step .ensures .0)
           ∙ step-good (l .n) s (l .i) (l .inv .1) (omega arith)
           ∙ l .inv .2,
     )

@@ -1,4 +1,4 @@
-use Rattle.octets.specs.Sid.Properties.{sid-short, sid-revision, sid-count, sid-length}
+use Rattle.octets.proofs.Laws.Sid.{sid-short, sid-revision, sid-count, sid-length}
 use lib.ListN.{length}
 use lib.Dec.{eqb}
 use Prim.Native.Nat.{ℕ, _+_, _*_, _<_, _≤_}

@@ -1,4 +1,4 @@
-use Rattle.octets.specs.LabelStep.{labelStep}
+use Rattle.octets.specs.Internal.LabelStep.{labelStep}
 use borrow.Author.Tests.{lt-leb, le-leb, eq-eqb, ne-eqb}
 use native.Mathlib.Omega.{arith}
 use borrow.Author.Needs.{needs}

@@ -1,4 +1,4 @@
-use Rattle.octets.specs.Number.Properties.{big-two}
+use Rattle.octets.proofs.Laws.Number.{big-two}
 use native.Mathlib.Omega.{arith}
 use borrow.Author.Needs.{needs}
 use Rattle.octets.proofs.number.big_u16_at.Statement.{statement}

@@ -1,4 +1,4 @@
-use Rattle.octets.specs.Number.Properties.{u16-octets}
+use Rattle.octets.proofs.Laws.Number.{u16-octets}
 use native.Mathlib.Omega.{arith}
 use borrow.Author.Needs.{needs}
 use Rattle.octets.proofs.number.u16_at.Statement.{statement}

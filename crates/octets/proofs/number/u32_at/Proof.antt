@@ -1,4 +1,4 @@
-use Rattle.octets.specs.Number.Properties.{u32-halves}
+use Rattle.octets.proofs.Laws.Number.{u32-halves}
 use native.Mathlib.Omega.{arith}
 use borrow.Author.Needs.{needs}
 use Rattle.octets.proofs.number.u32_at.Statement.{statement}

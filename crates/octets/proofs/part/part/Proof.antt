@@ -2,7 +2,7 @@ use mathlib.Core.Path.{ap}
 use Rattle.octets.specs.Lists.{cut}
 use lib.ListN.{length}
 use Prim.Native.Nat.{_+_, _-_, _≤_}
-use Rattle.octets.specs.Lists.Properties.{cut-past, cut-rest}
+use Rattle.octets.proofs.Laws.Lists.{cut-past, cut-rest}
 use native.Mathlib.Omega.{arith}
 use mathlib.Core.Path.{_≡_, sym, _∙_}
 use borrow.Author.Needs.{needs}

@@ -1,4 +1,4 @@
-use Rattle.octets.specs.Text.Properties.{same-lengths, same-fails, same-next, same-end}
+use Rattle.octets.proofs.Laws.Text.{same-lengths, same-fails, same-next, same-end}
 use Rattle.octets.specs.Text.{same, foldIf}
 use borrow.Author.Needs.{needs}
 use lib.ListN.{length, drop, length-map}

@@ -1,6 +1,6 @@
-use Rattle.octets.specs.Lists.Properties.{all-fails, all-next, all-end}
+use Rattle.octets.proofs.Laws.Lists.{all-fails, all-next, all-end}
 use Rattle.octets.specs.Lists.{all}
-use Rattle.octets.specs.Class.{isOf}
+use Rattle.octets.specs.Internal.Class.{isOf}
 use borrow.Author.Tests.{not-true, not-false}
 use borrow.Author.Needs.{needs}
 use lib.ListN.{length, drop}

@@ -1,4 +1,4 @@
-use Rattle.octets.specs.Text.Properties.{map-id}
+use Rattle.octets.proofs.Laws.Text.{map-id}
 use Rattle.octets.specs.Text.{same}
 use mathlib.Core.Path.{ap₂, _∙_}
 use borrow.Author.Needs.{needs}

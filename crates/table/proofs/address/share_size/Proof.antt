@@ -1,4 +1,4 @@
-use Rattle.table.specs.Address.Properties.{share-whole, share-shift}
+use Rattle.table.proofs.Laws.Address.{share-whole, share-shift}
 use borrow.Author.Needs.{needs}
 use Rattle.table.proofs.address.share_size.Statement.{statement}
 use Rattle.table.proofs.address.share_size.Tie as tie

@@ -3,42 +3,41 @@ use Prim.Native.Nat.{ℕ}
 use mathlib.Core.List.{List}
 use mathlib.Core.Bool.{true, false}
 use mathlib.Core.Path.{_≡_, sym, ap, _∙_}
-use Rattle.octets.specs.Text.{sameFolded}
-use Rattle.table.specs.Whole.{sameAccountName}
-use Rattle.table.specs.Records.{accountOf, sameContext}
+use Rattle.table.specs.SameName.{sameAccountName}
+use Rattle.table.specs.Account.{accountOf}
+use Rattle.table.specs.Countings.{sameContext}
 use Rattle.table.specs.declared.ContextNumber.{ContextNumber}
 use borrow.Author.Needs.{needs}
 use Rattle.table_find.proofs.account.is_account.Statement.{statement}
 use Rattle.table_find.proofs.account.is_account.Tie as tie
 
-account-context-requires : tie.Need-account-context-requires
-account-context-requires c κs = search needs
+context-requires : tie.Need-context-requires
+context-requires c κs = search needs
 
 returns : tie.Need-returns
 returns c =
     let a = c .before .before .before .before .before .before .args in
-    let e : sameContext (accountOf (a .octets .now) .context) (a .context) ≡ false = ap (λ (n : ContextNumber). sameContext n (a .context)) (sym (c .before .before .before .account-context .ensures)) ∙ ne-eqb _ _ (c .if1 .taken) in
+    let e : sameContext (accountOf (a .octets .now) .context) (a .context) ≡ false = ap (λ (n : ContextNumber). sameContext n (a .context)) (sym (c .before .before .before .context .ensures)) ∙ ne-eqb _ _ (c .if1 .taken) in
     rw e
 
-account-name-requires : tie.Need-account-name-requires
-account-name-requires c κs = search needs
+name-requires : tie.Need-name-requires
+name-requires c κs = search needs
 
-same-folded-requires : tie.Need-same-folded-requires
-same-folded-requires c κs = search needs
+same-account-name-requires : tie.Need-same-account-name-requires
+same-account-name-requires c κs = search needs
 
 returns-2 : tie.Need-returns-2
-unfolding sameAccountName
 returns-2 c =
     let a = c .before .before .before .before .before .before .before .before .args in
-    let e : sameContext (accountOf (a .octets .now) .context) (a .context) ≡ true = ap (λ (n : ContextNumber). sameContext n (a .context)) (sym (c .before .before .before .before .before .account-context .ensures)) ∙ eq-eqb _ _ (c .before .before .if1 .left) in
-    rw e (c .same-folded .ensures ∙ ap (λ (s : List ℕ). sameFolded s (a .name .now)) (c .before .account-name .ensures))
+    let e : sameContext (accountOf (a .octets .now) .context) (a .context) ≡ true = ap (λ (n : ContextNumber). sameContext n (a .context)) (sym (c .before .before .before .before .before .context .ensures)) ∙ eq-eqb _ _ (c .before .before .if1 .left) in
+    rw e (c .same-account-name .ensures ∙ ap (λ (s : List ℕ). sameAccountName s (a .name .now)) (c .before .name .ensures))
 
 pub is-account-spec : {M : Type 1} → statement M
 is-account-spec =
     tie.close
     (tie.spec
-    account-context-requires
+    context-requires
     returns
-    account-name-requires
-    same-folded-requires
+    name-requires
+    same-account-name-requires
     returns-2)

@@ -1,5 +1,5 @@
 use mathlib.Core.Path.{ap, _∙_}
-use Rattle.octets.specs.Text.{sameFolded}
+use Rattle.table.specs.SameName.{sameDnsName}
 use Prim.Native.Nat.{ℕ}
 use mathlib.Core.List.{List}
 use Rattle.table_find.specs.Find.{isNamedBy}
@@ -7,15 +7,15 @@ use borrow.Author.Needs.{needs}
 use Rattle.table_find.proofs.context.is_named_by.Statement.{statement}
 use Rattle.table_find.proofs.context.is_named_by.Tie as tie
 
-context-dns-name-requires : tie.Need-context-dns-name-requires
-context-dns-name-requires c κs = search needs
+dns-name-requires : tie.Need-dns-name-requires
+dns-name-requires c κs = search needs
 
-same-folded-requires : tie.Need-same-folded-requires
-same-folded-requires c κs = search needs
+same-dns-name-requires : tie.Need-same-dns-name-requires
+same-dns-name-requires c κs = search needs
 
 returns : tie.Need-returns
 unfolding isNamedBy
-returns c = c .same-folded .ensures ∙ ap (λ (s : List ℕ). sameFolded s (c .before .before .before .before .args .asked .now)) (c .before .context-dns-name .ensures)
+returns c = c .same-dns-name .ensures ∙ ap (λ (s : List ℕ). sameDnsName s (c .before .before .before .before .args .asked .now)) (c .before .dns-name .ensures)
 
 pub is-named-by-spec : {M : Type 1} → statement M
-is-named-by-spec = tie.close (tie.spec context-dns-name-requires same-folded-requires returns)
+is-named-by-spec = tie.close (tie.spec dns-name-requires same-dns-name-requires returns)

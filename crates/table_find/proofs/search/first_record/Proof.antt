@@ -1,47 +1,55 @@
-use Prim.Native.Nat.{_-_, _/_}
+use Prim.Native.Nat.{_-_, _≤_}
+use native.Mathlib.Omega.{arith}
 use mathlib.Core.Option.{none, some}
 use mathlib.Core.Path.{_≡_, refl, sym, ap, subst, _∙_}
 use lib.ListN.{length, drop}
 use borrow.Author.Needs.{needs}
-use Rattle.table.specs.Table.{blocksOf}
-use Rattle.table_find.specs.Search.Properties.{search-step, search-end}
-use Rattle.table_find.specs.Search.{firstIn}
-use Rattle.table_find.specs.Found.{recordAt, LiesIn}
-use Rattle.table_find.specs.Key.{shapeOf}
+use Rattle.table.specs.Block.{blocksOf}
+use Rattle.table_whole.proofs.Laws.Judgement.{accepted-bounds}
+use Rattle.table_find.proofs.Laws.Search.{search-step, search-end}
+use Rattle.table_find.specs.Internal.Search.{firstIn}
+use Rattle.table_find.specs.Internal.Found.{recordFound, LiesIn}
+use Rattle.table_find.specs.Internal.Key.{kindFor}
 use Rattle.table_find.proofs.search.first_record.Statement.{statement}
 use Rattle.table_find.proofs.search.first_record.Tie as tie
 
 abbrev Inv-loop : tie.InvT-loop
-Inv-loop image key asked place₀ place = firstIn key asked (drop place (blocksOf image)) ≡ firstIn key asked (blocksOf image)
+Inv-loop image key asked blocks i₀ i = firstIn key asked (drop i (blocksOf image)) ≡ firstIn key asked (blocksOf image)
 
 abbrev μ-loop : tie.MeasureT-loop
-μ-loop image key asked place₀ place = length image / 512 - place
+μ-loop image key asked blocks i₀ i = blocks - i
 
 loop-holds : tie.Need-loop-holds Inv-loop μ-loop
 loop-holds c = refl
 
+cast-t10 : tie.Need-cast-t10 Inv-loop μ-loop
+cast-t10 c =
+    let s = c .before .before .before .before .args .image .now in
+    let most : length s ≤ 65536 = accepted-bounds s (c .before .before .before .before .pre) .1 in
+    omega arith
+
 first-in-block-requires : tie.Need-first-in-block-requires Inv-loop μ-loop
 first-in-block-requires c κs = search needs
 
-enum-known-at : tie.Need-enum-known-at Inv-loop μ-loop
-enum-known-at c = search needs
+enum-known-offset : tie.Need-enum-known-offset Inv-loop μ-loop
+enum-known-offset c = search needs
 
 returns : tie.Need-returns Inv-loop μ-loop
 returns c =
     let a = c .before .before .before .before .before .before .before .before .args in
     let l = c .before .before .before .before .before .loop in
     let b = c .before .before .before .first-in-block in
-    let w = shapeOf (a .key) .width in
-    let e = c .before .at .given .1 in (
-      search-step (a .key) (a .asked .now) (a .image .now) (l .place) (some _) (c .before .before .before .before .loop-test .taken) (ap (recordAt (a .image .now) w) (sym e) ∙ b .ensures .0) ∙ l .inv,
-      subst (LiesIn (a .image .now) w) e (b .ensures .1),
+    let k = kindFor (a .key) in
+    let e = c .before .offset .given .1 in (
+      search-step (a .key) (a .asked .now) (a .image .now) (l .i) (some _) (c .before .before .before .before .loop-test .taken) (ap (recordFound (a .image .now) k) (sym e) ∙ b .ensures .0) ∙ l .inv,
+      subst (LiesIn (a .image .now) k) e (b .ensures .1),
     )
 
 enum-told : tie.Need-enum-told Inv-loop μ-loop
 enum-told c = search needs
 
-add-place : tie.Need-add-place Inv-loop μ-loop
-add-place c = search needs
+add-i : tie.Need-add-i Inv-loop μ-loop
+add-i c = search needs
 
 loop-less : tie.Need-loop-less Inv-loop μ-loop
 loop-less c = search needs
@@ -51,15 +59,15 @@ loop-again c =
     let a = c .before .before .before .before .before .before .before .args in
     let l = c .before .before .before .before .loop in
     let b = c .before .before .first-in-block in
-    let w = shapeOf (a .key) .width in
+    let k = kindFor (a .key) in
     let e = c .enum-told .given .1 in
-    search-step (a .key) (a .asked .now) (a .image .now) (l .place) none (c .before .before .before .loop-test .taken) (ap (recordAt (a .image .now) w) (sym e) ∙ b .ensures .0) ∙ l .inv
+    search-step (a .key) (a .asked .now) (a .image .now) (l .i) none (c .before .before .before .loop-test .taken) (ap (recordFound (a .image .now) k) (sym e) ∙ b .ensures .0) ∙ l .inv
 
 returns-2 : tie.Need-returns-2 Inv-loop μ-loop
 returns-2 c =
     let a = c .before .before .before .before .args in
     let l = c .before .loop in
-    (search-end (a .key) (a .asked .now) (a .image .now) (l .place) (c .loop-test .left) ∙ l .inv, tt)
+    (search-end (a .key) (a .asked .now) (a .image .now) (l .i) (c .loop-test .left) ∙ l .inv, tt)
 
 pub first-record-spec : {M : Type 1} → statement M
 first-record-spec =
@@ -68,11 +76,12 @@ first-record-spec =
     Inv-loop
     μ-loop
     loop-holds
+    cast-t10
     first-in-block-requires
-    enum-known-at
+    enum-known-offset
     returns
     enum-told
-    add-place
+    add-i
     loop-less
     loop-again
     returns-2)

@@ -15,8 +15,8 @@ is-numbered-requires c κs = search needs
 enum-told : tie.Need-enum-told
 enum-told c = search needs
 
-context-guid-requires : tie.Need-context-guid-requires
-context-guid-requires c κs = search needs
+guid-requires : tie.Need-guid-requires
+guid-requires c κs = search needs
 
 same-octets-requires : tie.Need-same-octets-requires
 same-octets-requires c κs = search needs
@@ -39,7 +39,7 @@ returns c = rw (c .before .before .key .given .1) (c .is-numbered .ensures)
 returns-2 : tie.Need-returns-2
 returns-2 c =
     let a = c .before .before .before .before .before .before .args in
-    rw (c .before .before .enum-told .given .1) (c .same-octets .ensures ∙ ap (λ (s : List ℕ). same s (a .asked .now)) (c .before .context-guid .ensures))
+    rw (c .before .before .enum-told .given .1) (c .same-octets .ensures ∙ ap (λ (s : List ℕ). same s (a .asked .now)) (c .before .guid .ensures))
 
 returns-3 : tie.Need-returns-3
 returns-3 c = rw (c .before .enum-told2 .given .1) (c .is-named-by .ensures)
@@ -54,7 +54,7 @@ is-context-spec =
     enum-known-key
     is-numbered-requires
     enum-told
-    context-guid-requires
+    guid-requires
     same-octets-requires
     enum-told-2
     is-named-by-requires

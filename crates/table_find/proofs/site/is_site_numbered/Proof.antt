@@ -1,15 +1,15 @@
 use mathlib.Core.Path.{ap}
-use Rattle.table.specs.Records.{sameSite}
+use Rattle.table.specs.Countings.{sameSite}
 use Rattle.table.specs.declared.SiteNumber.{SiteNumber}
 use borrow.Author.Needs.{needs}
 use Rattle.table_find.proofs.site.is_site_numbered.Statement.{statement}
 use Rattle.table_find.proofs.site.is_site_numbered.Tie as tie
 
-site-number-requires : tie.Need-site-number-requires
-site-number-requires c κs = search needs
+number-requires : tie.Need-number-requires
+number-requires c κs = search needs
 
 returns : tie.Need-returns
-returns c = ap (λ (n : SiteNumber). sameSite n (c .before .before .before .before .args .asked)) (c .before .before .site-number .ensures)
+returns c = ap (λ (n : SiteNumber). sameSite n (c .before .before .before .before .args .asked)) (c .before .before .number .ensures)
 
 pub is-site-numbered-spec : {M : Type 1} → statement M
-is-site-numbered-spec = tie.close (tie.spec site-number-requires returns)
+is-site-numbered-spec = tie.close (tie.spec number-requires returns)

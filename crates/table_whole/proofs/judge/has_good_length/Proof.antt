@@ -1,4 +1,4 @@
-use Rattle.table.specs.Judgement.Properties.{length-below, length-above, length-between}
+use Rattle.table_whole.proofs.Laws.Judgement.{length-below, length-above, length-between}
 use Rattle.table_whole.proofs.judge.has_good_length.Statement.{statement}
 use Rattle.table_whole.proofs.judge.has_good_length.Tie as tie
 

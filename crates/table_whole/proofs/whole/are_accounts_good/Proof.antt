@@ -1,26 +1,25 @@
-use Rattle.table_whole.specs.Half.Properties.{lost-account, accounts-left}
-use borrow.Author.Tests.{not-true, not-false}
-use mathlib.Core.Path.{sym, _∙_}
+use mathlib.Core.Path.{ap₂, _∙_}
+use mathlib.Core.Bool.{Bool, _&&_}
+use Rattle.table_whole.proofs.Laws.Half.{accounts-good}
 use borrow.Author.Needs.{needs}
 use Rattle.table_whole.proofs.whole.are_accounts_good.Statement.{statement}
 use Rattle.table_whole.proofs.whole.are_accounts_good.Tie as tie
 
-all-refer-requires : tie.Need-all-refer-requires
-all-refer-requires c κs = search needs
+are-in-contexts-requires : tie.Need-are-in-contexts-requires
+are-in-contexts-requires c κs = search needs
+
+are-accounts-unique-requires : tie.Need-are-accounts-unique-requires
+are-accounts-unique-requires c κs = search needs
+
+same-length : tie.Need-same-length
+same-length c = search needs
 
 returns : tie.Need-returns
 returns c =
-    let s = c .before .before .before .before .before in
-    lost-account (s .args .marks .now) (s .args .image .now) (s .args .accounts .now) (s .pre .0) (s .pre .1) (sym (c .before .all-refer .ensures) ∙ not-true _ (c .if1 .taken))
-
-all-apart-requires : tie.Need-all-apart-requires
-all-apart-requires c κs = search needs
-
-returns-2 : tie.Need-returns-2
-returns-2 c =
-    let s = c .before .before .before .before .before .before in
-    c .all-apart .ensures ∙ accounts-left (s .args .marks .now) (s .args .image .now) (s .args .accounts .now) (s .pre .0) (s .pre .1) (sym (c .before .before .all-refer .ensures) ∙ not-false _ (c .before .if1 .left))
+    let s = c .before .before .before .before .before .before .before .before .before in
+    ap₂ (λ (p q : Bool). p && q) (c .before .before .before .before .are-in-contexts .ensures) (c .before .before .are-accounts-unique .ensures)
+    ∙ accounts-good (s .args .image .now) (s .args .contexts .now) (s .pre .1) (s .args .accounts .now) (s .pre .0)
 
 pub are-accounts-good-spec : {M : Type 1} → statement M
 are-accounts-good-spec =
-    tie.close (tie.spec all-refer-requires returns all-apart-requires returns-2)
+    tie.close (tie.spec are-in-contexts-requires are-accounts-unique-requires same-length returns)

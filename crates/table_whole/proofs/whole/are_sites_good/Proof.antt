@@ -1,98 +1,43 @@
-use Rattle.table_whole.specs.Mark.{sameNumber}
-use Rattle.table_whole.specs.Half.{SiteMarks}
-use Rattle.table.specs.Whole.{hasSite}
-use Rattle.table.specs.Table.{blocksOf, tableOf}
-use Rattle.octets.specs.Lists.{apart}
-use mathlib.Core.Bool.{true}
-use mathlib.Core.Path.{_≡_}
-use Rattle.table_whole.specs.Half.Properties.{site-marks, sites-number, sites-own, sites-next, sites-subnets, own-marked, next-refer}
-use Rattle.table_whole.specs.Mark.Properties.{marked-none}
+use mathlib.Core.Path.{refl, sym, _∙_}
 use borrow.Author.Tests.{not-true, not-false}
-use lib.ListN.{getD, length-replicate}
-use Prim.Native.Nat.{ℕ}
-use mathlib.Core.Bool.{false}
-use mathlib.Core.Path.{sym, ap, _∙_}
+use Rattle.table_refer.proofs.Laws.Mark.{marked-none}
+use Rattle.table_whole.proofs.Laws.Half.{sites-twice, site-marks, sites-once}
 use borrow.Author.Needs.{needs}
 use Rattle.table_whole.proofs.whole.are_sites_good.Statement.{statement}
 use Rattle.table_whole.proofs.whole.are_sites_good.Tie as tie
 
-slice-aggregate-mark-numbers : tie.Need-slice-aggregate-mark-numbers
-slice-aggregate-mark-numbers c = search needs
+slice-aggregate-mark-sites : tie.Need-slice-aggregate-mark-sites
+slice-aggregate-mark-sites c = search needs
 
-mark-numbers-requires : tie.Need-mark-numbers-requires
-mark-numbers-requires c κs = (length-replicate 65536 false, marked-none (c .before .before .before .args .image .now) 72)
-
--- the marks, once no number came twice
-marked : (c : tie.Else1) → SiteMarks (c .before .before .mark-numbers .last .1 .1 .1 .0) (tableOf (blocksOf (c .before .before .before .before .before .before .args .image .now)))
-marked c =
-    let s = c .before .before .before .before .before .before in
-    let m = c .before .before .mark-numbers in
-    site-marks (m .last .1 .1 .1 .0) (s .args .image .now) (s .args .sites .now) (m .kept .1 .1 .1 .0 ∙ length-replicate 65536 false) (s .pre .1) (m .ensures .1 (not-false _ (c .if1 .left)))
-
-unique : (c : tie.Else1) → apart (sameNumber (c .before .before .before .before .before .before .args .image .now) 72) (c .before .before .before .before .before .before .args .sites .now) ≡ true
-unique c = sym (c .before .before .mark-numbers .ensures .0) ∙ not-false _ (c .if1 .left)
-
--- the server's own number, looked up
-own : (c : tie.After-has-site) → let t = tableOf (blocksOf (c .before .before .before .before .before .before .before .before .before .args .image .now)) in hasSite t (t .server .site) ≡ c .has-site .result
-own c =
-    let m = c .before .before .before .before .before .mark-numbers .last .1 .1 .1 .0 in
-    sym (c .has-site .ensures ∙ ap (λ (k : ℕ). getD m k false) (c .before .server-number .ensures) ∙ own-marked m (c .before .before .before .before .before .before .before .before .before .args .image .now) (marked (c .before .before .before)))
+mark-sites-requires : tie.Need-mark-sites-requires
+mark-sites-requires c κs = (refl, marked-none 8192 (c .before .before .before .args .image .now))
 
 returns : tie.Need-returns
 returns c =
     let s = c .before .before .before .before .before .before in
-    sites-number (s .args .image .now) (s .args .sites .now) (s .pre .1) (sym (c .before .before .mark-numbers .ensures .0) ∙ not-true _ (c .if1 .taken))
+    sites-twice (s .args .image .now) (s .args .sites .now) (s .pre .2) (sym (c .before .before .mark-sites .ensures .0) ∙ not-true _ (c .if1 .taken))
 
-slice-aggregate-has-site : tie.Need-slice-aggregate-has-site
-slice-aggregate-has-site c = search needs
+slice-aggregate-are-sites-referred : tie.Need-slice-aggregate-are-sites-referred
+slice-aggregate-are-sites-referred c = search needs
 
-server-number-requires : tie.Need-server-number-requires
-server-number-requires c κs = search needs
-
-has-site-requires : tie.Need-has-site-requires
-has-site-requires c κs = search needs
+are-sites-referred-requires : tie.Need-are-sites-referred-requires
+are-sites-referred-requires c κs =
+    let s = c .before .before .before .before .before .before .before in
+    let m = c .before .before .before .mark-sites in
+    ((s .pre .0, s .pre .1), (s .pre .2, site-marks (s .args .image .now) (s .args .sites .now) (s .pre .2) (m .last .1 .1 .0) (m .kept .1 .1 .0) (m .ensures .1 (not-false _ (c .before .if1 .left)))))
 
 returns-2 : tie.Need-returns-2
 returns-2 c =
-    let s = c .before .before .before .before .before .before .before .before .before .before in
-    sites-own (s .args .image .now) (s .args .sites .now) (s .pre .1) (unique (c .before .before .before .before)) (own (c .before) ∙ not-true _ (c .if2 .taken))
-
-slice-aggregate-all-refer : tie.Need-slice-aggregate-all-refer
-slice-aggregate-all-refer c = search needs
-
-all-refer-requires : tie.Need-all-refer-requires
-all-refer-requires c κs = search needs
-
-returns-3 : tie.Need-returns-3
-returns-3 c =
-    let s = c .before .before .before .before .before .before .before .before .before .before .before .before .before in
-    sites-next (s .args .image .now) (s .args .sites .now) (s .pre .1) (unique (c .before .before .before .before .before .before .before)) (own (c .before .before .before .before) ∙ not-false _ (c .before .before .before .if2 .left)) (sym (c .before .all-refer .ensures ∙ next-refer (s .args .image .now) (s .args .sites .now) (s .pre .1) (c .before .before .before .before .before .before .before .before .before .mark-numbers .last .1 .1 .1 .0) (marked (c .before .before .before .before .before .before .before))) ∙ not-true _ (c .if3 .taken))
-
-slice-aggregate-good-subnets-of : tie.Need-slice-aggregate-good-subnets-of
-slice-aggregate-good-subnets-of c = search needs
-
-good-subnets-of-requires : tie.Need-good-subnets-of-requires
-good-subnets-of-requires c κs = (c .before .before .before .before .before .before .before .before .before .before .before .before .before .before .pre .0 .1, marked (c .before .before .before .before .before .before .before .before))
-
-returns-4 : tie.Need-returns-4
-returns-4 c =
-    let s = c .before .before .before .before .before .before .before .before .before .before .before .before .before .before .before in
-    c .good-subnets-of .ensures ∙ sites-subnets (s .args .image .now) (s .args .sites .now) (s .pre .1) (unique (c .before .before .before .before .before .before .before .before .before)) (own (c .before .before .before .before .before .before) ∙ not-false _ (c .before .before .before .before .before .if2 .left)) (sym (c .before .before .before .all-refer .ensures ∙ next-refer (s .args .image .now) (s .args .sites .now) (s .pre .1) (c .before .before .before .before .before .before .before .before .before .before .before .mark-numbers .last .1 .1 .1 .0) (marked (c .before .before .before .before .before .before .before .before .before))) ∙ not-false _ (c .before .before .if3 .left))
+    let s = c .before .before .before .before .before .before .before .before in
+    c .are-sites-referred .ensures ∙ sites-once (s .args .image .now) (s .args .sites .now) (s .pre .2) (sym (c .before .before .before .before .mark-sites .ensures .0) ∙ not-false _ (c .before .before .if1 .left))
 
 pub are-sites-good-spec : {M : Type 1} → statement M
 are-sites-good-spec =
     tie.close
     (tie.spec
-    slice-aggregate-mark-numbers
-    mark-numbers-requires
+    slice-aggregate-mark-sites
+    mark-sites-requires
     returns
-    slice-aggregate-has-site
-    server-number-requires
-    has-site-requires
-    returns-2
-    slice-aggregate-all-refer
-    all-refer-requires
-    returns-3
-    slice-aggregate-good-subnets-of
-    good-subnets-of-requires
-    returns-4)
+    slice-aggregate-are-sites-referred
+    are-sites-referred-requires
+    returns-2)

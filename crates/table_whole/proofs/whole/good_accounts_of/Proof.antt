@@ -1,29 +1,22 @@
-use Rattle.table_whole.specs.Place.Properties.{counted-records}
-use lib.Seq.{length-take-le}
-use lib.ListN.{length}
-use Prim.Native.Nat.{ℕ, _≤_}
-use mathlib.Core.Path.{_≡_, sym, subst, _∙_}
+use Rattle.table_whole.proofs.Laws.Half.{found-count}
 use borrow.Author.Needs.{needs}
 use Rattle.table_whole.proofs.whole.good_accounts_of.Statement.{statement}
 use Rattle.table_whole.proofs.whole.good_accounts_of.Tie as tie
 
-slice-aggregate-places-of : tie.Need-slice-aggregate-places-of
-slice-aggregate-places-of c = search needs
+slice-aggregate-offsets-of : tie.Need-slice-aggregate-offsets-of
+slice-aggregate-offsets-of c = search needs
 
-places-of-requires : tie.Need-places-of-requires
-places-of-requires c κs = search needs
+offsets-of-requires : tie.Need-offsets-of-requires
+offsets-of-requires c κs = search needs
 
-array-share-prefix-accounts : tie.Need-array-share-prefix-accounts
-array-share-prefix-accounts c = search needs
+array-borrow-prefix-accounts : tie.Need-array-borrow-prefix-accounts
+array-borrow-prefix-accounts c = search needs
 
 slice-aggregate-are-accounts-good : tie.Need-slice-aggregate-are-accounts-good
-slice-aggregate-are-accounts-good c =
-    let p = c .before .before .places-of in
-    let size : length (p .last .1 .1 .1 .1 .1 .0) ≡ 768 = p .kept .1 .1 .1 .1 .1 .0 in
-    sym (length-take-le (p .result) (p .last .1 .1 .1 .1 .1 .0) (subst (λ (n : ℕ). p .result ≤ n) (sym size) (p .ensures .1)))
+slice-aggregate-are-accounts-good c = let o = c .before .before .offsets-of in found-count (o .result) 768 (o .last .1 .1 .0) (o .kept .1 .1 .0) (o .ensures .1)
 
 are-accounts-good-requires : tie.Need-are-accounts-good-requires
-are-accounts-good-requires c κs = (c .before .before .places-of .ensures .0 ∙ counted-records 4 6 84 _, c .before .before .before .before .before .before .pre .1)
+are-accounts-good-requires c κs = search needs
 
 returns : tie.Need-returns
 returns c = search needs
@@ -32,9 +25,9 @@ pub good-accounts-of-spec : {M : Type 1} → statement M
 good-accounts-of-spec =
     tie.close
     (tie.spec
-    slice-aggregate-places-of
-    places-of-requires
-    array-share-prefix-accounts
+    slice-aggregate-offsets-of
+    offsets-of-requires
+    array-borrow-prefix-accounts
     slice-aggregate-are-accounts-good
     are-accounts-good-requires
     returns)

@@ -1,6 +1,6 @@
-use Rattle.table_whole.specs.Half.Properties.{bad-half, good-half}
-use borrow.Author.Tests.{not-true, not-false}
 use mathlib.Core.Path.{sym, _∙_}
+use borrow.Author.Tests.{not-true, not-false}
+use Rattle.table_whole.proofs.Laws.Half.{bad-half, good-half}
 use borrow.Author.Needs.{needs}
 use Rattle.table_whole.proofs.whole.good_whole.Statement.{statement}
 use Rattle.table_whole.proofs.whole.good_whole.Tie as tie

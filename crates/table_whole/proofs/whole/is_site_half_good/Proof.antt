@@ -1,52 +1,45 @@
-use Rattle.table_whole.specs.Place.{recordsAt}
-use Rattle.table.specs.Table.{blocksOf, recordsOf}
-use Rattle.table_whole.specs.Half.Properties.{no-site, some-sites}
-use Rattle.table_whole.specs.Place.Properties.{counted-records}
-use lib.Seq.{length-take-le}
+use mathlib.Core.Path.{_≡_, sym, _∙_}
 use lib.ListN.{length, take}
-use Prim.Native.Nat.{ℕ, _≤_}
-use mathlib.Core.Path.{_≡_, sym, subst, _∙_}
+use Rattle.table_whole.proofs.Laws.Half.{found-count, no-site, some-sites}
 use borrow.Author.Needs.{needs}
 use Rattle.table_whole.proofs.whole.is_site_half_good.Statement.{statement}
 use Rattle.table_whole.proofs.whole.is_site_half_good.Tie as tie
 
-slice-aggregate-places-of : tie.Need-slice-aggregate-places-of
-slice-aggregate-places-of c = search needs
+slice-aggregate-offsets-of : tie.Need-slice-aggregate-offsets-of
+slice-aggregate-offsets-of c = search needs
 
-places-of-requires : tie.Need-places-of-requires
-places-of-requires c κs = search needs
+offsets-of-requires : tie.Need-offsets-of-requires
+offsets-of-requires c κs = search needs
 
--- how many places were found, and what stands there
-count : (c : tie.After-places-of) → length (take (c .places-of .result) (c .places-of .last .1 .1 .1 .1 .1 .0)) ≡ c .places-of .result
-count c =
-    let p = c .places-of in
-    let size : length (p .last .1 .1 .1 .1 .1 .0) ≡ 896 = p .kept .1 .1 .1 .1 .1 .0 in
-    length-take-le (p .result) (p .last .1 .1 .1 .1 .1 .0) (subst (λ (n : ℕ). p .result ≤ n) (sym size) (p .ensures .1))
-
-found : (c : tie.After-places-of) → let image = c .before .before .before .args .image .now in recordsAt image 72 (take (c .places-of .result) (c .places-of .last .1 .1 .1 .1 .1 .0)) ≡ recordsOf 5 7 72 (blocksOf image)
-found c = c .places-of .ensures .0 ∙ counted-records 5 7 72 (blocksOf (c .before .before .before .args .image .now))
+-- how many were found
+count : (c : tie.After-offsets-of) → c .offsets-of .result ≡ length (take (c .offsets-of .result) (c .offsets-of .last .1 .1 .0))
+count c = let o = c .offsets-of in found-count (o .result) 896 (o .last .1 .1 .0) (o .kept .1 .1 .0) (o .ensures .1)
 
 returns : tie.Need-returns
-returns c = no-site (c .before .before .before .before .before .args .image .now) (take (c .before .before .places-of .result) (c .before .before .places-of .last .1 .1 .1 .1 .1 .0)) (found (c .before .before)) (count (c .before .before) ∙ c .if1 .taken)
+returns c =
+    let o = c .before .before .offsets-of in
+    no-site (c .before .before .before .before .before .args .image .now) (take (o .result) (o .last .1 .1 .0)) (o .ensures .0) (sym (count (c .before .before)) ∙ c .if1 .taken)
 
 array-share-prefix-sites : tie.Need-array-share-prefix-sites
 array-share-prefix-sites c = search needs
 
 slice-aggregate-are-sites-good : tie.Need-slice-aggregate-are-sites-good
-slice-aggregate-are-sites-good c = sym (count (c .before .before .before))
+slice-aggregate-are-sites-good c = count (c .before .before .before)
 
 are-sites-good-requires : tie.Need-are-sites-good-requires
-are-sites-good-requires c κs = (c .before .before .before .before .before .before .pre, found (c .before .before .before))
+are-sites-good-requires c κs = search needs
 
 returns-2 : tie.Need-returns-2
-returns-2 c = c .are-sites-good .ensures ∙ some-sites (c .before .before .before .before .before .before .before .args .image .now) (take (c .before .before .before .before .places-of .result) (c .before .before .before .before .places-of .last .1 .1 .1 .1 .1 .0)) (found (c .before .before .before .before)) (λ z. c .before .before .if1 .left (sym (count (c .before .before .before .before)) ∙ z))
+returns-2 c =
+    let o = c .before .before .before .before .offsets-of in
+    c .are-sites-good .ensures ∙ some-sites (c .before .before .before .before .before .before .before .args .image .now) (take (o .result) (o .last .1 .1 .0)) (o .ensures .0) (λ z. c .before .before .if1 .left (count (c .before .before .before .before) ∙ z))
 
 pub is-site-half-good-spec : {M : Type 1} → statement M
 is-site-half-good-spec =
     tie.close
     (tie.spec
-    slice-aggregate-places-of
-    places-of-requires
+    slice-aggregate-offsets-of
+    offsets-of-requires
     returns
     array-share-prefix-sites
     slice-aggregate-are-sites-good

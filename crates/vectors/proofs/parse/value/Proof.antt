@@ -1,4 +1,4 @@
-use Rattle.vectors.specs.Bounds.{Small}
+use Rattle.vectors.specs.Internal.Bounds.{Small}
 use mathlib.Core.Path.{subst}
 use borrow.Author.Needs.{needs}
 use Rattle.vectors.proofs.parse.value.Statement.{statement}

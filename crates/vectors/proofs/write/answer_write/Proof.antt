@@ -40,8 +40,8 @@ say-unknown-requires-3 c κs = search needs
 returns-3 : tie.Need-returns-3
 returns-3 c = search needs
 
-place-clauses-requires : tie.Need-place-clauses-requires
-place-clauses-requires c κs = search needs
+copy-clauses-requires : tie.Need-copy-clauses-requires
+copy-clauses-requires c κs = search needs
 
 filled-requires : tie.Need-filled-requires
 filled-requires c κs = search needs
@@ -80,7 +80,7 @@ answer-write-spec =
     has-clauses-requires
     say-unknown-requires-3
     returns-3
-    place-clauses-requires
+    copy-clauses-requires
     filled-requires
     array-borrow-prefix-out
     slice-aggregate-write-into

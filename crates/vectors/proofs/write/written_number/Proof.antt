@@ -1,4 +1,4 @@
-use Rattle.filter.specs.Write.{numberOf}
+use Rattle.filter_write.specs.Write.{writtenNumber}
 use mathlib.Core.Path.{_∙_, ap, sym}
 use borrow.Author.Needs.{needs}
 use Rattle.vectors.proofs.write.written_number.Statement.{statement}
@@ -17,7 +17,7 @@ returns : tie.Need-returns
 returns c = search needs
 
 returns-2 : tie.Need-returns-2
-returns-2 c = c .number-of .ensures ∙ ap numberOf (sym (c .before .before .written .given .1))
+returns-2 c = c .number-of .ensures ∙ ap writtenNumber (sym (c .before .before .written .given .1))
 
 pub written-number-spec : {M : Type 1} → statement M
 written-number-spec =

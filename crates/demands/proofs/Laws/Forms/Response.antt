@@ -1,0 +1,103 @@
+-- The octets of a RESPONSE in the order of the reader's fields, with its names at their places.
+use mathlib.Core.Path.{_≡_, refl, _∙_}
+use mathlib.Core.List.{List, [], _++_, append-assoc}
+use Prim.Native.Nat.{ℕ, _+_, _<_, _≤_}
+use native.Mathlib.Omega.{arith}
+use lib.ListN.{length, getD, take, length-append, length-replicate}
+use Rattle.answers.specs.declared.Form.the-variants.{Response}
+use Rattle.answers.specs.Try.{good}
+use Rattle.answers.specs.Wire.{responseVersion, NullGuid, Lm20Token}
+use Rattle.names.specs.Name.{writeNames}
+use Rattle.names.proofs.Laws.Name.{sizes, names-short, Spot}
+use Rattle.octets.specs.Label.{labels}
+use Rattle.octets.proofs.Laws.Label.{Plain, size}
+use Rattle.octets.proofs.Laws.Lists.{Every}
+use Rattle.octets.specs.Number.{littleOctets}
+use Rattle.octets.proofs.Laws.Number.{length-little}
+use Rattle.reader.specs.Reader as reader
+use Rattle.reader.proofs.Laws.Reader as reading
+use Rattle.reader.proofs.Laws.Reader.{Opened, opened, NamesRow, givenBack}
+use Rattle.reply.specs.Reply.{Reply, opening, responseHead, responseNames, responseOctets}
+use Rattle.demands.specs.Length.{longest}
+use Rattle.demands.proofs.Laws.Sound.{Sound}
+use Rattle.demands.proofs.Laws.Forms.{ending-same, opening-same, size-most, opening-length}
+use Rattle.demands.proofs.Laws.Forms.Names.{named-row, named-spot}
+
+module _ (v : ℕ) (r : Reply) (k : Sound Response v r) where
+  pub response-plain : Every (λ text. Plain (labels text)) (responseNames r)
+  response-plain = (k .forest .plain, (k .dns .plain, (k .host .plain, tt)))
+
+  pub response-short : Every (λ text. size (labels text) ≤ 255) (responseNames r)
+  response-short = (size-most 253 (r .forest) (k .forest), (size-most 253 (r .dns) (k .dns), (size-most 253 (r .host) (k .host), tt)))
+
+  pub response-sizes : sizes (responseNames r) ≤ 765
+  response-sizes = let s = response-short in omega arith
+
+  pub response-head : length (responseHead r) ≤ 226
+  unfolding responseHead
+  response-head = simp (length-append, length-replicate) (omega (arith, opening-length Response v r k, k .guid))
+
+  pub response-room : length (responseHead r) + sizes (responseNames r) ≤ 0x4000
+  response-room = omega (arith, response-head, response-sizes)
+
+  abbrev responseNamed : List ℕ
+  responseNamed = writeNames [] (length (responseHead r)) (responseNames r) .octets
+
+  abbrev responseRest : List ℕ
+  responseRest = r .ipv4 ++ (littleOctets 4 (r .flags) ++ reading.ending responseVersion)
+
+  response-split : responseOctets r ≡ responseHead r ++ responseNamed ++ responseRest
+  unfolding responseOctets
+  response-split = rw (ending-same responseVersion) (simp append-assoc)
+
+  pub response-length : length (responseOctets r) ≤ longest Response
+  response-length =
+      rw response-split
+      (simp length-append
+      (omega (
+        arith,
+        response-head,
+        response-sizes,
+        names-short (responseNames r) [] (length (responseHead r)),
+        k .ipv4,
+        length-little 4 (r .flags),
+        length-little 4 responseVersion,
+        length-little 2 Lm20Token,
+      )))
+
+  pub response-row : NamesRow (responseOctets r) (length (responseHead r)) (responseNames r) responseNamed
+  response-row = named-row (responseHead r) (responseNames r) response-plain response-short response-room responseRest (responseOctets r) response-split
+
+  pub response-spot : (i : ℕ) → i < length (responseNames r)
+      → Spot (responseOctets r) (length (responseHead r) + length (writeNames [] (length (responseHead r)) (take i (responseNames r)) .octets)) (0 + i) (getD (responseNames r) i []) (getD (response-row .counts) i 0)
+  unfolding response-row named-row
+  response-spot = named-spot (responseHead r) (responseNames r) response-plain response-short response-room responseRest (responseOctets r) response-split
+
+  pub response-opened : Opened (responseOctets r) (r .opcode) (r .server) (r .user) (r .netbios) (r .guid ++ (NullGuid ++ (responseNamed ++ responseRest)))
+  response-opened = opened (responseOctets r) (r .opcode) (r .server) (r .user) (r .netbios) (r .guid ++ (NullGuid ++ (responseNamed ++ responseRest))) shape (k .opcode) (k .serverSpoken) (k .userSpoken) (k .netbiosSpoken)
+    where
+      head : responseHead r ++ responseNamed ++ responseRest ≡ opening r ++ (r .guid ++ (NullGuid ++ (responseNamed ++ responseRest)))
+      head = unfold responseHead in simp append-assoc
+
+      shape : responseOctets r ≡ reading.opening (r .opcode) (r .server) (r .user) (r .netbios) (r .guid ++ (NullGuid ++ (responseNamed ++ responseRest)))
+      shape = response-split ∙ head ∙ opening-same r (r .guid ++ (NullGuid ++ (responseNamed ++ responseRest)))
+
+  pub response-read : reader.readResponse (responseOctets r)
+      ≡ good
+      (reader.response
+      (record {
+        opcode = r .opcode;
+        server = response-opened .serverAt;
+        user = response-opened .userAt;
+        domain = response-opened .domainAt;
+        guid = r .guid;
+        names = givenBack (responseNames r) (response-row .counts);
+        ipv4 = r .ipv4;
+        flags = r .flags;
+        version = responseVersion;
+      }))
+  response-read =
+      reading.read-response (responseOctets r) (r .opcode) (r .server) (r .user) (r .netbios) (r .guid) (responseNames r) responseNamed (r .ipv4) (r .flags)
+      response-opened (k .guid) (k .ipv4) (k .flags) refl (length (responseHead r))
+      (record { front = responseHead r; whole = response-split ∙ append-assoc (responseHead r) responseNamed responseRest; offset = refl })
+      response-row

@@ -1,0 +1,55 @@
+-- What an answer was made from, what its reply says, and of which answers the demands speak: of those over a table, and of the whole's.
+use mathlib.Core.Path.{_≡_}
+use mathlib.Core.Bool.{false, not}
+use mathlib.Core.List.{List}
+use Prim.Native.Nat.{ℕ}
+use Rattle.answers.specs.Try.{good}
+use Rattle.filter_read.specs.Value.{Ping}
+use Rattle.unicode.specs.UserName.{isUserName}
+use Rattle.locator.specs.Answer.{Outcome, replyTo, pingFrom, answerOver, answerTo}
+use Rattle.locator.specs.Choose.{replyFor}
+use Rattle.locator.specs.Judge.{contextIn}
+use Rattle.octets.specs.Lists.{holds}
+use Rattle.reply.specs.Reply.{Reply}
+use Rattle.table.specs.declared.Caller.{Caller}
+use Rattle.table.specs.Context.{Context}
+use Rattle.table.specs.Table.{Table}
+use Rattle.table_whole.specs.Judgement.{tableIn}
+
+-- a table that passed 1 to 4: that of some image
+pub record AcceptedTable (t : Table) : Type 0 where
+  pub image : List ℕ
+  pub judged : tableIn image ≡ good t
+
+-- a ping whose user 9 lets pass, if it has one
+abbrev pub GoodPing : Ping → Type 0
+GoodPing p = holds (λ name. not (isUserName name)) (p .user) ≡ false
+
+-- an answer over a table: the context used, and the reply in it
+pub record Derivation (t : Table) (caller : Caller) (p : Ping) (room : ℕ) (a : Outcome) : Type 0 where
+  pub context : Context
+  pub used : contextIn t p ≡ good context
+  pub replied : replyTo t caller p room context ≡ good a
+
+-- what the reply says: each slot's text, and the numbers
+abbrev pub said : {t : Table} {caller : Caller} {p : Ping} {room : ℕ} {a : Outcome} → Derivation t caller p room a → Reply
+said {t} {caller} {p} {a = a} d = replyFor t caller p (d .context) (a .form)
+
+-- this holds of every answer over a table that passed, to a ping that came in any way and whose user 9 lets pass
+abbrev pub EveryAnswerOver : (Table → Caller → Ping → ℕ → Outcome → Type 0) → Type 0
+EveryAnswerOver P =
+    (t : Table) (caller : Caller) (p : Ping) (room : ℕ) (a : Outcome)
+    → AcceptedTable t → GoodPing p → answerOver t caller p room ≡ good a → P t caller p room a
+
+-- the table of an image and the ping of a filter
+pub record Parts (image filter : List ℕ) : Type 0 where
+  pub table : Table
+  pub ping : Ping
+  pub judged : tableIn image ≡ good table
+  pub pinged : pingFrom filter ≡ good ping
+
+-- this holds of every answer to a table image, caller, filter and room
+abbrev pub EveryAnswer : (Table → Caller → Ping → ℕ → Outcome → Type 0) → Type 0
+EveryAnswer P =
+    (image : List ℕ) (caller : Caller) (filter : List ℕ) (room : ℕ) (a : Outcome)
+    → answerTo image caller filter room ≡ good a → (parts : Parts image filter) × P (parts .table) caller (parts .ping) room a

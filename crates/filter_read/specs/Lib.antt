@@ -1,0 +1,3 @@
+pub mod Taken
+pub mod Value
+pub mod Internal

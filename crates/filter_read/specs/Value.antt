@@ -1,0 +1,70 @@
+-- Document 01, "Answer numbers" 9 and 10: the values of a request's clauses, judged over the whole filter.
+use mathlib.Core.Bool.{Bool, not, _||_}
+use mathlib.Core.List.{List}
+use mathlib.Core.Option.{Option, none, some, Option·map, Option·getD}
+use Prim.Native.Nat.{ℕ}
+use lib.Dec.{eqb}
+use lib.ListN.{length}
+use Rattle.answers.specs.declared.Refusal.the-variants.{ClauseValue, NoVersion}
+use Rattle.answers.specs.Refusal.{number}
+use Rattle.answers.specs.Try.{Try, refused, good, refusedIf}
+use Rattle.octets.specs.Lists.{holds}
+use Rattle.octets.specs.Number.{little}
+use Rattle.unicode.specs.UserName.{isUserName}
+use Rattle.filter_read.specs.declared.value.Judged.{Judged}
+use Rattle.filter_read.specs.declared.value.Judged.the-variants as judged
+use Rattle.filter.specs.declared.request.Request.{Request}
+use Rattle.filter.specs.Request.{octetsOf}
+
+-- what the clauses of a request say that the answer goes by: absent, or their octets; an absent AAC is 0
+pub record Ping : Type 0 where
+  pub dnsDomain : Option (List ℕ)
+  pub user : Option (List ℕ)
+  pub aac : ℕ
+  pub domainSid : Option (List ℕ)
+  pub domainGuid : Option (List ℕ)
+  pub version : ℕ
+
+-- the octets of a number are four
+abbrev pub isNumber : List ℕ → Bool
+isNumber s = eqb (length s) 4
+
+-- 9: NtVer or AAC not 4 octets; User over 63, not UTF-8, or holding a zero octet
+unfoldable pub wrongValue : List ℕ → Request → Bool
+wrongValue s r =
+    holds (λ x. not (isNumber x)) (octetsOf s (r .«nt_ver»))
+    || holds (λ x. not (isNumber x)) (octetsOf s (r .«aac»))
+    || holds (λ x. not (isUserName x)) (octetsOf s (r .«user»))
+
+-- the version asked, where there is one
+unfoldable pub versionAsked : List ℕ → Request → Option ℕ
+versionAsked s r = Option·map little (octetsOf s (r .«nt_ver»))
+
+abbrev pub pingOf : List ℕ → Request → ℕ → Ping
+pingOf s r v =
+    record {
+      dnsDomain = octetsOf s (r .«dns_domain»);
+      user = octetsOf s (r .«user»);
+      aac = Option·getD (Option·map little (octetsOf s (r .«aac»))) 0;
+      domainSid = octetsOf s (r .«domain_sid»);
+      domainGuid = octetsOf s (r .«domain_guid»);
+      version = v;
+    }
+
+-- 10: no NtVer
+abbrev pub withVersion : List ℕ → Request → Option ℕ → Try Ping
+withVersion s r none = refused NoVersion
+withVersion s r (some v) = good (pingOf s r v)
+
+unfoldable pub pingIn : List ℕ → Request → Try Ping
+pingIn s r = refusedIf (wrongValue s r) ClauseValue (withVersion s r (versionAsked s r))
+
+-- the answer of judging a request's values, as the enum that the call returns
+abbrev pub judgedValues : Try Ping → Judged
+judgedValues (refused r) = judged.Refused r
+judgedValues (good p) = judged.Version (p .version)
+
+-- document 01's number of it
+abbrev pub judgedNumber : Judged → ℕ
+judgedNumber (judged.Version v) = 0
+judgedNumber (judged.Refused r) = number r

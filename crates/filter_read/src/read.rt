@@ -1,0 +1,34 @@
+// A filter taken apart.
+ghost use mathlib.Core.Path.{_≡_};
+ghost use Rattle.filter_read.specs.Taken.{requestIn, takenAs};
+use crate::gather::Gathering;
+use crate::gather::whole;
+use answers::Refusal;
+use filter::position::FILTER_LIMIT;
+use filter::request::Request;
+
+// What taking a filter apart gives: 0 with the request, or 5 to 8.
+pub enum Taken {
+    Request(Request),
+    Refused(Refusal),
+}
+
+// A filter taken apart: 5 by its length alone, then 6, 7 and 8, each judged over the whole filter.
+pub fn take_apart(s: &[u8]) -> Taken
+    ensures { λ r. ⌜ r ≡ takenAs (requestIn (now (s .entry))) ⌝ }
+{
+    if FILTER_LIMIT < s.len() {
+        return Taken::Refused(Refusal::FilterLength);
+    }
+    let Gathering::Good(gathered) = whole(s) else {
+        return Taken::Refused(Refusal::FilterShape);
+    };
+    if gathered.unknown {
+        return Taken::Refused(Refusal::UnknownClause);
+    }
+    if gathered.duplicate {
+        return Taken::Refused(Refusal::DuplicateClause);
+    }
+    let request = gathered.request;
+    Taken::Request(request)
+}

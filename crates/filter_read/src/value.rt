@@ -1,0 +1,66 @@
+// The values of a request's clauses, judged.
+ghost use mathlib.Core.Path.{_≡_};
+ghost use mathlib.Core.Bool.{not};
+ghost use Rattle.octets.specs.Lists.{holds};
+ghost use Rattle.unicode.specs.UserName.{isUserName};
+ghost use Rattle.filter.specs.Request.{octetsOf};
+ghost use Rattle.filter_read.specs.Value.{isNumber, pingIn, judgedValues};
+use answers::Refusal;
+use filter::request::Clause;
+use filter::request::Request;
+use octets::number::u32_at;
+use octets::part::part;
+use unicode::user_name::is_user_name;
+
+// What judging a request's values gives: the version asked for, or 9 or 10.
+pub enum Judged {
+    Version(u32),
+    Refused(Refusal),
+}
+
+// The octets of NtVer and of AAC.
+const NUMBER_WIDTH: usize = 4;
+
+// A clause that is present and is no number of four octets.
+fn is_wrong_number(s: &[u8], clause: Clause) -> bool
+    ensures { λ r. ⌜ r ≡ holds (λ x. not (isNumber x)) (octetsOf (now (s .entry)) clause) ⌝ }
+{
+    let Clause::Present { start, len } = clause else {
+        return false;
+    };
+    let value = part(s, start, len);
+    value.len() != NUMBER_WIDTH
+}
+
+// A clause that is present and is no user's name: over 63 octets, not UTF-8, or holding a zero octet.
+fn is_wrong_user(s: &[u8], clause: Clause) -> bool
+    ensures { λ r. ⌜ r ≡ holds (λ x. not (isUserName x)) (octetsOf (now (s .entry)) clause) ⌝ }
+{
+    let Clause::Present { start, len } = clause else {
+        return false;
+    };
+    let value = part(s, start, len);
+    !is_user_name(value)
+}
+
+// The values of a request: 9 over the whole filter, then 10, else the version asked for.
+pub fn judge_values(s: &[u8], request: Request) -> Judged
+    ensures { λ r. ⌜ r ≡ judgedValues (pingIn (now (s .entry)) request) ⌝ }
+{
+    let nt_ver = request.nt_ver;
+    if is_wrong_number(s, nt_ver) {
+        return Judged::Refused(Refusal::ClauseValue);
+    }
+    let aac = request.aac;
+    if is_wrong_number(s, aac) {
+        return Judged::Refused(Refusal::ClauseValue);
+    }
+    let user = request.user;
+    if is_wrong_user(s, user) {
+        return Judged::Refused(Refusal::ClauseValue);
+    }
+    let Clause::Present { start, len } = nt_ver else {
+        return Judged::Refused(Refusal::NoVersion);
+    };
+    Judged::Version(u32_at(part(s, start, len), 0))
+}

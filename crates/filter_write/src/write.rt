@@ -1,0 +1,39 @@
+// Writes a filter of a request's clauses.
+ghost use mathlib.Core.Path.{_≡_};
+ghost use lib.ListN.{length};
+ghost use Rattle.octets.specs.Buffer.{over};
+ghost use Rattle.filter_write.specs.Write.{filterFor, writtenAs, writtenOctets};
+use crate::put::put_filter;
+use crate::size::contents_size;
+use crate::size::element_size;
+use crate::size::has_clause;
+use answers::Refusal;
+use filter::position::FILTER_LIMIT;
+use filter::request::Request;
+
+// What writing a filter gives: 0 with the length, or 6, 5 or 19.
+pub enum Written {
+    Length(usize),
+    Refused(Refusal),
+}
+
+// Writes a filter of the clauses whose octets lie in the source: 6 where none is present, then 5, then 19, and the buffer unchanged.
+// Its length is known before the first octet is written.
+pub fn write_filter(source: &[u8], request: Request, out: &mut [u8]) -> Written
+    ensures { λ r. ⌜ r ≡ writtenAs (filterFor (now (source .entry)) request (length (now (out .entry)))) ⌝ }
+    ensures { λ _. ⌜ now (out .exit) ≡ over (writtenOctets (filterFor (now (source .entry)) request (length (now (out .entry))))) (now (out .entry)) ⌝ }
+{
+    if !has_clause(request) {
+        return Written::Refused(Refusal::FilterShape);
+    }
+    let size = contents_size(source, request);
+    let total = element_size(size);
+    if FILTER_LIMIT < total {
+        return Written::Refused(Refusal::FilterLength);
+    }
+    if out.len() < total {
+        return Written::Refused(Refusal::NoRoom);
+    }
+    put_filter(out, source, request, size);
+    Written::Length(total)
+}

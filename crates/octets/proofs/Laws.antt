@@ -1,0 +1,8 @@
+pub mod Buffer
+pub mod Label
+pub mod LabelStep
+pub mod Lists
+pub mod NameRule
+pub mod Number
+pub mod Sid
+pub mod Text

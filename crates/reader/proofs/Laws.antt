@@ -1,0 +1,4 @@
+pub mod Field
+pub mod Name
+pub mod Reader
+pub mod Text

@@ -1,0 +1,125 @@
+-- The reader and the walk: what the reader accepts is the walk's, and it accepts every walk within its two limits.
+use mathlib.Core.Path.{_≡_, refl, sym, ap, _∙_, subst}
+use mathlib.Core.Bool.{not, _||_}
+use mathlib.Core.List.{List, [], _∷_}
+use mathlib.Core.Option.{some}
+use Prim.Native.Nat.{ℕ, zero, suc, _+_, _<_, _≤_}
+use native.Mathlib.Nat.{zero-add, add-zero}
+use native.Mathlib.Omega.{arith}
+use lib.Dec.{eqb, ltb}
+use lib.ListN.{length}
+use borrow.Author.Tests.{lt-ltb, le-ltb, ne-eqb, ltb-true, ltb-false, not-false}
+use Rattle.answers.specs.declared.Refusal.the-variants.{ReplyText}
+use Rattle.answers.specs.Try.{Try, refused, good, refusedIf, _>>=_}
+use Rattle.answers.proofs.Laws.Try.{refused-not-good, refusedIf-good}
+use Rattle.names.specs.Walk.{Look, end, label, pointer, missing, reserved, lookAt, onLook, labelAt, WalkedName, steps}
+use Rattle.names.specs.WalkRelation.{Walks, ends, reads, points}
+use Rattle.names.proofs.Laws.Walk.{walk-inside, finds, bound, bound-read, bound-jump, bound-steps}
+use Rattle.octets.proofs.Laws.Label.{size, size-positive}
+use Rattle.octets.proofs.Laws.Lists.{cut-length, neither-left}
+use Rattle.reader.specs.Field.{Read}
+use Rattle.reader.specs.Name.{cutAfter, labelBefore, endingAt, readNameFrom, readName}
+use Rattle.reader.specs.ReaderWalks.{ReaderWalks}
+
+-- ---- the reader accepts a walk within its limits
+
+module _ (s : List ℕ) (run at spent pointers k : ℕ) where
+  from-end : lookAt s at ≡ end → readNameFrom (suc k) s run at spent pointers ≡ good (record { value = record { labels = []; pointers = pointers }; next = at + 1 })
+  unfolding readNameFrom
+  from-end e = rw e
+
+  from-label : (n : ℕ) → lookAt s at ≡ label n → at + 1 + n ≤ length s → spent + 1 + n + 1 ≤ 255
+      → readNameFrom (suc k) s run at spent pointers ≡ (readNameFrom k s run (at + 1 + n) (spent + 1 + n) pointers >>= λ f. good (labelBefore (labelAt s at n) f))
+  unfolding readNameFrom
+  from-label n e h room = rw (e, le-ltb 255 (spent + 1 + n + 1) room, le-ltb (length s) (at + 1 + n) h)
+
+  from-pointer : (t : ℕ) → lookAt s at ≡ pointer t → t < run → pointers < 16 → readNameFrom (suc k) s run at spent pointers ≡ (readNameFrom k s t t spent (pointers + 1) >>= λ f. good (endingAt (at + 2) f))
+  unfolding readNameFrom
+  from-pointer t e h room =
+      let z : pointers ≡ 16 → ⊥ = λ q. omega arith in
+      rw (e, lt-ltb t run h, ne-eqb pointers 16 z)
+
+-- a name of labels ls that follows c pointers more, and whose field ends at next
+abbrev Given : List (List ℕ) → ℕ → ℕ → Try (Read WalkedName)
+Given ls c next = good (record { value = record { labels = ls; pointers = c }; next = next })
+
+accepts : {s : List ℕ} {run at c next : ℕ} {ls : List (List ℕ)} → Walks s run at ls c next → (k spent pointers : ℕ) → bound s run at < k
+    → spent + size ls ≤ 255 → pointers + c ≤ 16 → readNameFrom k s run at spent pointers ≡ Given ls (pointers + c) next
+accepts w zero spent pointers b room few = absurd (omega arith)
+accepts {s} {run} {at} (ends e) (suc k) spent pointers b room few = rw (from-end s run at spent pointers k e, add-zero pointers)
+accepts {s} {run} {at} (reads {n = n} {c = c} {next = next} {l = l} {ls = ls} e h q w) (suc k) spent pointers b room few =
+    let m : length l ≡ n = ap length (sym q) ∙ cut-length s (at + 1) n h in
+    let p : 1 ≤ size ls = size-positive ls in
+    rw (from-label s run at spent pointers k n e h (omega arith), accepts w k (spent + 1 + n) pointers (bound-read s run at n k h b) (omega arith) few)
+    (ap (λ (x : List ℕ). Given (x ∷ ls) (pointers + c) next) q)
+accepts {s} {run} {at} (points {t = t} {c = c} {ls = ls} e h w) (suc k) spent pointers b room few =
+    let z : pointers + 1 + c ≡ pointers + suc c = omega arith in
+    rw (from-pointer s run at spent pointers k t e h (omega arith), accepts w k spent (pointers + 1) (bound-jump s run at t k h b) room (omega arith))
+    (ap (λ (x : ℕ). Given ls x (at + 2)) z)
+
+pub name-here : {s : List ℕ} {at c next : ℕ} {ls : List (List ℕ)} → Walks s at at ls c next → size ls ≤ 255 → c ≤ 16 → readName s at ≡ good (record { value = record { labels = ls; pointers = c }; next = next })
+unfolding readName
+name-here {s} {at} {c} {next} {ls} w room few =
+    accepts w (steps s) 0 0 (bound-steps s at (walk-inside w)) (omega arith) (omega arith) ∙ ap (λ (x : ℕ). Given ls x next) (zero-add c)
+
+-- ---- what the reader accepts is the walk's
+
+-- from `at`, with pointers followed before: a walk by the relation
+abbrev ReadsTo : List ℕ → ℕ → ℕ → ℕ → Read WalkedName → Type 0
+ReadsTo s run at pointers f = (c : ℕ) × (f .value .pointers ≡ pointers + c) × Walks s run at (f .value .labels) c (f .next)
+
+agrees : (k : ℕ) (s : List ℕ) (run at spent pointers : ℕ) (f : Read WalkedName) → readNameFrom k s run at spent pointers ≡ good f → ReadsTo s run at pointers f
+unfolding readNameFrom
+agrees zero s run at spent pointers f e = absurd (refused-not-good ReplyText f e)
+agrees (suc k) s run at spent pointers f e = go (lookAt s at) refl e (λ r a u p g q. agrees k s r a u p g q)
+  where
+    Deeper : Type 0
+    Deeper = (r a u p : ℕ) (g : Read WalkedName) → readNameFrom k s r a u p ≡ good g → ReadsTo s r a p g
+
+    after-label : (n : ℕ) → lookAt s at ≡ label n → at + 1 + n ≤ length s → (r : Try (Read WalkedName)) → (r >>= λ g. good (labelBefore (labelAt s at n) g)) ≡ good f
+        → ((g : Read WalkedName) → r ≡ good g → ReadsTo s run (at + 1 + n) pointers g) → ReadsTo s run at pointers f
+    after-label n v h (refused r) q d = absurd (refused-not-good r f q)
+    after-label n v h (good g) q d =
+        let y = d g refl in
+        let z : labelBefore (labelAt s at n) g ≡ f = cc in
+        subst (ReadsTo s run at pointers) z (y .0, y .1, reads v h refl (y .2))
+
+    after-pointer : (t : ℕ) → lookAt s at ≡ pointer t → t < run → (r : Try (Read WalkedName)) → (r >>= λ g. good (endingAt (at + 2) g)) ≡ good f
+        → ((g : Read WalkedName) → r ≡ good g → ReadsTo s t t (pointers + 1) g) → ReadsTo s run at pointers f
+    after-pointer t v h (refused r) q d = absurd (refused-not-good r f q)
+    after-pointer t v h (good g) q d =
+        let y = d g refl in
+        let z : endingAt (at + 2) g ≡ f = cc in
+        let m : g .value .pointers ≡ pointers + suc (y .0) = omega (arith, y .1) in
+        subst (ReadsTo s run at pointers) z (suc (y .0), m, points v h (y .2))
+
+    go : (v : Look) → lookAt s at ≡ v
+        → onLook v (good (record { value = record { labels = []; pointers = pointers }; next = at + 1 }))
+        (λ n.
+        refusedIf (ltb 255 (spent + 1 + n + 1)) ReplyText
+        (refusedIf (ltb (length s) (at + 1 + n)) (cutAfter pointers)
+        (readNameFrom k s run (at + 1 + n) (spent + 1 + n) pointers >>= λ g. good (labelBefore (labelAt s at n) g))))
+        (λ t. refusedIf (not (ltb t run) || eqb pointers 16) ReplyText (readNameFrom k s t t spent (pointers + 1) >>= λ g. good (endingAt (at + 2) g)))
+        (refused (cutAfter pointers)) (refused ReplyText)
+        ≡ good f
+        → Deeper → ReadsTo s run at pointers f
+    go end v q d =
+        let z : record { value = record { labels = []; pointers = pointers }; next = at + 1 } ≡ f = cc in
+        subst (ReadsTo s run at pointers) z (0, sym (add-zero pointers), ends v)
+    go (label n) v q d =
+        let a = refusedIf-good (ltb 255 (spent + 1 + n + 1)) ReplyText _ f q in
+        let b = refusedIf-good (ltb (length s) (at + 1 + n)) (cutAfter pointers) _ f (a .1) in
+        after-label n v (ltb-false (length s) (at + 1 + n) (b .0)) (readNameFrom k s run (at + 1 + n) (spent + 1 + n) pointers) (b .1) (λ g r. d run (at + 1 + n) (spent + 1 + n) pointers g r)
+    go (pointer t) v q d =
+        let a = refusedIf-good (not (ltb t run) || eqb pointers 16) ReplyText _ f q in
+        let h : t < run = ltb-true t run (not-false (ltb t run) (neither-left (not (ltb t run)) (eqb pointers 16) (a .0))) in
+        after-pointer t v h (readNameFrom k s t t spent (pointers + 1)) (a .1) (λ g r. d t t spent (pointers + 1) g r)
+    go missing v q d = absurd (refused-not-good (cutAfter pointers) f q)
+    go reserved v q d = absurd (refused-not-good ReplyText f q)
+
+pub reader-walks : ReaderWalks
+unfolding readName
+reader-walks s at f e =
+    let d = agrees (steps s) s at at 0 0 f e in
+    let z : d .0 ≡ f .value .pointers = omega (arith, d .1) in
+    finds (d .2) ∙ ap (λ (c : ℕ). some (record { labels = f .value .labels; pointers = c })) z

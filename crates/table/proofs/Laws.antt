@@ -1,0 +1,4 @@
+pub mod Address
+pub mod Field
+pub mod Format
+pub mod Table

@@ -1,0 +1,14 @@
+use Rattle.table.specs.Account.{accountOf}
+use borrow.Author.Needs.{needs}
+use Rattle.table.proofs.account.name.Statement.{statement}
+use Rattle.table.proofs.account.name.Tie as tie
+
+text-in-requires : tie.Need-text-in-requires
+text-in-requires c κs = search needs
+
+returns : tie.Need-returns
+unfolding accountOf
+returns c = c .text-in .ensures
+
+pub name-spec : {M : Type 1} → statement M
+name-spec = tie.close (tie.spec text-in-requires returns)

@@ -1,0 +1,4 @@
+pub mod Ordering
+pub mod Reordered
+pub mod Neighbours
+pub mod AccountKey

@@ -1,0 +1,4 @@
+pub mod Ordering
+pub mod AccountKey
+pub mod Reordered
+pub mod Neighbours

@@ -1,0 +1,108 @@
+// `filter` and `values` lines: a filter is taken apart, and its values are judged.
+ghost use mathlib.Core.Path.{_≡_};
+ghost use Rattle.filter_read.specs.Taken.{takenNumber};
+ghost use Rattle.filter_read.specs.Value.{judgedNumber};
+use crate::parse::decode;
+use crate::say::say;
+use crate::say::say_hex;
+use crate::say::say_number;
+use answers::number_of;
+use filter::request::CLAUSE_COUNT;
+use filter::request::Clause;
+use filter::request::Request;
+use filter::request::clause_name_at;
+use filter_read::read::Taken;
+use filter_read::read::take_apart;
+use filter_read::value::Judged;
+use filter_read::value::judge_values;
+use octets::part::part;
+
+fn say_clause(filter: &[u8], clause: Clause) {
+    match clause {
+        Clause::Absent => say(b" ."),
+        Clause::Present { start, len } => {
+            say(b" =");
+            say_hex(part(filter, start, len));
+        }
+    }
+}
+
+fn say_request(filter: &[u8], request: Request) {
+    let mut i = 0;
+    while i < CLAUSE_COUNT {
+        say_clause(filter, request.clause(clause_name_at(i)));
+        i += 1;
+    }
+}
+
+fn taken_number(taken: Taken) -> u8
+    ensures { λ r. ⌜ r ≡ takenNumber taken ⌝ }
+{
+    match taken {
+        Taken::Request(_) => 0,
+        Taken::Refused(r) => number_of(r),
+    }
+}
+
+// The clauses of a refused filter are all absent.
+fn say_clauses(filter: &[u8], taken: Taken) {
+    match taken {
+        Taken::Request(request) => say_request(filter, request),
+        Taken::Refused(_) => say(b" . . . . . . . ."),
+    }
+}
+
+pub fn answer_filter(text: &[u8], space: &mut [u8]) {
+    let n = decode(text, space);
+    let filter = part(space, 0, n);
+    let taken = take_apart(filter);
+    say(b"filter ");
+    say_number(taken_number(taken) as u64);
+    say_clauses(filter, taken);
+    say(b"\n");
+}
+
+// A filter taken apart, and its values judged.
+fn judged(filter: &[u8]) -> Judged {
+    match take_apart(filter) {
+        Taken::Request(request) => judge_values(filter, request),
+        Taken::Refused(r) => Judged::Refused(r),
+    }
+}
+
+fn judged_number(judged: Judged) -> u8
+    ensures { λ r. ⌜ r ≡ judgedNumber judged ⌝ }
+{
+    match judged {
+        Judged::Version(_) => 0,
+        Judged::Refused(r) => number_of(r),
+    }
+}
+
+fn judged_version(judged: Judged) -> u32 {
+    match judged {
+        Judged::Version(version) => version,
+        Judged::Refused(_) => 0,
+    }
+}
+
+// Version bits as 8 hex digits.
+fn say_version(version: u32) {
+    let octets = [
+        (version / 16777216) as u8,
+        (version / 65536 % 256) as u8,
+        (version / 256 % 256) as u8,
+        (version % 256) as u8,
+    ];
+    say_hex(&octets);
+}
+
+pub fn answer_values(text: &[u8], space: &mut [u8]) {
+    let n = decode(text, space);
+    let answer = judged(part(space, 0, n));
+    say(b"values ");
+    say_number(judged_number(answer) as u64);
+    say(b" ");
+    say_version(judged_version(answer));
+    say(b"\n");
+}
