@@ -1,6 +1,16 @@
 //! Table images for timing: as many accounts, sites or subnets as fit, in the worst shapes too.
+use crate::calls::CLIENT;
 
 const BLOCK: usize = 512;
+const BODY: usize = 504;
+
+/// Kinds of record, and how wide each is.
+const ACCOUNTS: (u8, usize) = (4, 84);
+const SITES: (u8, usize) = (5, 72);
+const SUBNETS: (u8, usize) = (6, 12);
+
+/// Every role but that of NT4 replies.
+const ALL_ROLES: u32 = 0xDFF;
 
 /// The blocks of an image, each with its kind, place and check.
 pub struct Image {
@@ -8,41 +18,28 @@ pub struct Image {
 }
 
 impl Image {
-    /// Server, forest, one context, and one block with one site: the least that is accepted.
+    /// Document 01's base table without its account: server, forest, one context and one site, the least that is accepted.
     pub fn smallest() -> Image {
         let mut image = Image { octets: Vec::new() };
-        let mut server = vec![0u8; 504];
-        put_u16(&mut server, 12, 1);
-        put_u16(&mut server, 14, 1);
-        put_text(&mut server, 16, b"DC1");
-        put_text(&mut server, 32, b"dc1.corp.example");
-        image.add(1, &server);
-        let mut forest = vec![0u8; 504];
-        put_text(&mut forest, 0, b"example");
-        image.add(2, &forest);
-        let mut context = vec![0u8; 504];
-        put_u16(&mut context, 0, 1);
-        for k in 0..16 {
-            context[4 + k] = k as u8 + 1;
-        }
-        put_text(&mut context, 88, b"CORP");
-        put_text(&mut context, 104, b"corp.example");
-        image.add(3, &context);
-        image.add(5, &site(1, 0));
+        image.add(1, &server(0, 1, b"DC1", b"dc1.corp.example"));
+        image.add(2, &text(b"example"));
+        let guid: Vec<u8> = (1..=16).collect();
+        image.add(3, &context(1, &guid, None, b"CORP", b"corp.example"));
+        image.add(5, &site(1, b"HQ", 0));
         image
     }
 
-    /// The smallest image and a block with one account: as many blocks as document 01's sample table has.
+    /// Document 01's base table.
     pub fn five_blocks() -> Image {
         let mut image = Image::smallest();
-        image.add_records(4, 84, 1, |_| account(b"ann"));
+        image.add(4, &account(1, b"ann"));
         image
     }
 
     /// 128 blocks, the rest of them full of records.
     pub fn full(kind: u8, width: usize, record: impl Fn(usize) -> Vec<u8>) -> Image {
         let mut image = Image::smallest();
-        let count = (504 / width) * (128 - image.octets.len() / BLOCK);
+        let count = (BODY / width) * (128 - image.octets.len() / BLOCK);
         image.add_records(kind, width, count, record);
         image
     }
@@ -52,7 +49,7 @@ impl Image {
     }
 
     fn add_records(&mut self, kind: u8, width: usize, count: usize, record: impl Fn(usize) -> Vec<u8>) {
-        let in_body = 504 / width;
+        let in_body = BODY / width;
         let mut made = 0;
         while made < count {
             let mut body = Vec::new();
@@ -82,33 +79,158 @@ impl Image {
     }
 }
 
-pub fn account(name: &[u8]) -> Vec<u8> {
-    let mut record = vec![0u8; 84];
-    put_u16(&mut record, 0, 1);
+/// A table of sixteen contexts and so many records, in which all that the worst ping looks for stands last among its
+/// like, in names as long as they may be that differ at the end alone.
+pub struct Laden {
+    pub accounts: usize,
+    pub sites: usize,
+    pub subnets: usize,
+}
+
+pub const CONTEXTS: u16 = 16;
+
+impl Laden {
+    /// A block of each kind of record: 21 blocks.
+    pub const LEAST: Laden = Laden { accounts: 6, sites: 7, subnets: 42 };
+    /// 107 blocks more of one kind: 128 blocks.
+    pub const OF_ACCOUNTS: Laden = Laden { accounts: 6 * 108, ..Laden::LEAST };
+    pub const OF_SITES: Laden = Laden { sites: 7 * 108, ..Laden::LEAST };
+    pub const OF_SUBNETS: Laden = Laden { subnets: 42 * 108, ..Laden::LEAST };
+
+    pub fn image(&self) -> Image {
+        let mut image = Image { octets: Vec::new() };
+        let last_site = self.sites as u16;
+        image.add(1, &server(ALL_ROLES, last_site, b"SERVER-15-OCTET", &long_dns_name(b'z')));
+        image.add(2, &text(&long_dns_name(b'y')));
+        for number in 1..=CONTEXTS {
+            let name = long_dns_name(b'a' + number as u8);
+            image.add(3, &context(number, &long_guid(number), Some(&long_sid(number)), b"DOMAIN-15-OCTET", &name));
+        }
+        // The client's site is the last but one, and the next closest to it the one before.
+        let client_site = last_site - 1;
+        image.add_records(SITES.0, SITES.1, self.sites, |k| {
+            let number = k as u16 + 1;
+            site(number, &long_site_name(number), if number == client_site { client_site - 1 } else { 0 })
+        });
+        image.add_records(ACCOUNTS.0, ACCOUNTS.1, self.accounts, |k| account(CONTEXTS, &long_user(k)));
+        let last_subnet = self.subnets - 1;
+        image.add_records(SUBNETS.0, SUBNETS.1, self.subnets, |k| {
+            if k == last_subnet {
+                subnet_of(CLIENT, 32, client_site)
+            } else {
+                subnet(k, last_site)
+            }
+        });
+        image
+    }
+
+    /// The account that stands last.
+    pub fn last_user(&self) -> Vec<u8> {
+        long_user(self.accounts - 1)
+    }
+}
+
+/// A name of 127 labels, the last of which is this.
+pub fn long_dns_name(last: u8) -> Vec<u8> {
+    let mut name = b"a.".repeat(126);
+    name.push(last);
+    name
+}
+
+pub fn long_guid(number: u16) -> [u8; 16] {
+    let mut guid = [1; 16];
+    guid[15] = number as u8;
+    guid
+}
+
+/// A SID of fifteen subauthorities.
+pub fn long_sid(number: u16) -> [u8; 68] {
+    let mut sid = [1; 68];
+    sid[1] = 15;
+    sid[67] = number as u8;
+    sid
+}
+
+fn long_site_name(number: u16) -> Vec<u8> {
+    format!("{:063}", number).into_bytes()
+}
+
+/// A user of 30 labels.
+fn long_user(k: usize) -> Vec<u8> {
+    format!("{}{:05}", "a.".repeat(29), k).into_bytes()
+}
+
+fn server(roles: u32, site: u16, netbios: &[u8], host: &[u8]) -> Vec<u8> {
+    let mut body = vec![0u8; BODY];
+    put_u32(&mut body, 0, roles);
+    put_u32(&mut body, 4, 6);
+    put_u16(&mut body, 12, site);
+    put_u16(&mut body, 14, 1);
+    put_text(&mut body, 16, netbios);
+    put_text(&mut body, 32, host);
+    body
+}
+
+fn context(number: u16, guid: &[u8], sid: Option<&[u8]>, netbios: &[u8], dns: &[u8]) -> Vec<u8> {
+    let mut body = vec![0u8; BODY];
+    put_u16(&mut body, 0, number);
+    body[4..20].copy_from_slice(guid);
+    if let Some(sid) = sid {
+        body[3] = 1;
+        body[20..20 + sid.len()].copy_from_slice(sid);
+    }
+    put_text(&mut body, 88, netbios);
+    put_text(&mut body, 104, dns);
+    body
+}
+
+pub fn account(context: u16, name: &[u8]) -> Vec<u8> {
+    let mut record = vec![0u8; ACCOUNTS.1];
+    put_u16(&mut record, 0, context);
     record[4] = 0x10;
     put_text(&mut record, 8, name);
     record
 }
 
-pub fn site(number: u16, next: u16) -> Vec<u8> {
-    let mut record = vec![0u8; 72];
+fn site(number: u16, name: &[u8], next: u16) -> Vec<u8> {
+    let mut record = vec![0u8; SITES.1];
     put_u16(&mut record, 0, number);
-    put_text(&mut record, 2, format!("site-{number}").as_bytes());
+    put_text(&mut record, 2, name);
     put_u16(&mut record, 66, next);
     record
 }
 
-pub fn subnet(number: usize, site: u16) -> Vec<u8> {
-    let mut record = vec![0u8; 12];
-    record[..4].copy_from_slice(&(0x0A00_0000u32 + ((number as u32) << 8)).to_be_bytes());
-    record[4] = 24;
+/// A site with a name of ordinary length.
+pub fn ordinary_site(number: u16, next: u16) -> Vec<u8> {
+    site(number, format!("site-{number}").as_bytes(), next)
+}
+
+fn subnet_of(address: [u8; 4], prefix: u8, site: u16) -> Vec<u8> {
+    let mut record = vec![0u8; SUBNETS.1];
+    record[..4].copy_from_slice(&address);
+    record[4] = prefix;
     record[5] = 1;
     put_u16(&mut record, 6, site);
     record
 }
 
+/// A subnet that does not hold the client, another for each number.
+pub fn subnet(number: usize, site: u16) -> Vec<u8> {
+    subnet_of((0x0A00_0000u32 + ((number as u32) << 8)).to_be_bytes(), 24, site)
+}
+
+fn text(text: &[u8]) -> Vec<u8> {
+    let mut octets = vec![text.len() as u8];
+    octets.extend(text);
+    octets
+}
+
 fn put_u16(octets: &mut [u8], at: usize, n: u16) {
     octets[at..at + 2].copy_from_slice(&n.to_le_bytes());
+}
+
+fn put_u32(octets: &mut [u8], at: usize, n: u32) {
+    octets[at..at + 4].copy_from_slice(&n.to_le_bytes());
 }
 
 fn put_text(octets: &mut [u8], at: usize, text: &[u8]) {

@@ -170,7 +170,7 @@ pub fn word_of_form(form: Form) -> &'static str {
     }
 }
 
-fn form_of_word(word: &str) -> Option<Form> {
+pub fn form_of_word(word: &str) -> Option<Form> {
     Form::ALL.into_iter().find(|form| word_of_form(*form) == word)
 }
 
@@ -221,7 +221,7 @@ pub fn octets_of_hex(digits: &str) -> Option<Vec<u8>> {
     pairs.iter().map(|[high, low]| Some(digit_of(*high)? << 4 | digit_of(*low)?)).collect()
 }
 
-fn octets_of_word(word: &str) -> Option<Vec<u8>> {
+pub fn octets_of_word(word: &str) -> Option<Vec<u8>> {
     match word {
         "" => None,
         "-" => Some(Vec::new()),

@@ -1,10 +1,11 @@
-//! The second program: it answers the vector lines on standard input, writes the stored vectors anew, or
-//! writes request lines in bulk.
+//! The second program: it answers the vector lines on standard input, writes the stored vectors anew, writes request
+//! lines in bulk, or compares another program's answers with its own.
 
 #![forbid(unsafe_code)]
 
 mod answers;
 mod choose;
+mod compare;
 mod filter;
 mod generate;
 mod image;
@@ -18,7 +19,8 @@ mod tests;
 mod walk;
 
 use std::env::args;
-use std::io::{self, stderr, stdin, stdout, BufWriter, Write};
+use std::fs::File;
+use std::io::{self, stdin, stdout, BufReader, BufWriter, Write};
 use std::path::Path;
 use std::process::ExitCode;
 
@@ -31,7 +33,10 @@ fn main() -> ExitCode {
         ["counts"] => generate_vectors(None),
         ["bulk", count] => write_bulk(count, None),
         ["bulk", count, "--seed", seed] => write_bulk(count, Some(seed)),
-        _ => Err(io::Error::other("takes no words, or: generate FOLDER, or: counts, or: bulk N [--seed S]")),
+        ["compare", requests, answers] => compare_answers(requests, answers),
+        _ => Err(io::Error::other(
+            "takes no words, or: generate FOLDER, counts, bulk N [--seed S], compare REQUESTS ANSWERS",
+        )),
     };
     match done {
         Ok(()) => ExitCode::SUCCESS,
@@ -42,19 +47,16 @@ fn main() -> ExitCode {
     }
 }
 
-/// Makes the vectors and shows the counts; fails where an answer number is given by no line.
+/// Makes the stored lines, and writes them below a folder or shows what they cover; fails where a required case is
+/// met by no line.
 fn generate_vectors(folder: Option<&Path>) -> io::Result<()> {
-    let counts = generate::generate(folder)?;
-    let text = generate::counts_text(&counts);
-    match folder {
-        Some(_) => stderr().write_all(text.as_bytes())?,
-        None => stdout().write_all(text.as_bytes())?,
+    let coverage = generate::generate(folder)?;
+    if folder.is_none() {
+        stdout().write_all(coverage.text().as_bytes())?;
     }
-    let missing = generate::missing_numbers(&counts);
-    if missing.is_empty() {
-        Ok(())
-    } else {
-        Err(io::Error::other(format!("no line gives: {}", missing.join(", "))))
+    match coverage.missing().as_slice() {
+        [] => Ok(()),
+        missing => Err(io::Error::other(format!("no stored line meets:\n{}", missing.join("\n")))),
     }
 }
 
@@ -63,4 +65,17 @@ fn write_bulk(count: &str, seed: Option<&str>) -> io::Result<()> {
     let count = count.parse().map_err(io::Error::other)?;
     let seed = seed.map_or(Ok(generate::SEED), str::parse).map_err(io::Error::other)?;
     generate::bulk::write_lines(count, seed, &mut BufWriter::new(stdout().lock()))
+}
+
+/// Compares the answers in a file with those of this program to the requests in another, and fails where they differ.
+fn compare_answers(requests: &str, answers: &str) -> io::Result<()> {
+    let open = |path: &str| File::open(path).map(BufReader::new);
+    match compare::compare(open(requests)?, open(answers)?)? {
+        Ok(agreed) => {
+            let counts: Vec<String> = agreed.iter().map(|(kind, count)| format!("{kind} {count}")).collect();
+            println!("{} answer lines agree: {}", agreed.values().sum::<usize>(), counts.join(", "));
+            Ok(())
+        }
+        Err(difference) => Err(io::Error::other(format!("the programs differ\n{difference}"))),
+    }
 }

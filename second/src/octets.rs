@@ -39,8 +39,7 @@ pub fn fold_ascii(octet: u8) -> u8 {
 
 /// Equal with ASCII case ignored.
 pub fn equal_folded(one: &[u8], other: &[u8]) -> bool {
-    let folded = |text: &[u8]| text.iter().map(|&octet| fold_ascii(octet)).collect::<Vec<u8>>();
-    one.len() == other.len() && folded(one) == folded(other)
+    one.iter().copied().map(fold_ascii).eq(other.iter().copied().map(fold_ascii))
 }
 
 /// How a UTF-8 sequence goes on after its first octet (RFC 3629, section 4).

@@ -5,6 +5,8 @@ use crate::answers::{number_of, Refusal};
 use crate::choose::{ClientAddress, Form};
 use crate::filter::{take_apart, write_filter, Clauses};
 use crate::generate::chance::Chance;
+use crate::generate::coverage::places::name_places;
+use crate::generate::coverage::samples::P1;
 use crate::generate::sample::{sample, Size};
 use crate::image::{guid, ContextBlock, Image, Record, ServerBlock};
 use crate::octets::u32_whole;
@@ -53,13 +55,6 @@ fn version<'a>(octets: &'a [u8]) -> Clauses<'a> {
     Clauses { nt_ver: Some(octets), ..Clauses::default() }
 }
 
-const P1: [u8; 72] = [
-    0x17, 0x00, 0x00, 0x00, 0x98, 0x01, 0x00, 0x00, 0x01, 0x02, 0x03, 0x04, 0x05, 0x06, 0x07, 0x08, 0x09, 0x0A, 0x0B,
-    0x0C, 0x0D, 0x0E, 0x0F, 0x10, 0x07, 0x65, 0x78, 0x61, 0x6D, 0x70, 0x6C, 0x65, 0x00, 0x04, 0x63, 0x6F, 0x72, 0x70,
-    0xC0, 0x18, 0x03, 0x64, 0x63, 0x31, 0xC0, 0x21, 0x04, 0x43, 0x4F, 0x52, 0x50, 0x00, 0x03, 0x44, 0x43, 0x31, 0x00,
-    0x00, 0x02, 0x48, 0x51, 0x00, 0xC0, 0x3A, 0x05, 0x00, 0x00, 0x00, 0xFF, 0xFF, 0xFF, 0xFF,
-];
-
 #[test]
 fn p1_whole() {
     let filter = b"\xA0\x0F\xA3\x0D\x04\x05NtVer\x04\x04\x06\0\0\0";
@@ -77,8 +72,8 @@ fn p1_pointer_counts_by_reader_and_walk() {
     let expected = [0, 1, 2, 0, 0, 0, 0, 1];
     let reply = read_reply(Form::Ex, 6, &P1).unwrap();
     assert_eq!(names_of(&reply.fields).iter().map(|name| name.pointers).collect::<Vec<_>>(), expected);
-    let offsets = name_offsets(Form::Ex, 6, &P1, 8);
-    let walked: Vec<usize> = offsets.iter().map(|&offset| walk(&P1, offset).unwrap().pointers).collect();
+    let places = name_places(Form::Ex, 6, &P1, 8);
+    let walked: Vec<usize> = places.iter().map(|place| walk(&P1, place.start).unwrap().pointers).collect();
     assert_eq!(walked, expected);
 }
 
@@ -334,53 +329,15 @@ fn names_of<'a>(fields: &Fields<'a>) -> Vec<Name<'a>> {
     }
 }
 
-/// The offset after a name's field: it ends with the first zero octet or pointer from its start.
-fn after_name(reply: &[u8], start: usize) -> usize {
-    let mut at = start;
-    loop {
-        match reply[at] {
-            0 => return at + 1,
-            octet if octet >= 0xC0 => return at + 2,
-            octet => at += 1 + usize::from(octet),
-        }
-    }
-}
-
-/// The offset after three texts of UTF-16 units, each up to its zero unit.
-fn after_texts(reply: &[u8]) -> usize {
-    let mut at = 2;
-    for _ in 0..3 {
-        while reply[at..at + 2] != [0, 0] {
-            at += 2;
-        }
-        at += 2;
-    }
-    at
-}
-
-/// The first offsets of a reply's names, found by the layout alone.
-fn name_offsets(form: Form, version_asked: u32, reply: &[u8], count: usize) -> Vec<usize> {
-    let mut at = if form == Form::Ex { 24 } else { after_texts(reply) + 32 };
-    let mut offsets = Vec::new();
-    for place in 0..count {
-        if place == 8 && version_asked & 8 != 0 {
-            at += 17;
-        }
-        offsets.push(at);
-        at = after_name(reply, at);
-    }
-    offsets
-}
-
 /// A reply that was written reads back: names, the walk's labels and pointers, and the bound on pointers.
 fn assert_reads_back(form: Form, version_asked: u32, reply: &[u8]) {
     let read = read_reply(form, version_asked, reply).unwrap();
     let names = names_of(&read.fields);
-    let offsets = name_offsets(form, version_asked, reply, names.len());
-    for (place, (name, offset)) in names.iter().zip(offsets).enumerate() {
-        let walked = walk(reply, offset).unwrap();
+    let places = name_places(form, version_asked, reply, names.len());
+    for (number, (name, place)) in names.iter().zip(places).enumerate() {
+        let walked = walk(reply, place.start).unwrap();
         assert_eq!((&walked.labels, walked.pointers), (&name.labels, name.pointers));
-        assert!(name.pointers <= place.min(name.labels.len()));
+        assert!(name.pointers <= number.min(name.labels.len()));
     }
 }
 
@@ -432,7 +389,7 @@ fn truncation_gives_31_and_34_where_name_8_is_lost() {
     for low in [0u8, 2, 6, 0x0A, 0x1C] {
         let (reply, form) = ping_from(&two_sites(), [10, 9, 9, 9], &version(&[low, 0, 0, 0]), ROOM).unwrap();
         let has_name_8 = low == 0x1C;
-        let name_8_at = if has_name_8 { name_offsets(form, u32::from(low), &reply, 9)[8] } else { reply.len() };
+        let name_8_at = if has_name_8 { name_places(form, u32::from(low), &reply, 9)[8].start } else { reply.len() };
         for length in 0..reply.len() {
             // A reply cut after the first four octets of its name 8 shows no name 8, so they are read as a version.
             let expected = if length >= name_8_at + 4 { ReadRefusal::FixedField } else { ReadRefusal::CutShort };

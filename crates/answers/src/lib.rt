@@ -1,4 +1,6 @@
 // The answers of document 01, "Answer numbers" and "Reading a reply": why a call refuses, and the three forms of a reply.
+pub mod wire;
+
 ghost use mathlib.Core.Path.{_≡_};
 ghost use Rattle.answers.specs.Refusal.{number};
 

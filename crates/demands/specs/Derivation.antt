@@ -4,11 +4,11 @@ use mathlib.Core.Bool.{false, not}
 use mathlib.Core.List.{List}
 use Prim.Native.Nat.{ℕ}
 use Rattle.answers.specs.Try.{good}
-use Rattle.filter_read.specs.Value.{Ping}
+use Rattle.filter_read.specs.Value.{Ping, pingFrom}
 use Rattle.unicode.specs.UserName.{isUserName}
-use Rattle.locator.specs.Answer.{Outcome, replyTo, pingFrom, answerOver, answerTo}
-use Rattle.locator.specs.Choose.{replyFor}
-use Rattle.locator.specs.Judge.{contextIn}
+use Rattle.locator.specs.Answer.{Outcome, replyTo, answerOver, answerTo}
+use Rattle.choose.specs.Choose.{replyFor}
+use Rattle.choose.specs.Judge.{contextIn}
 use Rattle.octets.specs.Lists.{holds}
 use Rattle.reply.specs.Reply.{Reply}
 use Rattle.table.specs.declared.Caller.{Caller}

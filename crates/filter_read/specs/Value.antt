@@ -7,7 +7,7 @@ use lib.Dec.{eqb}
 use lib.ListN.{length}
 use Rattle.answers.specs.declared.Refusal.the-variants.{ClauseValue, NoVersion}
 use Rattle.answers.specs.Refusal.{number}
-use Rattle.answers.specs.Try.{Try, refused, good, refusedIf}
+use Rattle.answers.specs.Try.{Try, refused, good, refusedIf, _>>=_}
 use Rattle.octets.specs.Lists.{holds}
 use Rattle.octets.specs.Number.{little}
 use Rattle.unicode.specs.UserName.{isUserName}
@@ -15,6 +15,7 @@ use Rattle.filter_read.specs.declared.value.Judged.{Judged}
 use Rattle.filter_read.specs.declared.value.Judged.the-variants as judged
 use Rattle.filter.specs.declared.request.Request.{Request}
 use Rattle.filter.specs.Request.{octetsOf}
+use Rattle.filter_read.specs.Taken.{requestIn}
 
 -- what the clauses of a request say that the answer goes by: absent, or their octets; an absent AAC is 0
 pub record Ping : Type 0 where
@@ -58,6 +59,12 @@ withVersion s r (some v) = good (pingOf s r v)
 
 unfoldable pub pingIn : List ℕ → Request → Try Ping
 pingIn s r = refusedIf (wrongValue s r) ClauseValue (withVersion s r (versionAsked s r))
+
+-- 5 to 10: the ping of a filter
+unfoldable pub pingFrom : List ℕ → Try Ping
+pingFrom filter = do
+  r ← requestIn filter
+  pingIn filter r
 
 -- the answer of judging a request's values, as the enum that the call returns
 abbrev pub judgedValues : Try Ping → Judged

@@ -1,7 +1,8 @@
 // The values of a request's clauses, judged.
 ghost use mathlib.Core.Path.{_≡_};
-ghost use mathlib.Core.Bool.{not};
-ghost use Rattle.octets.specs.Lists.{holds};
+ghost use mathlib.Core.Bool.{true, not};
+ghost use Rattle.octets.specs.Lists.{holds, cut};
+ghost use Rattle.octets.specs.Number.{little};
 ghost use Rattle.unicode.specs.UserName.{isUserName};
 ghost use Rattle.filter.specs.Request.{octetsOf};
 ghost use Rattle.filter_read.specs.Value.{isNumber, pingIn, judgedValues};
@@ -20,6 +21,14 @@ pub enum Judged {
 
 // The octets of NtVer and of AAC.
 const NUMBER_WIDTH: usize = 4;
+
+// The number that the octets of NtVer or AAC make.
+pub fn clause_number(s: &[u8], start: usize, len: usize) -> u32
+    requires { ⌜ isNumber (cut (now s) start len) ≡ true ⌝ }
+    ensures { λ r. ⌜ r ≡ little (cut (now (s .entry)) start len) ⌝ }
+{
+    u32_at(part(s, start, len), 0)
+}
 
 // A clause that is present and is no number of four octets.
 fn is_wrong_number(s: &[u8], clause: Clause) -> bool
@@ -62,5 +71,5 @@ pub fn judge_values(s: &[u8], request: Request) -> Judged
     let Clause::Present { start, len } = nt_ver else {
         return Judged::Refused(Refusal::NoVersion);
     };
-    Judged::Version(u32_at(part(s, start, len), 0))
+    Judged::Version(clause_number(s, start, len))
 }

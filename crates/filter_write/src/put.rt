@@ -24,19 +24,8 @@ use filter::request::ClauseName;
 use filter::request::Request;
 use filter::request::clause_name_at;
 use filter::request::spelling_of;
+use lent::put::put_octets_at;
 use octets::part::part;
-
-// Octets at the front of a buffer.
-fn put_octets(out: &mut [u8], s: &[u8])
-    requires { ⌜ length (now s) ≤ length (now out) ⌝ }
-    ensures { λ _. ⌜ now (out .exit) ≡ over (now (s .entry)) (now (out .entry)) ⌝ }
-{
-    let mut i = 0;
-    while i < s.len() {
-        out[i] = s[i];
-        i += 1;
-    }
-}
 
 // A tag and the shortest length of n octets.
 fn put_head(out: &mut [u8], tag: u8, n: usize) -> usize
@@ -67,8 +56,7 @@ fn put_string(out: &mut [u8], s: &[u8]) -> usize
     ensures { λ _. ⌜ now (out .exit) ≡ over (element stringTag (now (s .entry))) (now (out .entry)) ⌝ }
 {
     let at = put_head(out, STRING_TAG, s.len());
-    put_octets(&mut out[at..], s);
-    at + s.len()
+    put_octets_at(out, at, s)
 }
 
 // A clause name as an octet string.

@@ -1,5 +1,5 @@
 -- Document 01, "Answer numbers": the answer in three layers, and the whole as one function of table image, caller, filter and room. The first layer, the
--- table of an image (1 to 4), is `tableIn`.
+-- table of an image (1 to 4), is `tableIn`, the second, the ping of a filter (5 to 10), is `pingFrom`.
 use mathlib.Core.Bool.{Bool, true, false, _&&_}
 use mathlib.Core.List.{List, []}
 use mathlib.Core.Option.{Option, none, some}
@@ -11,8 +11,7 @@ use Rattle.answers.specs.declared.Form.the-variants.{Nt40, Response, Ex}
 use Rattle.answers.specs.declared.Refusal.the-variants.{UserLabelEmpty, NoRoom}
 use Rattle.answers.specs.Refusal.{number}
 use Rattle.answers.specs.Try.{Try, refused, good, refusedIf, _>>=_}
-use Rattle.filter_read.specs.Taken.{requestIn}
-use Rattle.filter_read.specs.Value.{Ping, pingIn}
+use Rattle.filter_read.specs.Value.{Ping, pingFrom}
 use Rattle.octets.specs.Label.{labels}
 use Rattle.octets.specs.Lists.{any, holds}
 use Rattle.reply.specs.Reply.{octetsIn}
@@ -23,8 +22,8 @@ use Rattle.table.specs.Context.{Context}
 use Rattle.table.specs.Table.{Table}
 use Rattle.locator.specs.declared.Answer.{Answer}
 use Rattle.locator.specs.declared.Answer.the-variants as answer
-use Rattle.locator.specs.Choose.{formOf, replyFor}
-use Rattle.locator.specs.Judge.{contextIn}
+use Rattle.choose.specs.Choose.{formOf, replyFor}
+use Rattle.choose.specs.Judge.{contextIn}
 
 abbrev pub isEx : Form → Bool
 isEx Nt40 = false
@@ -47,12 +46,6 @@ replyTo t caller p room c =
     let octets = octetsIn form (replyFor t caller p c form) in
     refusedIf (wrongUser form p) UserLabelEmpty
     (refusedIf (ltb room (length octets)) NoRoom (good (record { context = c .number; form = form; octets = octets })))
-
--- 5 to 10: the ping of a filter
-unfoldable pub pingFrom : List ℕ → Try Ping
-pingFrom filter = do
-  r ← requestIn filter
-  pingIn filter r
 
 -- 11 to 19: the answer to a ping over a table, however either was come by
 unfoldable pub answerOver : Table → Caller → Ping → ℕ → Try Outcome

@@ -3,6 +3,10 @@ use answers::Form;
 use answers::Refusal;
 use table::ContextNumber;
 
+pub mod over;
+pub mod ping;
+pub mod user;
+
 // The answer to a ping: its values are those of specs/Answer.antt.
 pub enum Answer {
     Answered {

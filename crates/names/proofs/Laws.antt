@@ -1,2 +1,3 @@
 pub mod Name
+pub mod Plan
 pub mod Walk

@@ -1,3 +1,4 @@
+pub mod Internal
 pub mod Name
 pub mod Walk
 pub mod WalkRelation

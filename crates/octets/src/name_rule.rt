@@ -9,6 +9,9 @@ use crate::number::wide;
 use crate::text::is_printable;
 use crate::text::lacks;
 
+// What parts the labels of a name.
+pub const DOT: u8 = 46;
+
 // How many octets a label and a name of each kind may have.
 const LABEL_MOST: usize = 63;
 
@@ -39,7 +42,7 @@ fn label_step(n: usize, x: u8) -> LabelStep
     ensures { λ r. ⌜ r ≡ labelStep n x ⌝ }
     ensures { λ r. ⌜ InLabel r ⌝ }
 {
-    if x == 46 {
+    if x == DOT {
         if n == 0 {
             return LabelStep::Bad;
         }
@@ -52,7 +55,7 @@ fn label_step(n: usize, x: u8) -> LabelStep
 }
 
 // Whether no label is empty or too long.
-fn has_good_labels(s: &[u8]) -> bool
+pub fn has_good_labels(s: &[u8]) -> bool
     ensures { λ r. ⌜ r ≡ all (sized 1 63) (parts (now (s .entry))) ⌝ }
 {
     let mut n = 0;
@@ -88,7 +91,7 @@ fn is_plain_name(s: &[u8], room: usize) -> bool
     if !is_printable(s) {
         return false;
     }
-    lacks(s, 46)
+    lacks(s, DOT)
 }
 
 pub fn is_netbios_name(s: &[u8]) -> bool

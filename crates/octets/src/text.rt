@@ -1,9 +1,10 @@
 // Texts: comparing them, and what their octets must be.
 ghost use mathlib.Core.Path.{_≡_};
 ghost use mathlib.Core.List.{map};
-ghost use Prim.Native.Nat.{_+_, _<_};
+ghost use Prim.Native.Nat.{_+_, _≤_, _<_};
+ghost use lib.ListN.{length};
 ghost use Rattle.octets.specs.Internal.Class.{isOf};
-ghost use Rattle.octets.specs.Lists.{all};
+ghost use Rattle.octets.specs.Lists.{all, cut};
 ghost use Rattle.octets.specs.NameRule.{printable, without};
 ghost use Rattle.octets.specs.Text.{same, sameFolded, allZero, foldIf};
 
@@ -43,10 +44,33 @@ fn all_of(s: &[u8], class: Class) -> bool
     true
 }
 
+// Whether the eight octets from an offset on are zero. None waits for another, so that the compiler makes one test of them.
+fn are_eight_zero(s: &[u8], at: usize) -> bool
+    requires { ⌜ at + 8 ≤ length (now s) ⌝ }
+    ensures { λ r. ⌜ r ≡ allZero (cut (now (s .entry)) at 8) ⌝ }
+{
+    (s[at] == 0)
+        & (s[at + 1] == 0)
+        & (s[at + 2] == 0)
+        & (s[at + 3] == 0)
+        & (s[at + 4] == 0)
+        & (s[at + 5] == 0)
+        & (s[at + 6] == 0)
+        & (s[at + 7] == 0)
+}
+
+// Eight octets at a time, then those that are left.
 pub fn all_zero(s: &[u8]) -> bool
     ensures { λ r. ⌜ r ≡ allZero (now (s .entry)) ⌝ }
 {
-    all_of(s, Class::Zero)
+    let mut i = 0;
+    while 8 <= s.len() - i {
+        if !are_eight_zero(s, i) {
+            return false;
+        }
+        i += 8;
+    }
+    all_of(&s[i..], Class::Zero)
 }
 
 pub fn is_printable(s: &[u8]) -> bool

@@ -7,6 +7,8 @@ use octets::number::wide;
 
 pub const ADDRESS_BITS: u8 = 32;
 
+pub const ADDRESS_SIZE: usize = 4;
+
 // An address as the number that prefixes are taken of.
 pub fn address_number(address: &[u8]) -> u32
     ensures { λ r. ⌜ r ≡ addressNumber (now (address .entry)) ⌝ }

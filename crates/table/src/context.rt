@@ -26,7 +26,9 @@ const APPLICATION: usize = 2;
 
 const HAS_SID: usize = 3;
 
-const GUID: usize = 4;
+pub const GUID: usize = 4;
+
+pub const GUID_SIZE: usize = 16;
 
 pub const SID: usize = 20;
 
@@ -63,7 +65,7 @@ pub fn is_application(octets: &[u8]) -> bool
 pub fn guid(octets: &[u8]) -> &[u8]
     ensures { λ r. ⌜ now r ≡ contextOf (now (octets .entry)) .guid ⌝ }
 {
-    part(octets, GUID, 16)
+    part(octets, GUID, GUID_SIZE)
 }
 
 pub fn has_sid_octet(octets: &[u8]) -> u8

@@ -1,6 +1,7 @@
 // The table image: document 01, "The table image". What stands where, and how it is read.
 pub mod account;
 pub mod address;
+pub mod bits;
 pub mod block;
 pub mod context;
 pub mod field;

@@ -8,6 +8,7 @@ ghost use Rattle.table.specs.Table.{tableFrom};
 use crate::BlockPlace;
 use crate::ContextNumber;
 use crate::SiteNumber;
+use crate::address::ADDRESS_SIZE;
 use crate::block::block_at;
 use crate::block::body_of;
 use crate::field::TextField;
@@ -26,7 +27,7 @@ const ROLES: usize = 0;
 
 const STATE: usize = 4;
 
-const ADDRESS: usize = 8;
+pub const ADDRESS: usize = 8;
 
 const SITE: usize = 12;
 
@@ -62,7 +63,7 @@ pub fn state(octets: &[u8]) -> u32
 pub fn address(octets: &[u8]) -> &[u8]
     ensures { λ r. ⌜ now r ≡ serverOf (now (octets .entry)) .address ⌝ }
 {
-    part(octets, ADDRESS, 4)
+    part(octets, ADDRESS, ADDRESS_SIZE)
 }
 
 pub fn own_site(octets: &[u8]) -> SiteNumber

@@ -109,14 +109,14 @@ fn is_asked_for(octets: &[u8], key: Key, asked: &[u8]) -> bool
     }
 }
 
-// An unused record is found by no key.
+// An unused record is found by no key. That it is all zeros is the longer test, so it comes last.
 fn is_found_by(octets: &[u8], key: Key, asked: &[u8]) -> bool
     ensures { λ r. ⌜ r ≡ isFoundBy key (now (asked .entry)) (now (octets .entry)) ⌝ }
 {
-    if all_zero(octets) {
+    if !is_asked_for(octets, key, asked) {
         return false;
     }
-    is_asked_for(octets, key, asked)
+    !all_zero(octets)
 }
 
 // The first record that the key finds in the body at an offset.

@@ -128,15 +128,15 @@ fn subnet_layout(r: &[u8]) -> bool
         & is_zero_room(r, subnet::SITE + 2, subnet::FORMAT.width)
 }
 
-// An unused record is all zeros; a context's block holds a context.
+// An unused record is all zeros, and no layout is looked for in it; a context's block holds a context.
 fn record_layout(r: &[u8], kind: RecordKind) -> bool
     ensures { λ q. ⌜ q ≡ recordLayout kind (now (r .entry)) ⌝ }
 {
     match kind {
         RecordKind::Context => context_layout(r),
-        RecordKind::Account => all_zero(r) | account_layout(r),
-        RecordKind::Site => all_zero(r) | site_layout(r),
-        RecordKind::Subnet => all_zero(r) | subnet_layout(r),
+        RecordKind::Account => all_zero(r) || account_layout(r),
+        RecordKind::Site => all_zero(r) || site_layout(r),
+        RecordKind::Subnet => all_zero(r) || subnet_layout(r),
     }
 }
 

@@ -1,14 +1,24 @@
 // Every number that a record refers to exists.
 ghost use mathlib.Core.Path.{_≡_};
+ghost use Prim.Native.Nat.{_≤_};
 ghost use lib.ListN.{length};
 ghost use Rattle.octets.specs.Lists.{all};
+ghost use Rattle.table.specs.Block.{imageMost, blocksOf};
+ghost use Rattle.table.specs.Format.{recordsIn};
+ghost use Rattle.table.specs.Subnet.{subnetFormat};
 ghost use Rattle.table.specs.Internal.Reference.{referred};
 ghost use Rattle.table_refer.specs.Internal.Mark.{marksSize};
-ghost use Rattle.table_refer.specs.Internal.Refer.{hasNumber, inContexts, isMarkedOrNone, isOtherOrNone, refersBy, refersAt, recordKindOf};
+ghost use Rattle.table_refer.specs.Internal.Refer.{hasNumber, inContexts, isMarkedOrNone, isOtherOrNone, siteRefers, siteRefersAt, subnetRefers, subnetsRefer};
 use crate::mark::is_marked;
+use octets::part::part;
+use table::BlockPlace;
 use table::ContextNumber;
 use table::SiteNumber;
 use table::account;
+use table::block::BLOCK_SIZE;
+use table::block::block_at;
+use table::block::body_of;
+use table::block::kind_of;
 use table::context;
 use table::record::RecordKind;
 use table::record::record_at;
@@ -67,46 +77,66 @@ fn is_other_or_none(own: SiteNumber, reference: SiteReference) -> bool
     }
 }
 
-// What refers to a site: a site to its next closest one, a subnet to its own.
-pub enum Referrer {
-    Site,
-    Subnet,
-}
-
-fn record_kind_of(referrer: Referrer) -> RecordKind
-    ensures { λ r. ⌜ r ≡ recordKindOf referrer ⌝ }
-{
-    match referrer {
-        Referrer::Site => RecordKind::Site,
-        Referrer::Subnet => RecordKind::Subnet,
-    }
-}
-
-fn refers(marks: &[u8], octets: &[u8], referrer: Referrer) -> bool
+// A site's next closest one, where there is one, exists and is another.
+fn site_refers(marks: &[u8], octets: &[u8]) -> bool
     requires { ⌜ length (now marks) ≡ marksSize ⌝ }
-    ensures { λ r. ⌜ r ≡ refersBy referrer (now (marks .entry)) (now (octets .entry)) ⌝ }
+    ensures { λ r. ⌜ r ≡ siteRefers (now (marks .entry)) (now (octets .entry)) ⌝ }
 {
-    match referrer {
-        Referrer::Site => {
-            let next = site::next(octets);
-            is_marked_or_none(marks, next) & is_other_or_none(site::number(octets), next)
-        }
-        Referrer::Subnet => is_marked_or_none(marks, subnet::site(octets)),
-    }
+    let next = site::next(octets);
+    is_marked_or_none(marks, next) & is_other_or_none(site::number(octets), next)
 }
 
-// Whether each record refers rightly.
-pub fn all_refer(image: &[u8], offsets: &[u16], referrer: Referrer, marks: &[u8]) -> bool
+// Whether each site refers rightly.
+pub fn all_sites_refer(image: &[u8], sites: &[u16], marks: &[u8]) -> bool
     requires { ⌜ length (now marks) ≡ marksSize ⌝ }
-    ensures { λ r. ⌜ r ≡ all (refersAt referrer (now (marks .entry)) (now (image .entry))) (now (offsets .entry)) ⌝ }
+    ensures { λ r. ⌜ r ≡ all (siteRefersAt (now (marks .entry)) (now (image .entry))) (now (sites .entry)) ⌝ }
 {
     let mut i = 0;
-    while i < offsets.len() {
-        if !refers(
-            marks,
-            record_at(image, record_kind_of(referrer), offsets[i]),
-            referrer,
-        ) {
+    while i < sites.len() {
+        if !site_refers(marks, record_at(image, RecordKind::Site, sites[i])) {
+            return false;
+        }
+        i += 1;
+    }
+    true
+}
+
+// Whether the site of each subnet of a body exists, where it has one. An unused record has none, so that no other test is needed.
+fn all_records_refer(body: &[u8], marks: &[u8]) -> bool
+    requires { ⌜ length (now marks) ≡ marksSize ⌝ }
+    ensures { λ r. ⌜ r ≡ all (subnetRefers (now (marks .entry))) (recordsIn subnetFormat (now (body .entry))) ⌝ }
+{
+    let mut i = 0;
+    while i < subnet::FORMAT.count {
+        let record = part(body, subnet::FORMAT.width * i, subnet::FORMAT.width);
+        if !is_marked_or_none(marks, subnet::site(record)) {
+            return false;
+        }
+        i += 1;
+    }
+    true
+}
+
+// The same of a block, if it holds subnets.
+fn subnets_refer(block: &[u8], marks: &[u8]) -> bool
+    requires { ⌜ length (now marks) ≡ marksSize ⌝ }
+    ensures { λ r. ⌜ r ≡ subnetsRefer (now (marks .entry)) (now (block .entry)) ⌝ }
+{
+    if kind_of(block) != subnet::FORMAT.kind {
+        return true;
+    }
+    all_records_refer(body_of(block), marks)
+}
+
+// The same of every block. Subnets are held to the marks where they stand: their offsets are not collected.
+pub fn all_subnets_refer(image: &[u8], marks: &[u8]) -> bool
+    requires { ⌜ (length (now image) ≤ imageMost) × (length (now marks) ≡ marksSize) ⌝ }
+    ensures { λ r. ⌜ r ≡ all (subnetsRefer (now (marks .entry))) (blocksOf (now (image .entry))) ⌝ }
+{
+    let n = image.len() / BLOCK_SIZE;
+    let mut i = 0;
+    while i < n {
+        if !subnets_refer(block_at(image, BlockPlace(i as u16)), marks) {
             return false;
         }
         i += 1;

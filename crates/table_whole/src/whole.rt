@@ -6,34 +6,31 @@ ghost use lib.ListN.{length};
 ghost use Rattle.table.specs.Table.{tableFrom};
 ghost use Rattle.table.specs.declared.record.RecordKind.the-variants as kind;
 ghost use Rattle.table_whole.specs.Whole.{goodWhole};
-ghost use Rattle.table_whole.specs.Internal.Half.{AllOf, SiteMarks, goodAccounts, goodContexts, goodSubnets, goodReferences, goodSites, contextHalf, siteHalf};
+ghost use Rattle.table_whole.specs.Internal.Half.{AllOf, SiteMarks, goodAccounts, goodContexts, goodReferences, goodSites, contextHalf, siteHalf};
 use table::account;
 use table::block::BLOCKS_MOST;
 use table::context;
 use table::record::RecordKind;
 use table::server;
 use table::site;
-use table::subnet;
 use table_records::alike::Likeness;
 use table_records::alike::all_unique;
 use table_records::offset::offsets_of;
 use table_refer::mark::MARKS_SIZE;
 use table_refer::mark::is_marked;
 use table_refer::mark::mark_sites;
-use table_refer::refer::Referrer;
-use table_refer::refer::all_refer;
+use table_refer::refer::all_sites_refer;
+use table_refer::refer::all_subnets_refer;
 use table_refer::refer::are_in_contexts;
 use table_refer::refer::has_context;
 use table_sort::unique::are_accounts_unique;
 
-// Of each kind, as many records as the most blocks hold.
+// Of each kind whose offsets are collected, as many records as the most blocks hold.
 const CONTEXTS_MOST: usize = context::FORMAT.count * BLOCKS_MOST;
 
 const ACCOUNTS_MOST: usize = account::FORMAT.count * BLOCKS_MOST;
 
 const SITES_MOST: usize = site::FORMAT.count * BLOCKS_MOST;
-
-const SUBNETS_MOST: usize = subnet::FORMAT.count * BLOCKS_MOST;
 
 // The accounts: each one's context exists, and no two of a context have one name.
 fn are_accounts_good(image: &[u8], accounts: &mut [u16], contexts: &[u16]) -> bool
@@ -82,15 +79,6 @@ fn is_context_half_good(image: &[u8]) -> bool
     are_contexts_good(image, &contexts[..count])
 }
 
-fn good_subnets_of(image: &[u8], marks: &[u8]) -> bool
-    requires { ⌜ (length (now image) ≤ imageMost) × SiteMarks (now marks) (tableFrom (now image)) ⌝ }
-    ensures { λ r. ⌜ r ≡ goodSubnets (tableFrom (now (image .entry))) ⌝ }
-{
-    let mut subnets: [u16; SUBNETS_MOST] = [0; SUBNETS_MOST];
-    let count = offsets_of(image, RecordKind::Subnet, &mut subnets);
-    all_refer(image, &subnets[..count], Referrer::Subnet, marks)
-}
-
 // The server's own site exists, each next closest one exists and is another, and subnets refer rightly.
 fn are_sites_referred(image: &[u8], sites: &[u16], marks: &[u8]) -> bool
     requires { ⌜ (blockSize ≤ length (now image)) × (length (now image) ≤ imageMost) ⌝ }
@@ -98,8 +86,8 @@ fn are_sites_referred(image: &[u8], sites: &[u16], marks: &[u8]) -> bool
     ensures { λ r. ⌜ r ≡ goodReferences (tableFrom (now (image .entry))) ⌝ }
 {
     is_marked(marks, server::own_site(server::server_of(image)))
-        & all_refer(image, sites, Referrer::Site, marks)
-        & good_subnets_of(image, marks)
+        & all_sites_refer(image, sites, marks)
+        & all_subnets_refer(image, marks)
 }
 
 // No two sites have one number, and what refers to them does so rightly.

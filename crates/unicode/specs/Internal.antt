@@ -1,1 +1,2 @@
 pub mod Decoder
+pub mod Point

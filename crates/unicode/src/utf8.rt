@@ -1,8 +1,9 @@
-// UTF-8 by RFC 3629, octet by octet.
+// UTF-8 by RFC 3629: octet by octet, and code point by code point.
 ghost use mathlib.Core.Path.{_≡_};
 ghost use Prim.Native.Nat.{_≤_, _<_};
-ghost use Rattle.unicode.specs.Utf8.{lead, follow, decode, isUtf8};
-ghost use Rattle.unicode.specs.Internal.Decoder.{decodedAs, Sound, InBounds, partialIn, limit, after, decoderIn, SoundDecoder, SoundNext};
+ghost use Rattle.unicode.specs.Utf8.{lead, follow, isUtf8};
+ghost use Rattle.unicode.specs.Internal.Decoder.{decodedAs, Sound, InBounds, partialIn, limit};
+ghost use Rattle.unicode.specs.Internal.Point.{PointRead};
 
 // A character read in part: octets still to come, the range of the next one, and the code point's bits so far.
 pub struct Partial {
@@ -19,16 +20,11 @@ pub enum Decoded {
     More(Partial),
 }
 
-// Between characters, or within one.
-pub enum Decoder {
-    Between,
-    Partway(Partial),
-}
-
-// The decoder after an octet, or nothing right.
-pub enum NextDecoder {
+// What stands at an offset: the text's end, octets that are no UTF-8, or a code point and the offset after it.
+pub enum PointAt {
+    End,
     Bad,
-    Decoder(Decoder),
+    Point { point: u32, next: usize },
 }
 
 fn opens(left: u8, low: u8, high: u8, bits: u8) -> Decoded
@@ -45,7 +41,7 @@ fn opens(left: u8, low: u8, high: u8, bits: u8) -> Decoded
 }
 
 // A character's first octet.
-pub fn first_octet(x: u8) -> Decoded
+fn first_octet(x: u8) -> Decoded
     ensures { λ r. ⌜ r ≡ decodedAs (lead x) ⌝ }
     ensures { λ r. ⌜ Sound r ⌝ }
 {
@@ -80,7 +76,7 @@ pub fn first_octet(x: u8) -> Decoded
 }
 
 // A later octet of a character.
-pub fn later_octet(i: Partial, x: u8) -> Decoded
+fn later_octet(i: Partial, x: u8) -> Decoded
     requires { ⌜ InBounds i ⌝ }
     ensures { λ r. ⌜ r ≡ decodedAs (follow (partialIn i) x) ⌝ }
     ensures { λ r. ⌜ Sound r ⌝ }
@@ -114,44 +110,39 @@ pub fn later_octet(i: Partial, x: u8) -> Decoded
     Decoded::Bad
 }
 
-fn after(decoded: Decoded) -> NextDecoder
-    requires { ⌜ Sound decoded ⌝ }
-    ensures { λ r. ⌜ r ≡ after decoded ⌝ }
-    ensures { λ r. ⌜ SoundNext r ⌝ }
+pub fn point_at(s: &[u8], at: usize) -> PointAt
+    ensures { λ r. ⌜ PointRead (now (s .entry)) at r ⌝ }
 {
-    match decoded {
-        Decoded::Bad => NextDecoder::Bad,
-        Decoded::Point(_) => NextDecoder::Decoder(Decoder::Between),
-        Decoded::More(partial) => NextDecoder::Decoder(Decoder::Partway(partial)),
+    if s.len() <= at {
+        return PointAt::End;
     }
-}
-
-fn advance(decoder: Decoder, x: u8) -> NextDecoder
-    requires { ⌜ SoundDecoder decoder ⌝ }
-    ensures { λ r. ⌜ r ≡ after (decodedAs (decode (decoderIn decoder) x)) ⌝ }
-    ensures { λ r. ⌜ SoundNext r ⌝ }
-{
-    match decoder {
-        Decoder::Between => after(first_octet(x)),
-        Decoder::Partway(partial) => after(later_octet(partial, x)),
+    let mut decoded = first_octet(s[at]);
+    let mut next = at + 1;
+    loop {
+        match decoded {
+            Decoded::Bad => return PointAt::Bad,
+            Decoded::Point(point) => return PointAt::Point { point, next },
+            Decoded::More(partial) => {
+                if s.len() <= next {
+                    return PointAt::Bad;
+                }
+                decoded = later_octet(partial, s[next]);
+                next += 1;
+            }
+        }
     }
 }
 
 pub fn is_utf8(s: &[u8]) -> bool
     ensures { λ r. ⌜ r ≡ isUtf8 (now (s .entry)) ⌝ }
 {
-    let mut decoder = Decoder::Between;
-    let mut i = 0;
-    while i < s.len() {
-        let NextDecoder::Decoder(next) = advance(decoder, s[i]) else {
-            return false;
-        };
-        decoder = next;
-        i += 1;
-    }
-    if let Decoder::Between = decoder {
-        true
-    } else {
-        false
+    let mut at = 0;
+    loop {
+        let here = point_at(s, at);
+        match here {
+            PointAt::End => return true,
+            PointAt::Bad => return false,
+            PointAt::Point { point: _, next } => at = next,
+        }
     }
 }

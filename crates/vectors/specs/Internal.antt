@@ -1,1 +1,2 @@
+pub mod AnswerForm
 pub mod Bounds

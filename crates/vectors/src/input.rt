@@ -4,39 +4,52 @@ ghost use lib.ListN.{length};
 use crate::answer::answer_line;
 use libc::STDIN_FILENO;
 
+// How many octets are kept: of the line so far, and of the image that stands.
+struct Kept {
+    line: usize,
+    image: usize,
+}
+
 // Takes one octet: an LF ends the line; another is kept while there is room, so that a line that fills it is too long.
-fn take_octet(x: u8, line: &mut [u8], len: usize, space: &mut [u8]) -> usize
-    requires { ⌜ len ≤ length (now line) ⌝ }
-    ensures { λ r. ⌜ r ≤ length (now (line .entry)) ⌝ }
+fn take_octet(x: u8, line: &mut [u8], image: &mut [u8], space: &mut [u8], kept: Kept) -> Kept
+    requires { ⌜ kept .line ≤ length (now line) ⌝ }
+    ensures { λ r. ⌜ r .line ≤ length (now (line .entry)) ⌝ }
 {
+    let len = kept.line;
     if x == 10 {
-        answer_line(&line[..len], space);
-        return 0;
+        return Kept {
+            line: 0,
+            image: answer_line(&line[..len], image, kept.image, space),
+        };
     }
     if len < line.len() {
         line[len] = x;
-        return len + 1;
+        let longer = len + 1;
+        return Kept {
+            line: longer,
+            image: kept.image,
+        };
     }
-    len
+    kept
 }
 
-fn take_all(octets: &[u8], line: &mut [u8], len: usize, space: &mut [u8]) -> usize
-    requires { ⌜ len ≤ length (now line) ⌝ }
-    ensures { λ r. ⌜ r ≤ length (now (line .entry)) ⌝ }
+fn take_all(octets: &[u8], line: &mut [u8], image: &mut [u8], space: &mut [u8], kept: Kept) -> Kept
+    requires { ⌜ kept .line ≤ length (now line) ⌝ }
+    ensures { λ r. ⌜ r .line ≤ length (now (line .entry)) ⌝ }
 {
-    let mut n = len;
+    let mut latest = kept;
     let mut i = 0;
     while i < octets.len() {
-        n = take_octet(octets[i], line, n, space);
+        latest = take_octet(octets[i], line, image, space, latest);
         i += 1;
     }
-    n
+    latest
 }
 
 // A proved loop has to end, so the reads are counted down from a number that no input uses up.
-pub fn answer_all(line: &mut [u8], space: &mut [u8]) {
+pub fn answer_all(line: &mut [u8], image: &mut [u8], space: &mut [u8]) {
     let mut chunk = [0u8; 65536];
-    let mut n = 0;
+    let mut kept = Kept { line: 0, image: 0 };
     let mut turns = u64::MAX;
     while turns > 0 {
         let got = libc::read(STDIN_FILENO, &mut chunk);
@@ -44,8 +57,9 @@ pub fn answer_all(line: &mut [u8], space: &mut [u8]) {
         if count == 0 {
             break;
         }
-        n = take_all(&chunk[..count], line, n, space);
+        kept = take_all(&chunk[..count], line, image, space, kept);
         turns -= 1;
     }
-    answer_line(&line[..n], space);
+    let len = kept.line;
+    answer_line(&line[..len], image, kept.image, space);
 }

@@ -1,9 +1,9 @@
 // `write` lines: a filter is written from eight clauses.
 ghost use mathlib.Core.Path.{_≡_};
 ghost use Rattle.filter_write.specs.Write.{writtenNumber, writtenLength};
-ghost use lib.ListN.{length};
-use crate::parse::Decimal;
-use crate::parse::decimal_of;
+use crate::buffer::Room;
+use crate::buffer::filled;
+use crate::buffer::room_of;
 use crate::parse::decode;
 use crate::parse::is_clause;
 use crate::parse::word;
@@ -20,9 +20,6 @@ use filter::request::clause_name_at;
 use filter::request::no_clauses;
 use filter_write::write::Written;
 use filter_write::write::write_filter;
-
-// The most room that a line may lend.
-const MOST_ROOM: u64 = 4096;
 
 // The words of the clauses: the first, and the one after the last.
 const FIRST_CLAUSE: usize = 2;
@@ -116,28 +113,16 @@ fn write_into(line: &[u8], source: &[u8], out: &mut [u8]) {
     say(b"\n");
 }
 
-// A lent buffer before a call: A5h in every octet.
-fn filled() -> [u8; 4096]
-    ensures { λ r. ⌜ 4096 ≡ length r ⌝ }
-{
-    [0xA5; 4096]
-}
-
 pub fn answer_write(line: &[u8], space: &mut [u8]) {
-    let Decimal::Value(room) = decimal_of(word(line, 1)) else {
-        say_unknown();
-        return;
-    };
-    if MOST_ROOM < room {
-        say_unknown();
-        return;
-    }
     if !has_clauses(line) {
         say_unknown();
         return;
     }
+    let Room::Octets(room) = room_of(word(line, 1)) else {
+        say_unknown();
+        return;
+    };
     copy_clauses(line, space);
     let mut out = filled();
-    let end = room as usize;
-    write_into(line, space, &mut out[..end]);
+    write_into(line, space, &mut out[..room]);
 }

@@ -9,7 +9,7 @@ use super::filters::random_filter;
 use super::pings::reply_to;
 use super::replies::name_like;
 use super::requests::{Asked, Requests};
-use super::sample::{random_asked, random_case, random_value, sample, version_bits, Sample, Size};
+use super::sample::{fill_up, random_asked, random_case, random_value, sample, version_bits, Sample, Size};
 use crate::choose::Form;
 use crate::filter::{judge_values, ClauseName};
 use crate::image::{put_checks, Image};
@@ -27,43 +27,39 @@ pub fn write_lines(count: usize, seed: u64, output: &mut impl Write) -> io::Resu
     output.flush()
 }
 
-/// One table and what may be asked on it. A good line is left out here and there, so that pings stand on a changed
-/// table too.
+/// One table and what may be asked on it; before it, in every other group, a changed one and a ping on that.
 fn group(chance: &mut Chance) -> Vec<Vec<u8>> {
-    let mut requests = Requests::default();
-    add_good(&mut requests, chance);
-    let mut lines = Vec::new();
-    for line in requests.lines {
-        if chance.once_in(2) {
-            lines.push(changed(chance, &line));
-        }
-        if !chance.once_in(5) {
-            lines.push(line);
-        }
+    let large = chance.once_in(60);
+    let size = size(chance, large);
+    let mut table = sample(chance, size);
+    if large && chance.once_in(3) {
+        fill_up(&mut table.image);
     }
-    lines
+    let image = table.image.octets();
+    let mut lines = Lines { chance, lines: Vec::new() };
+    if lines.chance.once_in(2) {
+        lines.add_bad_table(&table, &image);
+    }
+    lines.add_good(|requests, _| requests.table_octets(&image));
+    lines.add_sometimes(2, |requests, _| requests.check(&image[..CHECKED_LENGTH]));
+    for _ in 0..24 {
+        lines.add_asked(&table, &image);
+    }
+    lines.lines
 }
 
-fn add_good(requests: &mut Requests, chance: &mut Chance) {
-    let large = chance.once_in(40);
-    let size = Size {
-        contexts: if large { 16 } else { 1 + chance.below(5) },
-        account_blocks: if large { 20 } else { chance.below(3) },
-        sites: 1 + chance.below(if large { 60 } else { 9 }),
-        subnets: chance.below(if large { 600 } else { 50 }),
-    };
-    let table = sample(chance, size);
-    let image = table.image.octets();
-    requests.table(&with_another_count(chance, &table.image));
-    requests.table_octets(&image);
-    requests.check(&image[..CHECKED_LENGTH]);
-    for _ in 0..8 {
-        add_asked(requests, chance, &table, &image);
+/// Mostly five to nine blocks; a large table has some sixty.
+fn size(chance: &mut Chance, large: bool) -> Size {
+    Size {
+        contexts: if large { 16 } else { 1 + chance.below(4) },
+        account_blocks: if large { 10 + chance.below(40) } else { chance.below(3) },
+        sites: if chance.once_in(6) { 1 } else { 1 + chance.below(if large { 60 } else { 7 }) },
+        subnets: chance.below(if large { 600 } else { 36 }),
     }
 }
 
 /// The table with a block left out or put in a second time.
-fn with_another_count(chance: &mut Chance, image: &Image) -> Image {
+pub fn with_another_count(chance: &mut Chance, image: &Image) -> Image {
     let place = chance.below(image.blocks.len());
     if chance.once_in(2) {
         return image.without_block(place);
@@ -74,36 +70,83 @@ fn with_another_count(chance: &mut Chance, image: &Image) -> Image {
     longer
 }
 
-/// One choice of clauses as a line of every kind.
-fn add_asked(requests: &mut Requests, chance: &mut Chance, table: &Sample, image: &[u8]) {
-    let asked = asked(chance, table);
-    let version = judge_values(&asked.clauses()).unwrap_or_else(|_| version_bits(chance));
-    let client = table.client(chance);
-    let filter = nested(filter_of(chance, &asked), *chance.pick(&[0, 0, 0, 0, 0, 1, 2, 3, 3, 4]));
-    requests.filter(&filter);
-    requests.values(&filter);
-    requests.filter(&random_filter(chance, 3));
-    requests.write(room(chance, asked.filter().len()), &asked);
-    let reply = reply_to(image, client, &filter);
-    let length = reply.as_ref().map_or(0, |(_, octets)| octets.len());
-    requests.ping(client, &filter, room(chance, length));
-    let names = [&[23, 0, 0, 0][..], &name_like(chance, 60)].concat();
-    let (form, octets) = reply.unwrap_or((Form::Ex, names.clone()));
-    requests.read(form, version, &octets);
-    requests.walk(chance.below(octets.len()), &octets);
-    requests.walk(chance.below(names.len()), &names);
+/// The lines of one group in the making.
+struct Lines<'c> {
+    chance: &'c mut Chance,
+    lines: Vec<Vec<u8>>,
 }
 
-/// Clauses that suit the table, but for one of them here and there; clauses by chance alone; or none.
+impl Lines<'_> {
+    /// The line that is made, as it is.
+    fn add_good(&mut self, make: impl FnOnce(&mut Requests, &mut Chance)) {
+        let mut requests = Requests::default();
+        make(&mut requests, self.chance);
+        self.lines.extend(requests.lines);
+    }
+
+    /// The line that is made, and once in four times a changed one before it.
+    fn add(&mut self, make: impl FnOnce(&mut Requests, &mut Chance)) {
+        let before = self.lines.len();
+        self.add_good(make);
+        if self.chance.once_in(4) {
+            let line = changed(self.chance, &self.lines[before]);
+            self.lines.insert(before, line);
+        }
+    }
+
+    /// As before, but only once in so many times.
+    fn add_sometimes(&mut self, times: usize, make: impl FnOnce(&mut Requests, &mut Chance)) {
+        if self.chance.once_in(times) {
+            self.add(make);
+        }
+    }
+
+    fn add_bad_table(&mut self, table: &Sample, image: &[u8]) {
+        self.add_good(|requests, chance| {
+            if chance.once_in(2) {
+                requests.table(&with_another_count(chance, &table.image));
+            } else {
+                let line = format!("table {}", word_of_octets(image));
+                requests.raw(&changed(chance, line.as_bytes()));
+            }
+        });
+        let asked = asked(self.chance, table);
+        let filter = filter_of(self.chance, &asked);
+        self.add(|requests, chance| requests.ping(table.client(chance), &filter, room(chance, 0)));
+    }
+
+    /// A ping, and lines of the other kinds that have to do with its filter and its reply.
+    fn add_asked(&mut self, table: &Sample, image: &[u8]) {
+        let asked = asked(self.chance, table);
+        let filter = filter_of(self.chance, &asked);
+        let client = table.client(self.chance);
+        let reply = reply_to(image, client, &filter);
+        let length = reply.as_ref().map_or(0, |(_, octets)| octets.len());
+        self.add(|requests, chance| requests.ping(client, &filter, room(chance, length)));
+        self.add_sometimes(4, |requests, _| requests.filter(&filter));
+        self.add_sometimes(8, |requests, chance| requests.filter(&random_filter(chance, 3)));
+        self.add_sometimes(6, |requests, _| requests.values(&filter));
+        self.add_sometimes(6, |requests, chance| requests.write(room(chance, asked.filter().len()), &asked));
+        let names = [&[23, 0, 0, 0][..], &name_like(self.chance, 60)].concat();
+        let (form, octets) = reply.unwrap_or((Form::Ex, names.clone()));
+        let version = judge_values(&asked.clauses()).unwrap_or(4);
+        self.add_sometimes(6, |requests, _| requests.read(form, version, &octets));
+        self.add_sometimes(6, |requests, chance| requests.walk(chance.below(octets.len()), &octets));
+        self.add_sometimes(8, |requests, chance| requests.walk(chance.below(names.len()), &names));
+    }
+}
+
+/// Clauses that suit the table, but for some of them here and there; clauses by chance alone; or none.
 fn asked(chance: &mut Chance, table: &Sample) -> Asked {
     let asked = table.asked(chance);
-    match chance.below(40) {
-        0..=9 => asked,
-        10..=15 => random_asked(chance),
-        16..=18 => asked.with_user(chance.pick(&["a..b", ".a", "a.", "."]).as_bytes()),
-        19 => asked.with(ClauseName::Host, &vec![b'h'; 1900 + chance.below(200)]),
-        20..=21 => asked.with(*chance.pick(&ClauseName::ALL), b""),
-        22 => Asked::default(),
+    match chance.below(50) {
+        0..=32 => asked,
+        33..=34 => random_asked(chance),
+        35..=36 => asked.with_user(chance.pick(&["a..b", ".a", "a.", ".", ""]).as_bytes()),
+        37 => asked.with(ClauseName::Host, &vec![b'h'; 1900 + chance.below(200)]),
+        38 => Asked::version(version_bits(chance)),
+        39 => Asked::default(),
+        40..=42 => (0..4).fold(asked, |asked, _| with_wrong(chance, asked)),
         _ => {
             let name = *chance.pick(&ClauseName::ALL);
             asked.with(name, &random_value(chance, name))
@@ -111,7 +154,29 @@ fn asked(chance: &mut Chance, table: &Sample) -> Asked {
     }
 }
 
-/// The clauses in one AND, in either order, whatever its length; here and there with a duplicate.
+/// Values that are refused with 9 to 18, on most tables.
+const WRONG: [(ClauseName, &[u8]); 8] = [
+    (ClauseName::NtVer, b""),
+    (ClauseName::DomainGuid, b"short"),
+    (ClauseName::DomainGuid, &[9; 16]),
+    (ClauseName::DnsDomain, b""),
+    (ClauseName::DnsDomain, b"none"),
+    (ClauseName::DomainSid, b"short"),
+    (ClauseName::DomainSid, &[1, 0, 9, 9, 9, 9, 9, 9]),
+    (ClauseName::User, b"a..b"),
+];
+
+/// The clauses with one of them wrong, or without NtVer.
+fn with_wrong(chance: &mut Chance, asked: Asked) -> Asked {
+    if chance.once_in(8) {
+        return asked.without(ClauseName::NtVer);
+    }
+    let (name, value) = *chance.pick(&WRONG);
+    asked.with(name, value)
+}
+
+/// The clauses in one AND, in either order, whatever its length; here and there with a duplicate, or nested. One clause
+/// may stand alone.
 fn filter_of(chance: &mut Chance, asked: &Asked) -> Vec<u8> {
     let clauses = asked.clauses();
     let mut present = Vec::new();
@@ -120,18 +185,26 @@ fn filter_of(chance: &mut Chance, asked: &Asked) -> Vec<u8> {
             present.push(equality(&random_case(chance, name.spelled()), value));
         }
     }
-    if chance.once_in(12) {
+    if present.len() == 1 && chance.once_in(2) {
+        return present.concat();
+    }
+    if chance.once_in(40) {
         present.extend(present.first().cloned());
     }
     if chance.once_in(2) {
         present.reverse();
     }
-    and(&present)
+    let depth = if chance.once_in(5) { chance.below(5) } else { 0 };
+    nested(and(&present), depth)
 }
 
-/// Room that fits, or lacks an octet, or leaves some.
+/// Room that fits, or lacks an octet, or leaves some, or none; for a refusal little or much.
 fn room(chance: &mut Chance, length: usize) -> usize {
-    *chance.pick(&[length, length.saturating_sub(1), length + 3])
+    match length {
+        0 => *chance.pick(&[0, 1, 128]),
+        _ if chance.once_in(40) => 0,
+        _ => *chance.pick(&[length, length, length - 1, length + 3, length + 3]),
+    }
 }
 
 /// The line with one character changed, or with some octets of its longest word changed.
@@ -159,7 +232,7 @@ const TELLING: [u8; 14] = [0x00, 0x01, 0x02, 0x04, 0x3F, 0x40, 0x7F, 0x80, 0x81,
 
 /// One octet or two changed, put in or taken out, or an end cut off. A table mostly keeps its length and has its
 /// checks made anew.
-fn changed_octets(chance: &mut Chance, mut octets: Vec<u8>, is_table: bool) -> Vec<u8> {
+pub fn changed_octets(chance: &mut Chance, mut octets: Vec<u8>, is_table: bool) -> Vec<u8> {
     let sorts = if is_table && !chance.once_in(3) { 3 } else { 7 };
     for _ in 0..1 + chance.below(2) {
         if octets.is_empty() {
@@ -184,7 +257,7 @@ fn changed_octets(chance: &mut Chance, mut octets: Vec<u8>, is_table: bool) -> V
 
 #[cfg(test)]
 mod tests {
-    use super::super::{counted_as, missing_numbers, Counts};
+    use super::super::coverage::{required_numbers, required_of_pings, Coverage};
     use super::*;
     use crate::lines::answer_all;
 
@@ -198,20 +271,26 @@ mod tests {
     fn as_many_lines_as_asked_for_and_the_same_from_the_same_seed() {
         let made = lines(300, 1);
         assert_eq!(made.iter().filter(|&&octet| octet == b'\n').count(), 300);
-        assert!(made == lines(300, 1) && made.starts_with(&lines(200, 1)) && made != lines(300, 3));
+        assert!(made == lines(300, 1) && made.starts_with(&lines(200, 1)) && made != lines(300, 2));
         assert_eq!(lines(0, 1), b"");
     }
 
     #[test]
-    fn each_line_has_an_answer_and_each_number_is_given() {
+    fn each_line_has_an_answer_and_pings_meet_their_cases() {
+        let made = lines(40_000, 1);
         let mut output = Vec::new();
-        answer_all(&mut &lines(20_000, 1)[..], &mut output).unwrap();
+        answer_all(&mut &made[..], &mut output).unwrap();
         let answers = String::from_utf8(output).unwrap();
-        let mut counts = Counts::new();
-        for answer in answers.lines() {
-            *counts.entry(counted_as(answer)).or_default() += 1;
+        assert_eq!(answers.lines().count(), 40_000);
+        let mut coverage = Coverage::default();
+        for (request, answer) in made.split(|&octet| octet == b'\n').zip(answers.lines()) {
+            coverage.observe(request, answer);
         }
-        assert_eq!(counts.values().sum::<usize>(), 20_000);
-        assert_eq!(missing_numbers(&counts), Vec::<String>::new());
+        let missing: Vec<String> = required_numbers()
+            .into_iter()
+            .chain(required_of_pings())
+            .filter(|case| coverage.count(case) == 0)
+            .collect();
+        assert_eq!(missing, Vec::<String>::new());
     }
 }

@@ -6,9 +6,9 @@ pub struct Chance {
 }
 
 impl Chance {
-    /// The state must not be zero, so the lowest bit is set.
+    /// A state of zero would stay zero.
     pub fn new(seed: u64) -> Chance {
-        Chance { state: seed | 1 }
+        Chance { state: seed.max(1) }
     }
 
     fn next(&mut self) -> u64 {

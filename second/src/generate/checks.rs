@@ -5,10 +5,10 @@ use super::requests::Requests;
 
 pub fn add_all(requests: &mut Requests, chance: &mut Chance) {
     requests.note("the same octet throughout, and one octet alone");
-    for octet in [0, 1, 2, 127, 128, 129, 254, 255] {
+    for octet in [0, 1, 128, 255] {
         requests.check(&[octet; 508]);
     }
-    for place in [0, 1, 15, 16, 17, 31, 32, 253, 254, 255, 256, 495, 496, 497, 506, 507] {
+    for place in [0, 1, 15, 16, 255, 256, 506, 507] {
         let mut octets = [0; 508];
         octets[place] = 255;
         requests.check(&octets);
@@ -17,7 +17,7 @@ pub fn add_all(requests: &mut Requests, chance: &mut Chance) {
         requests.check(&octets);
     }
     requests.note("random octets, small ones and large ones");
-    for _ in 0..20 {
+    for _ in 0..5 {
         requests.check(&chance.octets(508));
         let small: Vec<u8> = chance.octets(508).iter().map(|octet| octet & 3).collect();
         requests.check(&small);

@@ -59,10 +59,10 @@ fn add_values(requests: &mut Requests) {
             requests.filter(&and(&[equality(name.spelled(), &vec![0x5A; length])]));
         }
     }
-    for length in 105..=130 {
+    for length in [115, 116, 117, 118, 119, 120, 127, 128] {
         requests.filter(&and(&[equality(b"Host", &vec![0; length])]));
     }
-    for length in [232, 233, 240, 241, 242, 243, 254, 255, 256, 257] {
+    for length in [241, 242, 243, 244, 255, 256] {
         requests.filter(&and(&[equality(b"User", &vec![b'u'; length])]));
     }
     let every_name: Vec<Vec<u8>> = ClauseName::ALL.iter().map(|name| equality(name.spelled(), b"")).collect();
@@ -182,11 +182,15 @@ fn add_wrong_tags(requests: &mut Requests) {
     requests.filter(&and(&[string]));
 }
 
+fn turned_case(name: ClauseName) -> Vec<u8> {
+    name.spelled().iter().map(|octet| octet ^ 0x20).collect()
+}
+
 fn add_duplicates(requests: &mut Requests) {
     requests.note("a duplicate clause, across case and nesting");
     for name in ClauseName::ALL {
         let one = equality(name.spelled(), b"1");
-        let other = equality(&name.spelled().to_ascii_uppercase(), b"");
+        let other = equality(&turned_case(name), b"");
         requests.filter(&and(&[one.clone(), one.clone()]));
         requests.filter(&and(&[one.clone(), other.clone()]));
         requests.filter(&and(&[nested(one.clone(), 1), version_6(), nested(other.clone(), 2)]));
@@ -217,8 +221,6 @@ fn add_longest(requests: &mut Requests) {
     }
     requests.filter(&[0xA0; 2048]);
     requests.filter(&[0xA0; 2049]);
-    let many = vec![version_6(); 100];
-    requests.filter(&and(&many));
 }
 
 fn long_sample() -> Vec<u8> {
@@ -229,43 +231,35 @@ fn long_sample() -> Vec<u8> {
 
 fn add_truncated(requests: &mut Requests) {
     requests.note("filters cut at every length");
-    for filter in [and(&[version_6()]), long_sample()] {
-        for length in 0..=filter.len() {
-            requests.filter(&filter[..length]);
-        }
+    let filter = long_sample();
+    for length in 0..=filter.len() {
+        requests.filter(&filter[..length]);
     }
 }
 
 fn add_mutated(requests: &mut Requests, chance: &mut Chance) {
     requests.note("filters with one octet changed, put in or taken out");
-    for filter in [and(&[version_6()]), long_sample()] {
-        for place in 0..filter.len() {
-            let mut changed = filter.clone();
-            changed[place] ^= 1 << chance.below(8);
-            requests.filter(&changed);
-            changed[place] = chance.octet();
-            requests.filter(&changed);
-            changed.remove(place);
-            requests.filter(&changed);
-            changed.insert(place, chance.octet());
-            changed.insert(place, chance.octet());
-            requests.filter(&changed);
-        }
+    let filter = and(&[version_6(), and(&[equality(b"AAC", b"")])]);
+    for place in 0..filter.len() {
+        let mut changed = filter.clone();
+        changed[place] ^= 1 << chance.below(8);
+        requests.filter(&changed);
+        changed.remove(place);
+        requests.filter(&changed);
+        changed.insert(place, chance.octet());
+        changed.insert(place, chance.octet());
+        requests.filter(&changed);
     }
 }
 
 fn add_random(requests: &mut Requests, chance: &mut Chance) {
     requests.note("random octets and random filters");
-    for _ in 0..60 {
-        let length = chance.below(24);
-        requests.filter(&chance.octets(length));
-    }
     let likely = [0xA0, 0xA3, 0x04, 0x81, 0x82, 0x00, 0x01, 0x02, 0x03, 0x05, b'A', b'C'];
-    for _ in 0..60 {
+    for _ in 0..30 {
         let octets: Vec<u8> = (0..chance.below(24)).map(|_| *chance.pick(&likely)).collect();
         requests.filter(&octets);
     }
-    for _ in 0..200 {
+    for _ in 0..60 {
         let depth = chance.below(6);
         requests.filter(&random_filter(chance, depth));
     }
@@ -309,26 +303,25 @@ fn add_subsets(requests: &mut Requests, chance: &mut Chance) {
             }
         }
         let length = asked.filter().len();
-        requests.write(length, &asked);
-        requests.write(length.saturating_sub(1 + present % 3), &asked);
-        if present % 8 == 0 {
-            requests.write(length + 5, &asked);
+        requests.write(if present % 8 == 0 { length + 5 } else { length }, &asked);
+        if present % 4 == 1 {
+            requests.write(length.saturating_sub(1 + present % 3), &asked);
         }
     }
 }
 
 fn add_written_lengths(requests: &mut Requests) {
     requests.note("values around the edges of the length forms, and the longest filter");
-    for length in (110..=130).chain(230..=258) {
-        requests.write(300, &Asked::default().with(ClauseName::Aac, &vec![0xEE; length]));
+    for length in [116, 117, 118, 119, 120, 121, 127, 128, 241, 242, 243, 244, 245, 246, 255, 256] {
+        requests.write(length + 25, &Asked::default().with(ClauseName::Aac, &vec![0xEE; length]));
     }
-    for length in [2029, 2030, 2031, 2032, 2100, 4000] {
+    for length in [2029, 2030, 2031] {
         requests.write(2048, &Asked::default().with(ClauseName::Host, &vec![b'h'; length]));
     }
     let both = |second: usize| {
         Asked::default().with(ClauseName::User, &[b'u'; 1000]).with(ClauseName::Host, &vec![b'h'; second])
     };
-    for second in [1015, 1016, 1017, 1018] {
+    for second in [1016, 1017] {
         requests.write(10, &both(second));
     }
     requests.write(10, &Asked::default().with(ClauseName::DomainSid, &vec![1; 66_000]));

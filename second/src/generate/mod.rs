@@ -1,8 +1,9 @@
-//! The seeded generator of the stored vectors: requests by kind, their answers, and a count of each answer number.
+//! The seeded generator: the stored vectors with their answers, what they cover, and lines in bulk.
 
 pub mod bulk;
 pub mod chance;
 mod checks;
+pub mod coverage;
 mod elements;
 mod filters;
 mod layout;
@@ -15,53 +16,77 @@ mod tables;
 mod texts;
 mod values;
 
-use std::collections::BTreeMap;
 use std::fs;
 use std::io;
 use std::path::Path;
 
 use crate::lines::Answerer;
 use chance::Chance;
+use coverage::Coverage;
 use requests::Requests;
 
 pub const SEED: u64 = 0x5EED_0F71_4E6A_12AA;
 
-/// A kind of stored file and what fills it.
+/// A kind of line and what makes its lines.
 struct Kind {
     name: &'static str,
     fill: fn(&mut Requests, &mut Chance),
 }
 
-const KINDS: [Kind; 8] = [
-    Kind { name: "check", fill: checks::add_all },
-    Kind { name: "table", fill: tables::add_all },
-    Kind { name: "ping", fill: pings::add_all },
-    Kind { name: "filter", fill: filters::add_all },
-    Kind { name: "write", fill: filters::add_writes },
-    Kind { name: "read", fill: replies::add_reads },
-    Kind { name: "walk", fill: replies::add_walks },
-    Kind { name: "values", fill: values::add_all },
+/// Two stored files, of request lines and of their answers, and the kinds of line in them.
+struct Files {
+    requests: &'static str,
+    answers: &'static str,
+    kinds: &'static [Kind],
+}
+
+const FILES: [Files; 3] = [
+    Files {
+        requests: "crates/vectors/stdin",
+        answers: "crates/vectors/stdout",
+        // Pings are first, since some of them stand before any table.
+        kinds: &[
+            Kind { name: "ping", fill: pings::add_all },
+            Kind { name: "table", fill: tables::add_all },
+            Kind { name: "check", fill: checks::add_all },
+            Kind { name: "filter", fill: filters::add_all },
+            Kind { name: "write", fill: filters::add_writes },
+            Kind { name: "values", fill: values::add_all },
+        ],
+    },
+    Files {
+        requests: "vectors/read.requests",
+        answers: "vectors/read.answers",
+        kinds: &[Kind { name: "read", fill: replies::add_reads }],
+    },
+    Files {
+        requests: "vectors/walk.requests",
+        answers: "vectors/walk.answers",
+        kinds: &[Kind { name: "walk", fill: replies::add_walks }],
+    },
 ];
 
-/// How often each answer number was given, by kind of line; lines without a number are counted by their words.
-pub type Counts = BTreeMap<(String, String), usize>;
+/// Each kind has a seed of its own, so that a change to one leaves the lines of the others as they are.
+fn lines_of(kind: &Kind) -> Vec<Vec<u8>> {
+    let seed = kind.name.bytes().fold(SEED, |seed, octet| seed.rotate_left(8) ^ u64::from(octet));
+    let mut requests = Requests::default();
+    (kind.fill)(&mut requests, &mut Chance::new(seed));
+    malformed::add_of_kind(&mut requests, kind.name);
+    requests.lines
+}
 
-/// The request lines and answer lines of one kind.
+/// The contents of the two files.
 struct Stored {
     requests: Vec<u8>,
     answers: Vec<u8>,
 }
 
-fn store(kind: &Kind, place: usize, counts: &mut Counts) -> Stored {
-    let mut chance = Chance::new(SEED.wrapping_add((place as u64) << 32));
-    let mut requests = Requests::default();
-    (kind.fill)(&mut requests, &mut chance);
-    malformed::add_of_kind(&mut requests, kind.name);
+fn store(files: &Files, coverage: &mut Coverage) -> Stored {
     let mut stored = Stored { requests: Vec::new(), answers: Vec::new() };
     let mut answerer = Answerer::default();
-    for line in requests.lines {
+    for line in files.kinds.iter().flat_map(lines_of) {
         if let Some(answer) = answerer.answer(&line) {
-            *counts.entry(counted_as(&answer)).or_default() += 1;
+            coverage.observe(&line, &answer);
             stored.answers.extend(answer.into_bytes());
             stored.answers.push(b'\n');
         }
@@ -71,114 +96,61 @@ fn store(kind: &Kind, place: usize, counts: &mut Counts) -> Stored {
     stored
 }
 
-/// The first word of an answer line, and its number where that kind of line has one.
-fn counted_as(answer: &str) -> (String, String) {
-    let mut words = answer.split(' ');
-    let kind = words.next().unwrap_or_default();
-    let second = words.next().unwrap_or_default();
-    let number = match (kind, second) {
-        ("walk", "none") => "none",
-        ("check" | "walk", _) => "given",
-        (_, number) => number,
-    };
-    (kind.to_string(), number.to_string())
-}
-
-/// Makes all lines, and writes them where a folder is given.
-pub fn generate(folder: Option<&Path>) -> io::Result<Counts> {
-    let mut counts = Counts::new();
-    for (place, kind) in KINDS.iter().enumerate() {
-        let stored = store(kind, place, &mut counts);
+/// Makes all stored lines, and writes them below a folder where one is given.
+pub fn generate(folder: Option<&Path>) -> io::Result<Coverage> {
+    let mut coverage = Coverage::default();
+    for files in &FILES {
+        let stored = store(files, &mut coverage);
         if let Some(folder) = folder {
-            fs::write(folder.join(format!("{}.requests", kind.name)), stored.requests)?;
-            fs::write(folder.join(format!("{}.answers", kind.name)), stored.answers)?;
+            write_below(folder, files.requests, &stored.requests)?;
+            write_below(folder, files.answers, &stored.answers)?;
         }
     }
-    Ok(counts)
+    Ok(coverage)
 }
 
-/// The numbers that each kind of line can give.
-const NUMBERS_BY_KIND: [(&str, &[u8]); 6] = [
-    ("table", &[0, 1, 2, 3, 4]),
-    ("ping", &[0, 1, 2, 3, 4, 5, 6, 7, 8, 9, 10, 11, 12, 13, 14, 15, 16, 17, 18, 19]),
-    ("filter", &[0, 5, 6, 7, 8]),
-    ("values", &[0, 5, 6, 7, 8, 9, 10]),
-    ("write", &[0, 5, 6, 19]),
-    ("read", &[0, 31, 32, 33, 34, 35]),
-];
-
-/// What should be given by some line and is not, as kind and number.
-pub fn missing_numbers(counts: &Counts) -> Vec<String> {
-    let mut missing = Vec::new();
-    for (kind, numbers) in NUMBERS_BY_KIND {
-        for number in numbers {
-            if !counts.contains_key(&(kind.to_string(), number.to_string())) {
-                missing.push(format!("{kind} {number}"));
-            }
-        }
-    }
-    missing
-}
-
-/// The counts as lines of kind, number and how often; `all` adds a number up over the kinds.
-pub fn counts_text(counts: &Counts) -> String {
-    let mut over_kinds: BTreeMap<u8, usize> = BTreeMap::new();
-    let mut text = String::new();
-    for ((kind, number), count) in counts {
-        text.push_str(&format!("{kind} {number} {count}\n"));
-        if let Ok(number) = number.parse() {
-            *over_kinds.entry(number).or_default() += count;
-        }
-    }
-    for (number, count) in over_kinds {
-        text.push_str(&format!("all {number} {count}\n"));
-    }
-    text
+fn write_below(folder: &Path, name: &str, octets: &[u8]) -> io::Result<()> {
+    let path = folder.join(name);
+    fs::create_dir_all(path.parent().unwrap_or(folder))?;
+    fs::write(path, octets)
 }
 
 #[cfg(test)]
 mod tests {
     use super::*;
+    use crate::lines::answer_all;
+
+    fn stored() -> Vec<Stored> {
+        FILES.iter().map(|files| store(files, &mut Coverage::default())).collect()
+    }
 
     #[test]
-    fn every_answer_number_is_given() {
-        let counts = generate(None).unwrap();
-        assert_eq!(missing_numbers(&counts), Vec::<String>::new());
+    fn every_required_case_is_met() {
+        assert_eq!(generate(None).unwrap().missing(), Vec::<String>::new());
+    }
+
+    #[test]
+    fn without_lines_every_required_case_is_missing() {
+        assert_eq!(Coverage::default().missing(), coverage::required());
     }
 
     #[test]
     fn the_same_lines_every_time_and_not_too_many_octets() {
-        let made =
-            || KINDS.iter().enumerate().map(|(place, kind)| store(kind, place, &mut Counts::new())).collect::<Vec<_>>();
-        let (one, other) = (made(), made());
         let mut octets = 0;
-        for (stored, again) in one.iter().zip(&other) {
-            assert!(stored.requests == again.requests && stored.answers == again.answers);
-            octets += stored.requests.len() + stored.answers.len();
+        for (one, again) in stored().iter().zip(stored()) {
+            assert!(one.requests == again.requests && one.answers == again.answers);
+            octets += one.requests.len() + one.answers.len();
         }
-        assert!(octets < 7_000_000);
+        assert!(octets <= 4_000_000, "{octets}");
     }
 
     /// The answers stored are those of the lines as they would come in on standard input.
     #[test]
     fn the_answers_are_those_of_the_request_file() {
-        for (place, kind) in KINDS.iter().enumerate() {
-            let stored = store(kind, place, &mut Counts::new());
+        for (files, stored) in FILES.iter().zip(stored()) {
             let mut output = Vec::new();
-            crate::lines::answer_all(&mut &stored.requests[..], &mut output).unwrap();
-            assert!(output == stored.answers, "{}", kind.name);
+            answer_all(&mut &stored.requests[..], &mut output).unwrap();
+            assert!(output == stored.answers, "{}", files.requests);
         }
-    }
-
-    #[test]
-    fn two_thousand_tables_and_as_many_filters() {
-        let lines = |name: &str| {
-            let (place, kind) = KINDS.iter().enumerate().find(|(_, kind)| kind.name == name).unwrap();
-            let stored = store(kind, place, &mut Counts::new());
-            let starts = |line: &&[u8]| line.starts_with(format!("{name} ").as_bytes());
-            stored.requests.split(|&octet| octet == b'\n').filter(starts).count()
-        };
-        assert!(lines("table") >= 2000);
-        assert!(lines("filter") + lines("write") >= 2000);
     }
 }

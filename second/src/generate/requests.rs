@@ -77,6 +77,11 @@ impl Asked {
         self
     }
 
+    pub fn without(mut self, name: ClauseName) -> Asked {
+        self.values[name as usize] = None;
+        self
+    }
+
     pub fn with_user(self, user: &[u8]) -> Asked {
         self.with(ClauseName::User, user)
     }

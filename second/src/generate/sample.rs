@@ -2,40 +2,44 @@
 
 use super::chance::Chance;
 use super::requests::Asked;
-use super::texts::account_texts;
+use super::texts::{account_texts, good_account_texts};
 use crate::filter::ClauseName;
 use crate::image::{ContextBlock, Image, Record, ServerBlock};
 
-/// Few labels, some the same but for case, so that names share tails often.
-const LABELS: [&str; 10] = ["a", "A", "b", "corp", "Corp", "example", "dc1", "HQ", "x-1", "ab"];
-const USERS: [&str; 12] = [
-    "ann",
-    "Bob",
-    "x.corp",
-    "a.b",
-    "HQ",
-    "b.example",
-    "J\u{F6}rg",
-    "\u{20AC}uro",
-    "\u{1F600}.HQ",
-    "corp.example",
-    "dc1",
-    "A",
-];
-const CONTROLS: [u32; 10] = [0x10, 0x11, 0x08, 0x40, 0x80, 0x100, 0x20, 0x1D8, 0x1D9, 0xFFFF_FFFE];
+/// Few labels, some the same but for case or the end of another, so that names share tails often and nearly.
+const LABELS: [&str; 12] = ["a", "A", "b", "corp", "Corp", "example", "dc1", "HQ", "x-1", "ab", "!~", "ple"];
+const USERS: [&str; 9] =
+    ["ann", "Bob", "J\u{F6}rg", "\u{20AC}uro", "\u{1F600}.HQ", "x.corp", "\u{D8}RJAN", "\u{F8}rjan", "nobody"];
+const CONTROLS: [u32; 12] = [0x10, 0x11, 0x08, 0x40, 0x80, 0x100, 0x20, 0x1D8, 0x1D9, 0xFFFF_FFFE, 0xFFFF_FE27, 0x210];
 
 #[derive(Clone)]
 struct SampleContext {
+    number: u16,
     guid: [u8; 16],
     sid: Option<Vec<u8>>,
     dns_name: Vec<u8>,
 }
 
+#[derive(Clone)]
+struct SampleAccount {
+    context: u16,
+    control: u32,
+    name: Vec<u8>,
+}
+
+struct SampleSubnet {
+    address: u32,
+    prefix: u32,
+}
+
 /// A table, and what its pings may ask for.
 pub struct Sample {
     pub image: Image,
+    default_context: u16,
+    names: Names,
     contexts: Vec<SampleContext>,
-    subnets: Vec<[u8; 4]>,
+    accounts: Vec<SampleAccount>,
+    subnets: Vec<SampleSubnet>,
 }
 
 /// How large a random table is made.
@@ -47,13 +51,92 @@ pub struct Size {
     pub subnets: usize,
 }
 
-fn dns_name(chance: &mut Chance) -> Vec<u8> {
-    let labels: Vec<&str> = (0..1 + chance.below(4)).map(|_| *chance.pick(&LABELS)).collect();
+/// The DNS names of one table, which take up one another's tails.
+#[derive(Default)]
+struct Names {
+    drawn: Vec<Vec<u8>>,
+}
+
+impl Names {
+    /// A name of few labels, of long ones, or made from an earlier one: with labels before it, its tail, or the same
+    /// in another case.
+    fn draw(&mut self, chance: &mut Chance) -> Vec<u8> {
+        let earlier = if self.drawn.is_empty() { few_labels(chance) } else { chance.pick(&self.drawn).clone() };
+        let name = match chance.below(12) {
+            0..=4 => [few_labels(chance), earlier].join(&b'.'),
+            5 => tail(chance, &earlier),
+            6 => random_case(chance, &earlier),
+            7 => [long_labels(chance), earlier].join(&b'.'),
+            8 => lengthened(earlier),
+            _ => few_labels(chance),
+        };
+        let name = shortened(name, 253);
+        self.drawn.push(name.clone());
+        name
+    }
+
+    /// A name of one label: the last one of a name, one of the list, or a longest one.
+    fn label(&self, chance: &mut Chance, longest: usize) -> Vec<u8> {
+        let last = self.drawn.is_empty().then(Vec::new).unwrap_or_else(|| {
+            let name = chance.pick(&self.drawn);
+            name.rsplit(|&octet| octet == b'.').next().unwrap_or_default().to_vec()
+        });
+        match chance.below(8) {
+            0..=3 if (1..=longest).contains(&last.len()) => last,
+            4 => vec![*chance.pick(b"sS"); longest - chance.below(2)],
+            _ => chance.pick(&LABELS).as_bytes().to_vec(),
+        }
+    }
+
+    /// A user: a text of every sort, or labels before the tail of a name.
+    fn user(&self, chance: &mut Chance) -> Vec<u8> {
+        let name = chance.pick(&self.drawn);
+        let tail = shortened(tail(chance, name), 63);
+        match chance.below(8) {
+            0 | 1 => tail,
+            2 | 3 => shortened([few_labels(chance), tail].join(&b'.'), 63),
+            4 => chance.pick(&good_account_texts()).clone(),
+            _ => chance.pick(&USERS).as_bytes().to_vec(),
+        }
+    }
+}
+
+fn few_labels(chance: &mut Chance) -> Vec<u8> {
+    let labels: Vec<&str> = (0..1 + chance.below(3)).map(|_| *chance.pick(&LABELS)).collect();
     labels.join(".").into_bytes()
 }
 
+fn long_labels(chance: &mut Chance) -> Vec<u8> {
+    let labels: Vec<Vec<u8>> =
+        (0..1 + chance.below(4)).map(|_| vec![*chance.pick(b"lL"); 63 - chance.below(30)]).collect();
+    labels.join(&b'.')
+}
+
+/// The name with labels before it to 253 octets, or one less where a dot would be the first.
+fn lengthened(mut name: Vec<u8>) -> Vec<u8> {
+    while name.len() < 252 {
+        let label = (252 - name.len()).min(63);
+        name = [vec![b'l'; label], name].join(&b'.');
+    }
+    name
+}
+
+/// The name from one of its labels on.
+fn tail(chance: &mut Chance, name: &[u8]) -> Vec<u8> {
+    let labels: Vec<&[u8]> = name.split(|&octet| octet == b'.').collect();
+    labels[chance.below(labels.len())..].join(&b'.')
+}
+
+/// The longest tail that is short enough. A label has at most 63 octets, so that the last one always is.
+fn shortened(mut name: Vec<u8>, longest: usize) -> Vec<u8> {
+    while name.len() > longest {
+        name = name.splitn(2, |&octet| octet == b'.').last().unwrap_or_default().to_vec();
+    }
+    name
+}
+
 pub fn sid(chance: &mut Chance) -> Vec<u8> {
-    let count = chance.below(16);
+    let count = *chance.pick(&[0, 1, 4, 5, 15]);
     let mut octets = vec![1, count as u8];
     octets.extend(chance.octets(6 + 4 * count));
     octets
@@ -61,22 +144,33 @@ pub fn sid(chance: &mut Chance) -> Vec<u8> {
 
 /// A random table. Contexts are numbered by 3 from 2, sites by 2 from 3, so that the countings differ.
 pub fn sample(chance: &mut Chance, size: Size) -> Sample {
-    let host_name = dns_name(chance);
+    let mut names = Names::default();
+    let forest_name = names.draw(chance);
+    let contexts = sample_contexts(chance, &mut names, size.contexts);
+    let host_name = names.draw(chance);
     let server = ServerBlock {
-        roles: chance.number_u32() & if chance.once_in(4) { 0xFFF } else { 0xDFF },
+        roles: chance.number_u32() & if chance.once_in(6) { 0xFFF } else { 0xDFF },
         state: if chance.once_in(3) { chance.number_u32() & 0xF } else { 6 },
         address: [10, chance.octet(), chance.octet(), chance.octet()],
         own_site: site_number(chance.below(size.sites)),
         default_context: context_number(chance.below(size.contexts)),
-        netbios_name: chance.pick(&LABELS).as_bytes(),
+        netbios_name: &names.label(chance, 15),
         host_name: &host_name,
     };
-    let mut image = Image::with_server(&server, &dns_name(chance));
-    let contexts = push_contexts(&mut image, chance, size.contexts);
-    push_accounts(&mut image, chance, size);
-    push_sites(&mut image, chance, size.sites);
+    let mut image = Image::with_server(&server, &forest_name);
+    push_contexts(&mut image, chance, &names, &contexts);
+    let accounts = push_accounts(&mut image, chance, &names, size);
+    push_sites(&mut image, chance, &names, size.sites);
     let subnets = push_subnets(&mut image, chance, size);
-    Sample { image, contexts, subnets }
+    Sample { image, default_context: server.default_context, names, contexts, accounts, subnets }
+}
+
+/// Puts in blocks of an account each until there are 128, the most there may be.
+pub fn fill_up(image: &mut Image) {
+    while image.blocks.len() < 128 {
+        let name = format!("filler{}", image.blocks.len());
+        image.push_records(4, &[Record::unused(84), Record::account(context_number(0), 0x10, name.as_bytes())]);
+    }
 }
 
 fn context_number(place: usize) -> u16 {
@@ -87,60 +181,67 @@ fn site_number(place: usize) -> u16 {
     3 + 2 * place as u16
 }
 
-fn push_contexts(image: &mut Image, chance: &mut Chance, count: usize) -> Vec<SampleContext> {
+fn sample_contexts(chance: &mut Chance, names: &mut Names, count: usize) -> Vec<SampleContext> {
     let mut contexts: Vec<SampleContext> = Vec::new();
     while contexts.len() < count {
-        let name = dns_name(chance);
-        if contexts.iter().any(|context| context.dns_name.eq_ignore_ascii_case(&name)) {
-            continue;
+        let dns_name = names.draw(chance);
+        if !contexts.iter().any(|context| context.dns_name.eq_ignore_ascii_case(&dns_name)) {
+            let sid = (!chance.once_in(3)).then(|| sid(chance));
+            // A SID of no subauthority may come twice by chance, where others hardly do.
+            let sid = sid.filter(|sid| contexts.iter().all(|context| context.sid.as_ref() != Some(sid)));
+            let guid = std::array::from_fn(|_| chance.octet());
+            contexts.push(SampleContext { number: context_number(contexts.len()), guid, sid, dns_name });
         }
-        let application = chance.once_in(4);
-        let context = SampleContext {
-            guid: std::array::from_fn(|_| chance.octet()),
-            sid: (!application && !chance.once_in(3)).then(|| sid(chance)),
-            dns_name: name,
-        };
-        let netbios_name: &[u8] = if application && chance.once_in(2) { b"" } else { chance.pick(&LABELS).as_bytes() };
-        image.push_context(&ContextBlock {
-            number: context_number(contexts.len()),
-            application: u8::from(application),
-            guid: context.guid,
-            sid: context.sid.as_deref(),
-            netbios_name,
-            dns_name: &context.dns_name,
-        });
-        contexts.push(context);
     }
     contexts
 }
 
-/// Each user of the list at most once in each context, in blocks that also hold unused records.
-fn push_accounts(image: &mut Image, chance: &mut Chance, size: Size) {
-    let mut records = Vec::new();
-    for context in 0..size.contexts {
-        for user in USERS {
-            records.push(Record::account(context_number(context), *chance.pick(&CONTROLS), user.as_bytes()));
-        }
-    }
-    for _ in 0..size.account_blocks {
-        let drawn = |chance: &mut Chance, records: &mut Vec<Record>| {
-            if records.is_empty() || chance.once_in(4) {
-                Record::unused(84)
-            } else {
-                records.swap_remove(chance.below(records.len()))
-            }
-        };
-        let block: Vec<Record> = (0..6).map(|_| drawn(chance, &mut records)).collect();
-        image.push_records(4, &block);
+/// Half of the contexts without SID are application contexts, and some of those have no NetBIOS name.
+fn push_contexts(image: &mut Image, chance: &mut Chance, names: &Names, contexts: &[SampleContext]) {
+    for context in contexts {
+        let application = context.sid.is_none() && chance.once_in(2);
+        let netbios_name = if application && chance.once_in(2) { Vec::new() } else { names.label(chance, 15) };
+        image.push_context(&ContextBlock {
+            number: context.number,
+            application: u8::from(application),
+            guid: context.guid,
+            sid: context.sid.as_deref(),
+            netbios_name: &netbios_name,
+            dns_name: &context.dns_name,
+        });
     }
 }
 
-fn push_sites(image: &mut Image, chance: &mut Chance, count: usize) {
+/// Blocks of accounts, each name at most once in its context, with unused records among them.
+fn push_accounts(image: &mut Image, chance: &mut Chance, names: &Names, size: Size) -> Vec<SampleAccount> {
+    let mut accounts: Vec<SampleAccount> = Vec::new();
+    for _ in 0..size.account_blocks {
+        let mut block = vec![Record::unused(84); 6];
+        for record in &mut block {
+            let account = SampleAccount {
+                context: context_number(chance.below(size.contexts)),
+                control: *chance.pick(&CONTROLS),
+                name: names.user(chance),
+            };
+            let same = |other: &SampleAccount| {
+                other.context == account.context && other.name.eq_ignore_ascii_case(&account.name)
+            };
+            if !chance.once_in(5) && !accounts.iter().any(same) {
+                *record = Record::account(account.context, account.control, &account.name);
+                accounts.push(account);
+            }
+        }
+        image.push_records(4, &block);
+    }
+    accounts
+}
+
+fn push_sites(image: &mut Image, chance: &mut Chance, names: &Names, count: usize) {
     let mut records = Vec::new();
     for place in 0..count {
         let other = chance.below(count);
-        let next_closest = if other == place { 0 } else { site_number(other) };
-        records.push(Record::site(site_number(place), chance.pick(&LABELS).as_bytes(), next_closest));
+        let next_closest = if other == place || chance.once_in(4) { 0 } else { site_number(other) };
+        records.push(Record::site(site_number(place), &names.label(chance, 63), next_closest));
         if chance.once_in(5) {
             records.push(Record::unused(72));
         }
@@ -150,16 +251,17 @@ fn push_sites(image: &mut Image, chance: &mut Chance, count: usize) {
     }
 }
 
-fn push_subnets(image: &mut Image, chance: &mut Chance, size: Size) -> Vec<[u8; 4]> {
-    let mut addresses = Vec::new();
+fn push_subnets(image: &mut Image, chance: &mut Chance, size: Size) -> Vec<SampleSubnet> {
+    let mut subnets = Vec::new();
     let mut records = Vec::new();
     for _ in 0..size.subnets {
-        let prefix = chance.below(33) as u32;
+        // Wide subnets hold most addresses, so that few of them come.
+        let prefix = if chance.once_in(8) { chance.below(33) } else { 10 + chance.below(23) } as u32;
         let mask = u32::MAX.checked_shl(32 - prefix).unwrap_or(0);
         let address = (0x0A00_0000 | (chance.number_u32() & 0x03FF_FFFF)) & mask;
         let site = if chance.once_in(4) { 0 } else { site_number(chance.below(size.sites)) };
         records.push(Record::subnet(address.to_be_bytes(), prefix as u8, 1, site));
-        addresses.push(address.to_be_bytes());
+        subnets.push(SampleSubnet { address, prefix });
         if chance.once_in(4) {
             records.push(Record::unused(12));
         }
@@ -167,50 +269,85 @@ fn push_subnets(image: &mut Image, chance: &mut Chance, size: Size) -> Vec<[u8; 
     for block in records.chunks(42) {
         image.push_records(6, block);
     }
-    addresses
+    subnets
 }
 
-/// Version bits, those with a meaning more often than others.
+/// Version bits, those with a meaning more often than others; each form is asked for often.
 pub fn version_bits(chance: &mut Chance) -> u32 {
-    let meant = [0, 0x2, 0x4, 0x6, 0x8, 0xC, 0x14, 0x1C, 0x16, 0x1F];
-    let high = [0, 0x0100_0000, 0x1000_0000, 0x4000_0000, 0x5100_0000, 0x8000_0000];
-    let others = if chance.once_in(4) { chance.number_u32() } else { 0 };
+    let meant = [0, 0x1, 0x10, 0x2, 0x3, 0x12, 0x4, 0x6, 0x8, 0xC, 0x14, 0x18, 0x1C, 0x16, 0x1F];
+    let high = [0, 0, 0x0100_0000, 0x1000_0000, 0x4000_0000, 0x5100_0000, 0x8000_0000];
+    let others = if chance.once_in(6) { chance.number_u32() } else { 0 };
     chance.pick(&meant) | chance.pick(&high) | others
 }
 
 impl Sample {
+    /// Mostly an address inside a subnet, or next to it.
     pub fn client(&self, chance: &mut Chance) -> [u8; 4] {
-        let random = [chance.octet(), chance.octet(), chance.octet(), chance.octet()];
-        if self.subnets.is_empty() || chance.once_in(3) {
-            return random;
+        let random = chance.number_u32();
+        if self.subnets.is_empty() || chance.once_in(5) {
+            return random.to_be_bytes();
         }
-        let mut address = *chance.pick(&self.subnets);
-        address[3] |= random[3] & 1;
-        address
+        let subnet = chance.pick(&self.subnets);
+        let inside = subnet.address | random.checked_shr(subnet.prefix).unwrap_or(0);
+        inside.wrapping_sub(u32::from(chance.once_in(8))).to_be_bytes()
     }
 
-    /// A ping whose clauses mostly suit the table.
+    /// A ping whose clauses mostly suit the table and each other.
     pub fn asked(&self, chance: &mut Chance) -> Asked {
         let mut asked = Asked::version(version_bits(chance));
-        let context = chance.pick(&self.contexts).clone();
-        let other = if chance.once_in(3) { chance.pick(&self.contexts).clone() } else { context.clone() };
-        if chance.once_in(3) {
-            asked = asked.with(ClauseName::DomainGuid, &context.guid);
-        }
-        if chance.once_in(3) {
-            asked = asked.with(ClauseName::DnsDomain, &random_case(chance, &other.dns_name));
-        }
-        if let Some(sid) = context.sid.filter(|_| chance.once_in(3)) {
-            asked = asked.with(ClauseName::DomainSid, &sid);
-        }
+        let mut context = chance.pick(&self.contexts);
         if !chance.once_in(3) {
-            let user = *chance.pick(&USERS);
-            asked = asked.with_user(&random_case(chance, user.as_bytes()));
+            let account = self.account(chance);
+            context = self.contexts.iter().find(|context| context.number == account.context).unwrap_or(context);
+            asked = with_account(chance, asked, &account);
         }
-        if !chance.once_in(3) {
-            asked = asked.with_aac(if chance.once_in(2) { 0x1D8 } else { *chance.pick(&CONTROLS) });
+        asked = self.naming(chance, asked, context);
+        let holder = if chance.once_in(8) { chance.pick(&self.contexts) } else { context };
+        if let Some(sid) = holder.sid.as_ref().filter(|_| chance.once_in(3)) {
+            asked = asked.with(ClauseName::DomainSid, sid);
+        }
+        for unused in [ClauseName::Host, ClauseName::DnsHostName] {
+            if chance.once_in(8) {
+                asked = asked.with(unused, &few_labels(chance));
+            }
         }
         asked
+    }
+
+    /// An account of the table or, where there is none or by chance, one that may not be there.
+    fn account(&self, chance: &mut Chance) -> SampleAccount {
+        if !self.accounts.is_empty() && !chance.once_in(6) {
+            return chance.pick(&self.accounts).clone();
+        }
+        let context = chance.pick(&self.contexts).number;
+        SampleAccount { context, control: *chance.pick(&CONTROLS), name: self.names.user(chance) }
+    }
+
+    /// Names the context by one clause, by two or, where it is the default, by none; here and there names another.
+    fn naming(&self, chance: &mut Chance, asked: Asked, context: &SampleContext) -> Asked {
+        let ways = if context.number == self.default_context { 4 } else { 3 };
+        let way = chance.below(ways);
+        let other = if chance.once_in(8) { chance.pick(&self.contexts) } else { context };
+        let by_guid = |asked: Asked| asked.with(ClauseName::DomainGuid, &context.guid);
+        let dns_name = random_case(chance, &other.dns_name);
+        match way {
+            0 => by_guid(asked),
+            1 => asked.with(ClauseName::DnsDomain, &dns_name),
+            2 => by_guid(asked).with(ClauseName::DnsDomain, &dns_name),
+            _ => asked,
+        }
+    }
+}
+
+/// The account's name, and an AAC that mostly fits it.
+fn with_account(chance: &mut Chance, asked: Asked, account: &SampleAccount) -> Asked {
+    let asked = asked.with_user(&random_case(chance, &account.name));
+    match chance.below(6) {
+        0 => asked,
+        1 | 2 => asked.with_aac(account.control & 0x1D8),
+        3 => asked.with_aac(0x1D8),
+        4 => asked.with_aac(1 << chance.below(10)),
+        _ => asked.with_aac(*chance.pick(&CONTROLS)),
     }
 }
 
@@ -235,9 +372,17 @@ pub fn random_value(chance: &mut Chance, name: ClauseName) -> Vec<u8> {
         ClauseName::NtVer => version_bits(chance).to_le_bytes().to_vec(),
         ClauseName::Aac => chance.pick(&CONTROLS).to_le_bytes().to_vec(),
         ClauseName::User => chance.pick(&account_texts()).clone(),
-        ClauseName::DomainSid => sid(chance),
+        ClauseName::DomainSid => {
+            let mut octets = sid(chance);
+            match chance.below(6) {
+                0 => octets.push(0),
+                1 => octets.truncate(octets.len() - 1),
+                _ => {}
+            }
+            octets
+        }
         ClauseName::DomainGuid => chance.octets(16),
-        ClauseName::DnsDomain | ClauseName::Host | ClauseName::DnsHostName => dns_name(chance),
+        ClauseName::DnsDomain | ClauseName::Host | ClauseName::DnsHostName => few_labels(chance),
     }
 }
 

@@ -1,7 +1,7 @@
 //! Texts that keep or break each rule on names, one rule at a time.
 
 /// Octets around the ends of 21h to 7Eh, and far outside.
-const EDGE_OCTETS: [u8; 8] = [0x00, 0x1F, 0x20, 0x21, 0x7E, 0x7F, 0x80, 0xFF];
+const EDGE_OCTETS: [u8; 6] = [0x00, 0x20, 0x21, 0x7E, 0x7F, 0xFF];
 
 /// A good DNS name of a given length, up to 255.
 pub fn dns_name_of_length(length: usize) -> Vec<u8> {
@@ -20,7 +20,7 @@ pub fn dns_name_of_length(length: usize) -> Vec<u8> {
 
 fn with_edge_octets(text: &[u8]) -> Vec<Vec<u8>> {
     let mut texts = Vec::new();
-    for place in [0, text.len() / 2, text.len() - 1] {
+    for place in [0, text.len() - 1] {
         for octet in EDGE_OCTETS {
             let mut edge = text.to_vec();
             edge[place] = octet;
@@ -30,25 +30,39 @@ fn with_edge_octets(text: &[u8]) -> Vec<Vec<u8>> {
     texts
 }
 
-/// For a DNS name of 253 octets of room.
+fn owned(texts: &[&[u8]]) -> Vec<Vec<u8>> {
+    texts.iter().map(|text| text.to_vec()).collect()
+}
+
+/// For a DNS name of 253 octets of room: each rule broken once, and what it just allows.
 pub fn dns_texts() -> Vec<Vec<u8>> {
-    let mut texts: Vec<Vec<u8>> = ["", ".", "a", "a.", ".a", "a..b", "a.b", "..", "a.b.", "a-_!~.b"]
-        .iter()
-        .map(|text| text.as_bytes().to_vec())
-        .collect();
-    texts.extend([63, 64, 65].map(|length| vec![b'x'; length]));
+    let mut texts = owned(&[b"", b".a", b"a.", b"a..b", b"a b", b"a\x7F", b"!.~", &[b'x'; 63], &[b'x'; 64]]);
+    texts.extend([253, 254].map(dns_name_of_length));
+    texts
+}
+
+/// More of them, for one field: every rule at the text's start and end.
+pub fn more_dns_texts() -> Vec<Vec<u8>> {
+    let mut texts = owned(&[b".", b"..", b"a", b"a.b", b"a.b.", b"a...b"]);
     texts.push([&[b'x'; 63][..], b".y"].concat());
     texts.push([&b"y."[..], &[b'x'; 64]].concat());
     texts.push([&[b'x'; 64][..], b".y"].concat());
-    texts.extend([252, 253, 254, 255].map(dns_name_of_length));
+    texts.extend([252, 255].map(dns_name_of_length));
     texts.extend(with_edge_octets(b"abcde"));
     texts
 }
 
 /// For a NetBIOS or site name with this much room.
 pub fn label_texts(room: usize) -> Vec<Vec<u8>> {
-    let mut texts = vec![Vec::new(), b"A".to_vec(), b".".to_vec(), b"A.B".to_vec(), b"AB.".to_vec()];
-    texts.extend([room - 1, room, room + 1, 255].map(|length| vec![b'Z'; length]));
+    let mut texts = owned(&[b"", b".", b"A.B", b"A ", b"\x7FA", b"!~"]);
+    texts.extend([room, room + 1].map(|length| vec![b'Z'; length]));
+    texts
+}
+
+/// More of them, for one field.
+pub fn more_label_texts(room: usize) -> Vec<Vec<u8>> {
+    let mut texts = owned(&[b"A", b".A", b"AB."]);
+    texts.extend([room - 1, 255].map(|length| vec![b'Z'; length]));
     texts.extend(with_edge_octets(b"ABCDE"));
     texts
 }
@@ -96,13 +110,24 @@ const BAD_UTF8: [&[u8]; 21] = [
     b"ok\xC3",
 ];
 
-/// For an account or a User clause. An empty text is among them, good for the clause alone.
-pub fn account_texts() -> Vec<Vec<u8>> {
-    let mut texts: Vec<Vec<u8>> = GOOD_UTF8.iter().chain(&BAD_UTF8).map(|text| text.to_vec()).collect();
-    texts.extend([Vec::new(), vec![0], b"a\0b".to_vec(), b"ab\0".to_vec(), b"a b.c".to_vec()]);
-    texts.extend([62, 63, 64, 255].map(|length| vec![b'u'; length]));
-    // A sequence that the limit of 63 octets cuts, and one that just fits.
+/// Good names of accounts and good User clauses.
+pub fn good_account_texts() -> Vec<Vec<u8>> {
+    let mut texts = owned(&GOOD_UTF8);
+    texts.extend([b"a b.c".to_vec(), vec![b'u'; 62], vec![b'u'; 63]]);
+    // A sequence that just fits the limit of 63 octets.
     texts.push([&[b'u'; 61][..], b"\xC3\x98"].concat());
+    texts
+}
+
+/// What neither an account nor a User clause may be, but for the empty text, which is a good User.
+pub fn bad_account_texts() -> Vec<Vec<u8>> {
+    let mut texts = owned(&BAD_UTF8);
+    texts.extend(owned(&[b"", b"\0", b"a\0b", b"ab\0"]));
+    texts.extend([64, 255].map(|length| vec![b'u'; length]));
     texts.push([&[b'u'; 62][..], b"\xC3\x98"].concat());
     texts
+}
+
+pub fn account_texts() -> Vec<Vec<u8>> {
+    [good_account_texts(), bad_account_texts()].concat()
 }

@@ -18,9 +18,9 @@ use Rattle.filter_read.specs.Value.{Ping}
 use Rattle.unicode.specs.UserName.{isUserName}
 use Rattle.unicode.proofs.Laws.UserName.{user-name-short, user-name-spoken}
 use Rattle.locator.specs.Answer.{Outcome, wrongUser, replyTo}
-use Rattle.locator.specs.Choose.{nextSite, replyFor, formOf}
-use Rattle.locator.specs.Judge.{contextFor, contextUsed, orWhole, contextIn}
-use Rattle.locator.proofs.Laws.Choose.{opcode-good, flags-fit}
+use Rattle.choose.specs.Choose.{nextSite, replyFor, formOf}
+use Rattle.choose.specs.Judge.{contextFor, contextUsed, orWhole, contextIn}
+use Rattle.choose.proofs.Laws.Choose.{opcode-good, flags-fit}
 use Rattle.octets.specs.Label.{labels}
 use Rattle.octets.specs.Lists.{any, first, holds, isSome}
 use Rattle.octets.proofs.Laws.Lists.{Every, none-not-some, every-none, found, both-left}

@@ -1,5 +1,5 @@
 -- What is written as a name walks back to its labels, with pointers no more than the labels and than the names before it.
-use mathlib.Core.Path.{_≡_, refl, sym, ap, _∙_, subst}
+use mathlib.Core.Path.{_≡_, refl, sym, ap, ap₂, _∙_, subst}
 use mathlib.Core.Bool.{true}
 use mathlib.Core.List.{List, [], _∷_, _++_, append-assoc, append-nil}
 use mathlib.Core.Option.{Option, none, some}
@@ -256,6 +256,28 @@ names-written (text ∷ texts) earlier k p at e room ready plain =
       row = goes {cs = rest .counts} (w .byPlace) (w .byLabels) walks (rest .row);
       ready = subst (λ (x : ℕ). Every (Ready x (length s) s) (earlier ++ (one .tails ++ more .tails))) sum tails;
     })
+
+-- one name more, after all the others
+pub names-more : (texts : List (List ℕ)) (earlier : List Tail) (at : ℕ) (text : List ℕ)
+    → (let w = writeNames earlier at texts in
+    let one = writeName (earlier ++ w .tails) (at + length (w .octets)) text in
+    writeNames earlier at (texts ++ (text ∷ [])) ≡ record { octets = w .octets ++ one .octets; tails = w .tails ++ one .tails })
+unfolding writeNames
+names-more [] earlier at text =
+    let one : Writing = writeName earlier at text in
+    let e : at ≡ at + 0 = omega arith in
+    ap₂ (λ (x : List ℕ) (y : List Tail). record { octets = x; tails = y }) (append-nil (one .octets)) (append-nil (one .tails))
+    ∙ ap₂ (λ (ts : List Tail) (n : ℕ). writeName ts n text) (sym (append-nil earlier)) e
+names-more (first ∷ texts) earlier at text =
+    let a : Writing = writeName earlier at first in
+    let w : Writing = writeNames (earlier ++ a .tails) (at + length (a .octets)) texts in
+    let e : at + length (a .octets) + length (w .octets) ≡ at + length (a .octets ++ w .octets) = simp length-append (omega arith) in
+    ap (λ (r : Writing). record { octets = a .octets ++ r .octets; tails = a .tails ++ r .tails }) (names-more texts (earlier ++ a .tails) (at + length (a .octets)) text)
+    ∙ ap₂ (λ (ts : List Tail) (n : ℕ). let one = writeName ts n text in record { octets = a .octets ++ (w .octets ++ one .octets); tails = a .tails ++ (w .tails ++ one .tails) })
+    (append-assoc earlier (a .tails) (w .tails)) e
+    ∙ (let one : Writing = writeName (earlier ++ (a .tails ++ w .tails)) (at + length (a .octets ++ w .octets)) text in
+    ap₂ (λ (x : List ℕ) (y : List Tail). record { octets = x; tails = y })
+    (sym (append-assoc (a .octets) (w .octets) (one .octets))) (sym (append-assoc (a .tails) (w .tails) (one .tails))))
 
 -- the name at place i of names written after p, with anything after them
 pub name-at-place : (texts : List (List ℕ)) (k : ℕ) (p q : List ℕ) (chain : Chain k (length p) [] texts (p ++ writeNames [] (length p) texts .octets)) (i : ℕ) → i < length texts

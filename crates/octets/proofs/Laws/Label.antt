@@ -102,7 +102,7 @@ labels-joined (l ∷ ls) p = labels-parts (joined (l ∷ ls)) (some-octet l ls (
 
 -- ---- lengths
 
-size-parts : (s : List ℕ) → size (parts s) ≡ length s + 2
+pub size-parts : (s : List ℕ) → size (parts s) ≡ length s + 2
 unfolding parts
 size-parts [] = refl
 size-parts (x ∷ xs) = go (eqb x dot) (parts-made xs) (size-parts xs)

@@ -1,14 +1,14 @@
 -- Laws of tests, stretches and pieces of a list.
 use mathlib.Core.Path.{_≡_, refl, sym, ap, _∙_, subst, ap₂}
-use mathlib.Core.Bool.{Bool, true, false, _&&_, _||_, cond, not, and-false}
+use mathlib.Core.Bool.{Bool, true, false, _&&_, _||_, cond, not, and-true, and-false, and-assoc}
 use mathlib.Core.List.{List, [], _∷_, _++_, map, flatMap}
 use mathlib.Core.Option.{Option, none, some, Option·map}
 use Prim.Native.Nat.{ℕ, zero, suc, _+_, _-_, _*_, _≤_, _<_}
 use native.Mathlib.Nat.{mul-zero, mul-suc, sub-zero, zero-sub, suc-sub-suc, add-comm, not-suc-le-zero, le-of-suc-le-suc, suc-mul}
 use native.Mathlib.Omega.{arith}
 use native.Mathlib.Numerals.{add-one}
-use lib.ListN.{length, getD, take, drop, length-take, length-drop, drop-of-length-le}
-use lib.Seq.{drop-cons, take-take, drop-drop, take-nil, take-all, take-append-seam, drop-append-seam, take-append-le, drop-append-le, length-take-le}
+use lib.ListN.{length, getD, take, drop, length-take, length-drop, take-append-drop, drop-of-length-le}
+use lib.Seq.{take-suc, drop-cons, getD-drop, take-take, drop-drop, take-nil, take-all, take-append-seam, drop-append-seam, take-append-le, drop-append-le, length-take-le}
 use Rattle.octets.specs.Lists.{all, any, first, firstOr, keep, keepIf, cut, pieces, unique, isSome}
 
 module _ {A : Type 0} where
@@ -216,6 +216,16 @@ pub none-any : {A : Type 0} (p : A → Bool) (xs : List A) → Every (λ x. p x 
 unfolding any
 none-any p [] h = refl
 none-any p (x ∷ xs) h = rw (h .0, none-any p xs (h .1))
+
+-- some element passes exactly where not each passes the opposite
+pub any-not-all : {A : Type 0} (p q : A → Bool) (xs : List A) → Every (λ x. p x ≡ not (q x)) xs → any p xs ≡ not (all q xs)
+unfolding any all
+any-not-all p q [] h = refl
+any-not-all p q (x ∷ xs) h = rw (h .0, any-not-all p q xs (h .1)) (both-not (q x) (all q xs))
+  where
+    both-not : (a b : Bool) → (not a || not b) ≡ not (a && b)
+    both-not true b = refl
+    both-not false b = refl
 
 -- no two alike, one list after the other: each by itself, and none of the one like any of the other
 module _ {A : Type 0} (alike : A → A → Bool) where
@@ -455,3 +465,41 @@ module _ {A B : Type 0} (f : A → B) where
   unfolding unique
   unique-map alike [] = refl
   unique-map alike (x ∷ s) = ap₂ (λ t u. not t && u) (any-map (alike (f x)) s) (unique-map alike s)
+
+-- a test of each element of lists made of others
+module _ {A : Type 0} (p : A → Bool) where
+  pub all-append : (s t : List A) → all p (s ++ t) ≡ (all p s && all p t)
+  unfolding all
+  all-append [] t = refl
+  all-append (x ∷ s) t = ap (λ b. p x && b) (all-append s t) ∙ sym (and-assoc (p x) (all p s) (all p t))
+
+  -- what is left: n elements, and what is left after them
+  pub all-parts : (s : List A) (at n : ℕ) → all p (drop at s) ≡ (all p (cut s at n) && all p (drop (at + n) s))
+  all-parts s at n =
+      ap (all p) (sym (take-append-drop n (drop at s)))
+      ∙ all-append (cut s at n) (drop n (drop at s))
+      ∙ ap (λ (l : List A). all p (cut s at n) && all p l) (drop-drop n at s)
+
+  -- a stretch by its last element
+  pub all-last : (s : List A) (at n : ℕ) (d : A) → at + n < length s → all p (cut s at (suc n)) ≡ (all p (cut s at n) && p (getD s (at + n) d))
+  unfolding all
+  all-last s at n d h =
+      let k : n < length (drop at s) = simp length-drop (omega arith) in
+      ap (all p) (take-suc (drop at s) n d k)
+      ∙ all-append (cut s at n) (getD (drop at s) n d ∷ [])
+      ∙ ap (λ b. all p (cut s at n) && b) (and-true (p (getD (drop at s) n d)) ∙ ap p (getD-drop at s n d))
+
+  -- what is kept passes where each element passes or is not kept
+  pub all-keep : (q : A → Bool) (s : List A) → all p (keep q s) ≡ all (λ x. not (q x) || p x) s
+  unfolding all keep
+  all-keep q [] = refl
+  all-keep q (x ∷ s) = go (q x) (all-keep q s)
+    where
+      go : (b : Bool) → all p (keep q s) ≡ all (λ y. not (q y) || p y) s → all p (keepIf b x (keep q s)) ≡ ((not b || p x) && all (λ y. not (q y) || p y) s)
+      go true e = ap (λ t. p x && t) e
+      go false e = e
+
+  pub all-flat : {B : Type 0} (f : B → List A) (s : List B) → all p (flatMap f s) ≡ all (λ x. all p (f x)) s
+  unfolding all flatMap
+  all-flat f [] = refl
+  all-flat f (x ∷ s) = all-append (f x) (flatMap f s) ∙ ap (λ b. all p (f x) && b) (all-flat f s)

@@ -1,17 +1,18 @@
 -- What the rules for names give: labels that a name can be written with.
-use mathlib.Core.Path.{_≡_, sym, subst}
+use mathlib.Core.Path.{_≡_, refl, sym, subst}
 use mathlib.Core.Bool.{true, false, _&&_, not}
 use mathlib.Core.List.{List, [], _∷_}
-use Prim.Native.Nat.{ℕ, _≤_}
+use Prim.Native.Nat.{ℕ, zero, suc, _≤_}
 use native.Mathlib.Omega.{arith}
 use lib.Dec.{eqb}
 use lib.ListN.{length}
-use borrow.Author.Tests.{not-true}
+use borrow.Author.Tests.{not-true, le-leb, ne-eqb}
 use Rattle.octets.specs.Label.{parts, labels}
-use Rattle.octets.proofs.Laws.Label.{Dotless, Plain, parts-whole, labels-plain, label-short, size-labels}
-use Rattle.octets.specs.Lists.{all}
-use Rattle.octets.proofs.Laws.Lists.{Every, every-all, both-left, both-right}
+use Rattle.octets.proofs.Laws.Label.{Dotless, Plain, parts-whole, labels-plain, label-short, size-parts, size-labels}
+use Rattle.octets.specs.Lists.{all, any}
+use Rattle.octets.proofs.Laws.Lists.{Every, every-all, every-weaken, any-not-all, both-left, both-right}
 use Rattle.octets.specs.NameRule.{sized, printable, without, isDnsName, isPlainName, isNetbiosName, isSiteName}
+use Rattle.octets.specs.Text.{within}
 use Rattle.octets.proofs.Laws.Text.{within-low, within-high}
 
 -- a text that can be written as a name of at most n octets
@@ -78,3 +79,14 @@ short-writable s h e = record { plain = labels-plain s (go (labels s) e (label-s
     go : (ls : List (List ℕ)) → Every (λ l. 1 ≤ length l) ls → Every (λ l. length l ≤ 63) ls → Every (λ l. (1 ≤ length l) × (length l ≤ 63)) ls
     go [] a b = tt
     go (l ∷ ls) a b = ((a .0, b .0), go ls (a .1) (b .1))
+
+-- in a text of at most 63 octets a label of another size is an empty one
+pub empty-label : (s : List ℕ) → length s ≤ 63 → any (λ l. eqb (length l) 0) (parts s) ≡ not (all (sized 1 63) (parts s))
+empty-label s h =
+    any-not-all (λ l. eqb (length l) 0) (sized 1 63) (parts s)
+    (every-weaken (λ l. length l ≤ 63) (λ l. eqb (length l) 0 ≡ not (sized 1 63 l)) (λ l k. unsized (length l) k) (parts s)
+    (label-short (parts s) 63 (omega (arith, size-parts s))))
+  where
+    unsized : (n : ℕ) → n ≤ 63 → eqb n 0 ≡ not (within 1 63 n)
+    unsized zero k = refl
+    unsized (suc n) k = rw (le-leb (suc n) 63 k, le-leb 1 (suc n) (omega arith), ne-eqb (suc n) 0 (λ e. omega arith))

@@ -2,13 +2,14 @@
 use mathlib.Core.Path.{_≡_, refl, sym, ap, _∙_}
 use mathlib.Core.Bool.{Bool, true, false, _&&_}
 use mathlib.Core.List.{List, [], _∷_, map}
-use Prim.Native.Nat.{ℕ, suc, _+_, _≤_, _<_}
+use Prim.Native.Nat.{ℕ, zero, suc, _+_, _≤_, _<_}
 use native.Mathlib.Numerals.{add-one}
 use lib.Dec.{eqb, leb}
 use lib.ListN.{length, getD, drop, drop-of-length-le}
 use lib.Seq.{drop-cons}
 use borrow.Author.Tests.{eq-eqb, ne-eqb, eqb-true, leb-true, eqb-false}
-use Rattle.octets.specs.Text.{same, within, lower, sameFolded}
+use Rattle.octets.specs.Lists.{all}
+use Rattle.octets.specs.Text.{same, within, lower, sameFolded, allZero}
 use Rattle.octets.proofs.Laws.Lists.{both-left, both-right, true-not-false}
 
 -- texts of other lengths are not the same
@@ -88,3 +89,10 @@ folded-left xs ys zs e = ap (λ (l : List ℕ). same l (map lower zs)) (same-equ
 
 pub folded-sym : (xs ys : List ℕ) → sameFolded xs ys ≡ sameFolded ys xs
 folded-sym xs ys = same-sym (map lower xs) (map lower ys)
+
+-- an octet of zeros is zero, and one that is missing counts as zero
+pub zero-octet : (s : List ℕ) (i : ℕ) → allZero s ≡ true → getD s i 0 ≡ 0
+unfolding all
+zero-octet [] i e = refl
+zero-octet (x ∷ s) zero e = eqb-true x 0 (both-left (eqb x 0) (allZero s) e)
+zero-octet (x ∷ s) (suc i) e = zero-octet s i (both-right (eqb x 0) (allZero s) e)

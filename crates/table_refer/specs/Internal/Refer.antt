@@ -1,22 +1,21 @@
 -- References of records, by what is found of the contexts and among the marks.
-use mathlib.Core.Bool.{Bool, not, _&&_}
+use mathlib.Core.Bool.{Bool, not, _&&_, _||_}
 use mathlib.Core.List.{List}
 use mathlib.Core.Option.{Option}
 use Prim.Native.Nat.{ℕ}
-use Rattle.octets.specs.Lists.{any}
+use lib.Dec.{eqb}
+use Rattle.octets.specs.Lists.{all, any, noneOr}
 use Rattle.table.specs.declared.ContextNumber.{ContextNumber}
 use Rattle.table.specs.declared.SiteNumber.{SiteNumber}
-use Rattle.table.specs.declared.record.RecordKind.{RecordKind}
 use Rattle.table.specs.declared.record.RecordKind.the-variants as kind
 use Rattle.table.specs.Account.{accountOf}
+use Rattle.table.specs.Block.{kindIn, body}
 use Rattle.table.specs.Context.{contextOf}
 use Rattle.table.specs.Countings.{sameContext, sameSite}
+use Rattle.table.specs.Format.{recordsIn}
 use Rattle.table.specs.Site.{siteOf}
-use Rattle.table.specs.Subnet.{subnetOf}
+use Rattle.table.specs.Subnet.{subnetFormat, subnetOf}
 use Rattle.table.specs.Internal.RecordAt.{recordAt}
-use Rattle.table_refer.specs.declared.refer.Referrer.{Referrer}
-use Rattle.table_refer.specs.declared.refer.Referrer.the-variants.{Site, Subnet}
-use Rattle.octets.specs.Lists.{noneOr}
 use Rattle.table_refer.specs.Internal.Mark.{isMarked}
 
 -- one of the contexts at offsets has a number
@@ -33,14 +32,16 @@ isMarkedOrNone marks = noneOr (isMarked marks)
 abbrev pub isOtherOrNone : SiteNumber → Option SiteNumber → Bool
 isOtherOrNone own = noneOr (λ n. not (sameSite own n))
 
-abbrev pub recordKindOf : Referrer → RecordKind
-recordKindOf Site = kind.Site
-recordKindOf Subnet = kind.Subnet
+abbrev pub siteRefers : List ℕ → List ℕ → Bool
+siteRefers marks r = isMarkedOrNone marks (siteOf r .next) && isOtherOrNone (siteOf r .number) (siteOf r .next)
 
-abbrev pub refersBy : Referrer → List ℕ → List ℕ → Bool
-refersBy Site marks r = isMarkedOrNone marks (siteOf r .next) && isOtherOrNone (siteOf r .number) (siteOf r .next)
-refersBy Subnet marks r = isMarkedOrNone marks (subnetOf r .site)
+-- of the site at an offset
+abbrev pub siteRefersAt : List ℕ → List ℕ → ℕ → Bool
+siteRefersAt marks image p = siteRefers marks (recordAt image kind.Site p)
 
--- of the record at an offset
-abbrev pub refersAt : Referrer → List ℕ → List ℕ → ℕ → Bool
-refersAt referrer marks image p = refersBy referrer marks (recordAt image (recordKindOf referrer) p)
+abbrev pub subnetRefers : List ℕ → List ℕ → Bool
+subnetRefers marks r = isMarkedOrNone marks (subnetOf r .site)
+
+-- each subnet of a block, if it holds any; its unused records refer to no site
+abbrev pub subnetsRefer : List ℕ → List ℕ → Bool
+subnetsRefer marks block = not (eqb (kindIn block) (subnetFormat .kind)) || all (subnetRefers marks) (recordsIn subnetFormat (body block))

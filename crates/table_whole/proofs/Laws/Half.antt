@@ -1,38 +1,40 @@
 -- Laws of the two halves: from what is found at offsets and among marks to what is said of the table.
 use mathlib.Core.Path.{_≡_, refl, sym, ap, ap₂, _∙_, fun-ext}
 use mathlib.Core.Bool.{Bool, true, false, not, _&&_, _||_, and-false, and-comm}
-use mathlib.Core.List.{List, map}
+use mathlib.Core.List.{List, map, flatMap}
 use mathlib.Core.Option.{Option, none, some}
-use Prim.Native.Nat.{ℕ, _≤_, _<_}
+use Prim.Native.Nat.{ℕ, _+_, _*_, _≤_, _<_}
 use native.Mathlib.Omega.{arith}
-use lib.Dec.{leb}
+use lib.Dec.{eqb, leb}
 use lib.ListN.{length, take, length-map}
 use lib.Seq.{length-take-le}
 use borrow.Author.Tests.{le-leb, lt-leb}
-use Rattle.octets.specs.Lists.{all, any, unique, holds}
-use Rattle.octets.proofs.Laws.Lists.{all-map, any-map, unique-map, all-both, unique-either}
-use Rattle.octets.specs.Text.{same, within}
+use Rattle.octets.specs.Lists.{all, any, keep, unique, holds, noneOr}
+use Rattle.octets.proofs.Laws.Lists.{all-map, any-map, unique-map, all-both, unique-either, all-keep, all-flat}
+use Rattle.octets.specs.Number.{u16At}
+use Rattle.octets.proofs.Laws.Number.{u16-anywhere}
+use Rattle.octets.proofs.Laws.Text.{zero-octet}
+use Rattle.octets.specs.Text.{same, within, allZero}
 use Rattle.table.specs.declared.ContextNumber.{ContextNumber}
 use Rattle.table.specs.declared.SiteNumber.{SiteNumber}
 use Rattle.table.specs.declared.record.RecordKind.{RecordKind}
 use Rattle.table.specs.declared.record.RecordKind.the-variants as kind
 use Rattle.table.specs.Account.{accountOf}
-use Rattle.table.specs.Block.{blocksOf}
+use Rattle.table.specs.Block.{blocksOf, kindIn, body}
 use Rattle.table.specs.Context.{contextOf}
 use Rattle.table.specs.Countings.{sameContext, sameSite}
+use Rattle.table.specs.Format.{recordsIn}
 use Rattle.table.specs.SameName.{sameSid, sameDnsName}
 use Rattle.table.specs.Site.{siteOf}
-use Rattle.table.specs.Subnet.{subnetOf}
-use Rattle.table.specs.Table.{Table, recordsOf, tableOf, tableFrom}
+use Rattle.table.specs.Subnet.{subnetFormat, subnetOf}
+use Rattle.table.specs.Table.{Table, isUsed, bodies, recordsOf, tableOf, tableFrom}
 use Rattle.table.specs.Internal.RecordAt.{recordAt}
 use Rattle.table_records.specs.declared.alike.Likeness.the-variants.{Contexts, Accounts}
 use Rattle.table_records.specs.Internal.Alike.{alikeAt, contextsAlike}
 use Rattle.table_whole.specs.Whole.{contextsUnique, accountsUnique, sitesUnique, hasContext, hasSite, refersRightly, goodWhole}
-use Rattle.octets.specs.Lists.{noneOr}
-use Rattle.table_refer.specs.declared.refer.Referrer.the-variants.{Site, Subnet}
 use Rattle.table_whole.specs.Internal.Half.{AllOf, SiteMarks, goodAccounts, goodContexts, contextHalf, goodNext, goodSubnets, goodReferences, goodSites, siteHalf}
 use Rattle.table_refer.specs.Internal.Mark.{Marked, sameSiteAt}
-use Rattle.table_refer.specs.Internal.Refer.{hasNumber, inContexts, isMarkedOrNone, isOtherOrNone, refersAt}
+use Rattle.table_refer.specs.Internal.Refer.{hasNumber, inContexts, isMarkedOrNone, isOtherOrNone, siteRefersAt, subnetRefers, subnetsRefer}
 
 -- tests of what is made from the records of a kind, over their offsets
 module _ {A : Type 0} (f : List ℕ → A) (kind : RecordKind) (image offsets : List ℕ) (e : AllOf kind image offsets) where
@@ -101,12 +103,32 @@ other-or-none : (own : SiteNumber) (o : Option SiteNumber) → isOtherOrNone own
 other-or-none own none = refl
 other-or-none own (some n) = refl
 
-pub subnets-refer : (marks image subnets : List ℕ) → AllOf kind.Subnet image subnets → SiteMarks marks (tableFrom image)
-    → all (refersAt Subnet marks image) subnets ≡ goodSubnets (tableFrom image)
-unfolding tableOf goodSubnets
-subnets-refer marks image subnets e m =
-    ap (λ (p : ℕ → Bool). all p subnets) (fun-ext (λ q. none-or-marked marks (tableFrom image) m (subnetOf (recordAt image kind.Subnet q) .site)))
-    ∙ all-at subnetOf kind.Subnet image subnets e (λ n. noneOr (hasSite (tableFrom image)) (n .site))
+-- an unused record refers to no site, and so refers rightly
+unused-refers : (marks r : List ℕ) → (not (isUsed r) || subnetRefers marks r) ≡ subnetRefers marks r
+unfolding subnetOf
+unused-refers marks r = go (allZero r) refl
+  where
+    go : (b : Bool) → allZero r ≡ b → (not (not b) || subnetRefers marks r) ≡ subnetRefers marks r
+    go true e =
+        let z : u16At r 6 ≡ 0 = u16-anywhere r 6 ∙ ap₂ (λ (x y : ℕ). x + 256 * y) (zero-octet r 6 e) (zero-octet r 7 e) in
+        rw z
+    go false e = refl
+
+-- subnets, block by block
+pub subnets-refer : (marks image : List ℕ) → SiteMarks marks (tableFrom image) → all (subnetsRefer marks) (blocksOf image) ≡ goodSubnets (tableFrom image)
+unfolding tableOf recordsOf bodies goodSubnets
+subnets-refer marks image m =
+    let t = tableFrom image in
+    let p = subnetRefers marks in
+    let ofKind : List ℕ → Bool = λ block. eqb (kindIn block) (subnetFormat .kind) in
+    let records : List (List ℕ) = flatMap (recordsIn subnetFormat) (bodies (subnetFormat .kind) (blocksOf image)) in
+    sym (all-map subnetOf (λ n. noneOr (hasSite t) (n .site)) (keep isUsed records)
+    ∙ ap (λ (q : List ℕ → Bool). all q (keep isUsed records)) (fun-ext (λ r. sym (none-or-marked marks t m (subnetOf r .site))))
+    ∙ all-keep p isUsed records
+    ∙ ap (λ (q : List ℕ → Bool). all q records) (fun-ext (unused-refers marks))
+    ∙ all-flat p (recordsIn subnetFormat) (bodies (subnetFormat .kind) (blocksOf image))
+    ∙ all-map body (λ b. all p (recordsIn subnetFormat b)) (keep ofKind (blocksOf image))
+    ∙ all-keep (λ block. all p (recordsIn subnetFormat (body block))) ofKind (blocksOf image))
 
 -- sites
 module _ (image sites : List ℕ) (e : AllOf kind.Site image sites) where
@@ -114,7 +136,7 @@ module _ (image sites : List ℕ) (e : AllOf kind.Site image sites) where
   unfolding tableOf hasSite
   site-marks marks size seen = record { size = size; say = λ n. seen n ∙ any-at siteOf kind.Site image sites e (λ s. sameSite (s .number) n) }
 
-  pub sites-refer : (marks : List ℕ) → SiteMarks marks (tableFrom image) → all (refersAt Site marks image) sites ≡ goodNext (tableFrom image)
+  pub sites-refer : (marks : List ℕ) → SiteMarks marks (tableFrom image) → all (siteRefersAt marks image) sites ≡ goodNext (tableFrom image)
   unfolding tableOf goodNext
   sites-refer marks m =
       let t = tableFrom image in

@@ -7,8 +7,9 @@ use native.Mathlib.Omega.{arith}
 use lib.Dec.{eqb, leb, ltb}
 use lib.ListN.{length}
 use borrow.Author.Tests.{eqb-true, not-true, not-false, leb-true, le-leb, lt-leb}
+use Rattle.answers.specs.declared.Refusal.{Refusal}
 use Rattle.answers.specs.declared.Refusal.the-variants.{ImageLength, BlockCheck, BlockLayout, TableWhole}
-use Rattle.answers.specs.Try.{good}
+use Rattle.answers.specs.Try.{Try, refused, good}
 use Rattle.answers.proofs.Laws.Try.{refusedIf-good}
 use Rattle.octets.specs.Lists.{all, any, keep, holds, pieces}
 use Rattle.octets.proofs.Laws.Lists.{Every, every-all, every-map, every-flat, every-keep, both-left, both-right, other-right, cut-length, pieces-wide}
@@ -345,3 +346,16 @@ module _ (image : List ℕ) where
         pub passed : goodWhole (tableFrom image) ≡ true → Passed ≡ judgedAs (tableIn image)
         unfolding tableIn
         passed e = rw (l, c, y, e)
+
+-- ---- what a judgement says of the image
+
+pub passed-accepted : (image : List ℕ) → Passed ≡ judgedAs (tableIn image) → Accepted image
+passed-accepted image e = go (tableIn image) refl e
+  where
+    go : (t : Try Table) → tableIn image ≡ t → Passed ≡ judgedAs t → Accepted image
+    go (refused x) q k = let z : _≡_ {A = ℕ} 0 1 = cc in absurd (omega arith)
+    go (good t) q k = accepted image t q
+
+pub judged-refused : (t : Try Table) (x : Refusal) → Refused x ≡ judgedAs t → t ≡ refused x
+judged-refused (refused y) x e = let z : x ≡ y = cc in ap refused (sym z)
+judged-refused (good t) x e = let z : _≡_ {A = ℕ} 0 1 = cc in absurd (omega arith)

@@ -107,6 +107,25 @@ decode-ok : (decoder : Decoder) → DecoderOk decoder → (x : ℕ) → 1 ≤ x 
 decode-ok between s x n = lead-ok x n
 decode-ok (partway i) s x n = follow-ok i s x
 
+-- whatever octets there are, zero too: what one leads to stays below 110000h
+abbrev pub Below : Decoded → Type 0
+Below bad = Unit {0}
+Below (point c) = c < 0x110000
+Below (more i) = Sound (i .left) (i .low) (i .high) (i .bits)
+
+below-ok : (o : ℕ) (d : Decoded) → DecodedOk o d → Below d
+below-ok o bad ok = tt
+below-ok o (point c) ok = ok .0 .below
+below-ok o (more i) ok = ok
+
+pub lead-below : (x : ℕ) → Below (lead x)
+unfolding lead
+lead-below zero = omega arith
+lead-below (suc x) = below-ok 0 (lead (suc x)) (lead-ok (suc x) (omega arith))
+
+pub follow-below : (i : Partial) (x : ℕ) → Below (more i) → Below (follow i x)
+follow-below i x b = below-ok 1 (follow i x) (follow-ok i b x)
+
 -- what a text's code points are, from a decoder on
 abbrev Sayable : ℕ → List ℕ → Type 0
 Sayable n cs = Every Scalar cs × (unitsOf cs ≤ n)

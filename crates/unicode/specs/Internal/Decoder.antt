@@ -3,10 +3,6 @@ use Prim.Native.Nat.{ℕ, _-_, _*_, _^_, _≤_, _<_}
 use Rattle.unicode.specs.Utf8 as utf8
 use Rattle.unicode.specs.declared.utf8.Partial.{Partial}
 use Rattle.unicode.specs.declared.utf8.Decoded.{Decoded}
-use Rattle.unicode.specs.declared.utf8.NextDecoder.{NextDecoder}
-use Rattle.unicode.specs.declared.utf8.NextDecoder.the-variants as next
-use Rattle.unicode.specs.declared.utf8.Decoder.{Decoder}
-use Rattle.unicode.specs.declared.utf8.Decoder.the-variants.{Between, Partway}
 use Rattle.unicode.specs.declared.utf8.Decoded.the-variants.{Bad, Point, More}
 
 abbrev pub partialAs : utf8.Partial → Partial
@@ -32,21 +28,3 @@ abbrev pub Sound : Decoded → Type 0
 Sound Bad = Unit {0}
 Sound (Point c) = c < 2 ^ 21
 Sound (More i) = InBounds i
-
-abbrev pub decoderIn : Decoder → utf8.Decoder
-decoderIn Between = utf8.between
-decoderIn (Partway i) = utf8.partway (partialIn i)
-
--- the decoder after an octet
-abbrev pub after : Decoded → NextDecoder
-after Bad = next.Bad
-after (Point c) = next.Decoder Between
-after (More i) = next.Decoder (Partway i)
-
-abbrev pub SoundDecoder : Decoder → Type 0
-SoundDecoder Between = Unit {0}
-SoundDecoder (Partway i) = InBounds i
-
-abbrev pub SoundNext : NextDecoder → Type 0
-SoundNext next.Bad = Unit {0}
-SoundNext (next.Decoder s) = SoundDecoder s

@@ -1,11 +1,6 @@
-use mathlib.Core.Path.{_≡_, sym, ap, _∙_}
-use native.Mathlib.Omega.{arith}
-use borrow.Author.Tests.{not-false, eqb-true}
+use mathlib.Core.Path.{sym, ap, _∙_}
+use borrow.Author.Tests.{not-false}
 use borrow.Author.Needs.{needs}
-use lib.ListN.{length, take}
-use lib.Seq.{take-all}
-use Rattle.octets.specs.Lists.{cut}
-use Rattle.octets.specs.Number.{little}
 use Rattle.filter_read.specs.declared.value.Judged.the-variants.{Version}
 use Rattle.filter_read.specs.Value.{wrongValue, versionAsked, pingIn}
 use Rattle.filter_read.proofs.value.judge_values.Statement.{statement}
@@ -55,28 +50,19 @@ returns-4 c =
     let g = sym (c .before .before .before .is-wrong-user .ensures) ∙ c .before .before .if3 .left in
     rw (pingIn, wrongValue, e, f, g, c .enum-told .given .1)
 
-part-requires : tie.Need-part-requires
-part-requires c κs = search needs
-
--- NtVer is four octets
-four : (c : tie.After-part) → length (c .part .result .now) ≡ 4
-four c =
-    let e = sym (c .before .before .before .before .before .before .before .before .before .is-wrong-number .ensures) ∙ c .before .before .before .before .before .before .before .before .if1 .left in
-    let f = rw (c .before .before .nt-ver .given .1) at e in
-    ap length (c .part .ensures) ∙ eqb-true (length (cut (c .before .before .before .before .before .before .before .before .before .before .before .args .s .now) (c .before .before .nt-ver .given .0 .0) (c .before .before .nt-ver .given .0 .1 .0))) 4 (not-false _ f)
-
-u32-at-requires : tie.Need-u32-at-requires
-u32-at-requires c κs = omega (arith, four c)
+clause-number-requires : tie.Need-clause-number-requires
+clause-number-requires c κs =
+    let e = sym (c .before .before .before .before .before .before .before .before .is-wrong-number .ensures) ∙ c .before .before .before .before .before .before .before .if1 .left in
+    let f = rw (c .before .nt-ver .given .1) at e in
+    not-false _ f
 
 returns-5 : tie.Need-returns-5
 unfolding pingIn wrongValue versionAsked
 returns-5 c =
-    let e = sym (c .before .before .before .before .before .before .before .before .before .before .is-wrong-number .ensures) ∙ c .before .before .before .before .before .before .before .before .before .if1 .left in
-    let f = sym (c .before .before .before .before .before .before .before .before .is-wrong-number2 .ensures) ∙ c .before .before .before .before .before .before .before .if2 .left in
-    let g = sym (c .before .before .before .before .before .before .is-wrong-user .ensures) ∙ c .before .before .before .before .before .if3 .left in
-    let x = c .before .part .result .now in
-    let w : take 4 x ≡ x = take-all 4 x (omega (arith, four (c .before))) in
-    rw (pingIn, wrongValue, e, f, g, c .before .before .before .nt-ver .given .1) (ap Version (c .u32-at .ensures ∙ ap little (w ∙ c .before .part .ensures)))
+    let e = sym (c .before .before .before .before .before .before .before .before .before .is-wrong-number .ensures) ∙ c .before .before .before .before .before .before .before .before .if1 .left in
+    let f = sym (c .before .before .before .before .before .before .before .is-wrong-number2 .ensures) ∙ c .before .before .before .before .before .before .if2 .left in
+    let g = sym (c .before .before .before .before .before .is-wrong-user .ensures) ∙ c .before .before .before .before .if3 .left in
+    rw (pingIn, wrongValue, e, f, g, c .before .before .nt-ver .given .1) (ap Version (c .clause-number .ensures))
 
 pub judge-values-spec : {M : Type 1} → statement M
 judge-values-spec =
@@ -91,6 +77,5 @@ judge-values-spec =
     enum-known-nt-ver
     enum-told
     returns-4
-    part-requires
-    u32-at-requires
+    clause-number-requires
     returns-5)

@@ -1,28 +1,15 @@
-use mathlib.Core.Path.{_≡_, refl, sym, ap, _∙_}
+use mathlib.Core.Path.{_≡_, sym, ap, _∙_}
 use mathlib.Core.List.{List, [], _∷_}
-use Prim.Native.Nat.{ℕ, _/_, _%_, _<_}
+use Prim.Native.Nat.{ℕ, _/_, _%_}
 use native.Mathlib.Omega.{arith}
 use borrow.Author.Needs.{needs}
-use lib.ListN.{length, set, length-set}
+use lib.ListN.{length-set}
 use Rattle.octets.specs.Buffer.{over}
-use Rattle.octets.proofs.Laws.Buffer.{over-none, over-more}
+use Rattle.octets.proofs.Laws.Buffer.{stored-two, stored-three, stored-four}
 use Rattle.filter_write.proofs.Laws.Write.{octets-one, octets-two, octets-three}
 use Rattle.filter_write.proofs.Laws.Size.{head-two, head-three, head-four, head-bounds}
 use Rattle.filter_write.proofs.put.put_head.Statement.{statement}
 use Rattle.filter_write.proofs.put.put_head.Tie as tie
-
--- octets stored one after the other, from the front
-one : (d : List ℕ) (a : ℕ) → 0 < length d → set d 0 a ≡ over (a ∷ []) d
-one d a h = ap (λ (l : List ℕ). set l 0 a) (sym (over-none d)) ∙ over-more [] d 0 a refl h
-
-two : (d : List ℕ) (a b : ℕ) → 1 < length d → set (set d 0 a) 1 b ≡ over (a ∷ b ∷ []) d
-two d a b h = ap (λ (l : List ℕ). set l 1 b) (one d a (omega arith)) ∙ over-more (a ∷ []) d 1 b refl h
-
-three : (d : List ℕ) (a b c : ℕ) → 2 < length d → set (set (set d 0 a) 1 b) 2 c ≡ over (a ∷ b ∷ c ∷ []) d
-three d a b c h = ap (λ (l : List ℕ). set l 2 c) (two d a b (omega arith)) ∙ over-more (a ∷ b ∷ []) d 2 c refl h
-
-four : (d : List ℕ) (a b c e : ℕ) → 3 < length d → set (set (set (set d 0 a) 1 b) 2 c) 3 e ≡ over (a ∷ b ∷ c ∷ e ∷ []) d
-four d a b c e h = ap (λ (l : List ℕ). set l 3 e) (three d a b c (omega arith)) ∙ over-more (a ∷ b ∷ c ∷ []) d 3 e refl h
 
 slice-write-out : tie.Need-slice-write-out
 slice-write-out c = omega (arith, head-bounds (c .args .n))
@@ -40,7 +27,7 @@ returns : tie.Need-returns
 returns c =
     let p = c .before .args in
     let h = head-two (p .n) (omega arith) in
-    (sym h, two (p .out .now) (p .tag) (p .n) (omega arith) ∙ ap (λ (l : List ℕ). over (p .tag ∷ l) (p .out .now)) (sym (octets-one (p .n) (omega arith))))
+    (sym h, stored-two (p .out .now) (p .tag) (p .n) (omega arith) ∙ ap (λ (l : List ℕ). over (p .tag ∷ l) (p .out .now)) (sym (octets-one (p .n) (omega arith))))
 
 slice-write-out-3 : tie.Need-slice-write-out-3
 slice-write-out-3 c = simp length-set (omega (arith, head-bounds (c .before .before .args .n)))
@@ -60,7 +47,7 @@ returns-2 : tie.Need-returns-2
 returns-2 c =
     let p = c .before .before .args in
     let h = head-three (p .n) (omega arith) (omega arith) in
-    (sym h, three (p .out .now) (p .tag) 0x81 (p .n) (omega arith) ∙ ap (λ (l : List ℕ). over (p .tag ∷ l) (p .out .now)) (sym (octets-two (p .n) (omega arith) (omega arith))))
+    (sym h, stored-three (p .out .now) (p .tag) 0x81 (p .n) (omega arith) ∙ ap (λ (l : List ℕ). over (p .tag ∷ l) (p .out .now)) (sym (octets-two (p .n) (omega arith) (omega arith))))
 
 slice-write-out-5 : tie.Need-slice-write-out-5
 slice-write-out-5 c = simp length-set (omega (arith, head-bounds (c .before .before .args .n)))
@@ -90,7 +77,7 @@ returns-3 c =
     let h = head-four (p .n) (omega arith) in
     let m : p .n / 256 ≡ p .n / 256 % 256 = omega arith in (
       sym h,
-      four (p .out .now) (p .tag) 0x82 (p .n / 256) (p .n % 256) (omega arith)
+      stored-four (p .out .now) (p .tag) 0x82 (p .n / 256) (p .n % 256) (omega arith)
           ∙ ap (λ (x : ℕ). over (p .tag ∷ 0x82 ∷ x ∷ (p .n % 256) ∷ []) (p .out .now)) m
           ∙ ap (λ (l : List ℕ). over (p .tag ∷ l) (p .out .now)) (sym (octets-three (p .n) (omega arith))),
     )

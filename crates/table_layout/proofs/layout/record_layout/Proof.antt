@@ -1,3 +1,4 @@
+use mathlib.Core.Path.{sym, _∙_}
 use borrow.Author.Needs.{needs}
 use Rattle.table_layout.proofs.layout.record_layout.Statement.{statement}
 use Rattle.table_layout.proofs.layout.record_layout.Tie as tie
@@ -39,13 +40,22 @@ returns : tie.Need-returns
 returns c = rw (c .before .enum-told .given .1) (c .context-layout .ensures)
 
 returns-2 : tie.Need-returns-2
-returns-2 c = rw (c .before .before .enum-told2 .given .1, c .before .all-zero .ensures, c .account-layout .ensures)
+returns-2 c = rw (c .before .before .enum-told2 .given .1, sym (c .before .all-zero .ensures) ∙ c .if1 .taken) (c .if1 .taken)
 
 returns-3 : tie.Need-returns-3
-returns-3 c = rw (c .before .before .enum-told3 .given .1, c .before .all-zero2 .ensures, c .site-layout .ensures)
+returns-3 c = rw (c .before .before .before .enum-told2 .given .1, sym (c .before .before .all-zero .ensures) ∙ c .before .if1 .left) (c .account-layout .ensures)
 
 returns-4 : tie.Need-returns-4
-returns-4 c = rw (c .before .before .enum-told4 .given .1, c .before .all-zero3 .ensures, c .subnet-layout .ensures)
+returns-4 c = rw (c .before .before .enum-told3 .given .1, sym (c .before .all-zero2 .ensures) ∙ c .if2 .taken) (c .if2 .taken)
+
+returns-5 : tie.Need-returns-5
+returns-5 c = rw (c .before .before .before .enum-told3 .given .1, sym (c .before .before .all-zero2 .ensures) ∙ c .before .if2 .left) (c .site-layout .ensures)
+
+returns-6 : tie.Need-returns-6
+returns-6 c = rw (c .before .before .enum-told4 .given .1, sym (c .before .all-zero3 .ensures) ∙ c .if3 .taken) (c .if3 .taken)
+
+returns-7 : tie.Need-returns-7
+returns-7 c = rw (c .before .before .before .enum-told4 .given .1, sym (c .before .before .all-zero3 .ensures) ∙ c .before .if3 .left) (c .subnet-layout .ensures)
 
 pub record-layout-spec : {M : Type 1} → statement M
 record-layout-spec =
@@ -65,4 +75,7 @@ record-layout-spec =
     returns
     returns-2
     returns-3
-    returns-4)
+    returns-4
+    returns-5
+    returns-6
+    returns-7)

@@ -7,10 +7,11 @@ use Rattle.vectors.proofs.input.answer_all.Statement.{statement}
 use Rattle.vectors.proofs.input.answer_all.Tie as tie
 
 abbrev Inv-loop : tie.InvT-loop
-Inv-loop line₀ space₀ chunk₀ n₀ turns₀ line space chunk n turns = (n ≤ length line) × (length line ≡ length line₀) × (length space ≡ length space₀) × (65536 ≡ length chunk)
+Inv-loop line₀ image₀ space₀ chunk₀ kept₀ turns₀ line image space chunk kept turns =
+    (kept .line ≤ length line) × (length line ≡ length line₀) × (length image ≡ length image₀) × (length space ≡ length space₀) × (65536 ≡ length chunk)
 
 abbrev μ-loop : tie.MeasureT-loop
-μ-loop line₀ space₀ chunk₀ n₀ turns₀ line space chunk n turns = turns
+μ-loop line₀ image₀ space₀ chunk₀ kept₀ turns₀ line image space chunk kept turns = turns
 
 loop-holds : tie.Need-loop-holds Inv-loop μ-loop
 loop-holds c = search needs
@@ -49,7 +50,7 @@ slice-reshare-prefix-answer-line : tie.Need-slice-reshare-prefix-answer-line Inv
 slice-reshare-prefix-answer-line c = search needs
 
 slice-aggregate-answer-line : tie.Need-slice-aggregate-answer-line Inv-loop μ-loop
-slice-aggregate-answer-line c = let l = c .before .before .loop in sym (length-take-le (l .n) (l .line) (l .inv .0))
+slice-aggregate-answer-line c = let l = c .before .before .loop in sym (length-take-le (l .kept .line) (l .line) (l .inv .0))
 
 answer-line-requires : tie.Need-answer-line-requires Inv-loop μ-loop
 answer-line-requires c κs = search needs
@@ -59,6 +60,9 @@ same-length c = search needs
 
 same-length-2 : tie.Need-same-length-2 Inv-loop μ-loop
 same-length-2 c = search needs
+
+same-length-3 : tie.Need-same-length-3 Inv-loop μ-loop
+same-length-3 c = search needs
 
 returns : tie.Need-returns Inv-loop μ-loop
 returns c = search needs
@@ -85,4 +89,5 @@ answer-all-spec =
     answer-line-requires
     same-length
     same-length-2
+    same-length-3
     returns)

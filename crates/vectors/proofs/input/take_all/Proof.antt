@@ -1,18 +1,19 @@
 use lib.ListN.{length}
-use mathlib.Core.Path.{_≡_, refl}
+use mathlib.Core.Path.{_≡_}
 use Prim.Native.Nat.{_-_, _≤_}
 use borrow.Author.Needs.{needs}
 use Rattle.vectors.proofs.input.take_all.Statement.{statement}
 use Rattle.vectors.proofs.input.take_all.Tie as tie
 
 abbrev Inv-loop : tie.InvT-loop
-Inv-loop octets line₀ len space₀ n₀ i₀ line space n i = (n ≤ length line) × (length line ≡ length line₀) × (length space ≡ length space₀)
+Inv-loop octets line₀ image₀ space₀ latest₀ i₀ line image space latest i =
+    (latest .line ≤ length line) × (length line ≡ length line₀) × (length image ≡ length image₀) × (length space ≡ length space₀)
 
 abbrev μ-loop : tie.MeasureT-loop
-μ-loop octets line₀ len space₀ n₀ i₀ line space n i = length octets - i
+μ-loop octets line₀ image₀ space₀ latest₀ i₀ line image space latest i = length octets - i
 
 loop-holds : tie.Need-loop-holds Inv-loop μ-loop
-loop-holds c = (c .before .before .before .pre, refl, refl)
+loop-holds c = search needs
 
 shared-slice-read-take-octet : tie.Need-shared-slice-read-take-octet Inv-loop μ-loop
 shared-slice-read-take-octet c = search needs
@@ -35,6 +36,9 @@ same-length c = search needs
 same-length-2 : tie.Need-same-length-2 Inv-loop μ-loop
 same-length-2 c = search needs
 
+same-length-3 : tie.Need-same-length-3 Inv-loop μ-loop
+same-length-3 c = search needs
+
 returns : tie.Need-returns Inv-loop μ-loop
 returns c = search needs
 
@@ -52,4 +56,5 @@ take-all-spec =
     loop-again
     same-length
     same-length-2
+    same-length-3
     returns)

@@ -8,7 +8,8 @@ slice-reshare-prefix-answer-line : tie.Need-slice-reshare-prefix-answer-line
 slice-reshare-prefix-answer-line c = search needs
 
 slice-aggregate-answer-line : tie.Need-slice-aggregate-answer-line
-slice-aggregate-answer-line c = let s = c .before .before .before .before in sym (length-take-le (s .args .len) (s .args .line .now) (s .pre))
+slice-aggregate-answer-line c =
+    let s = c .before .before .before .before .before in sym (length-take-le (s .args .kept .line) (s .args .line .now) (s .pre))
 
 answer-line-requires : tie.Need-answer-line-requires
 answer-line-requires c κs = search needs
@@ -19,17 +20,20 @@ same-length c = search needs
 same-length-2 : tie.Need-same-length-2
 same-length-2 c = search needs
 
+same-length-3 : tie.Need-same-length-3
+same-length-3 c = search needs
+
 returns : tie.Need-returns
 returns c = search needs
 
 slice-write-line : tie.Need-slice-write-line
 slice-write-line c = search needs
 
-add-result : tie.Need-add-result
-add-result c = search needs
+add-longer : tie.Need-add-longer
+add-longer c = search needs
 
-same-length-3 : tie.Need-same-length-3
-same-length-3 c = search needs
+same-length-4 : tie.Need-same-length-4
+same-length-4 c = search needs
 
 returns-2 : tie.Need-returns-2
 returns-2 c = search needs
@@ -46,9 +50,10 @@ take-octet-spec =
     answer-line-requires
     same-length
     same-length-2
+    same-length-3
     returns
     slice-write-line
-    add-result
-    same-length-3
+    add-longer
+    same-length-4
     returns-2
     returns-3)

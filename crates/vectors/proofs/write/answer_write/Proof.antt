@@ -1,23 +1,14 @@
+use Rattle.vectors.specs.Internal.Bounds.{Lendable}
 use lib.Seq.{length-take-le}
-use lib.ListN.{length}
 use native.Mathlib.Omega.{arith}
 use Prim.Native.Nat.{_≤_}
-use mathlib.Core.Path.{sym}
+use mathlib.Core.Path.{subst, sym}
 use borrow.Author.Needs.{needs}
 use Rattle.vectors.proofs.write.answer_write.Statement.{statement}
 use Rattle.vectors.proofs.write.answer_write.Tie as tie
 
-word-requires : tie.Need-word-requires
-word-requires c κs = search needs
-
-decimal-of-requires : tie.Need-decimal-of-requires
-decimal-of-requires c κs = search needs
-
-enum-known-room : tie.Need-enum-known-room
-enum-known-room c = search needs
-
-enum-told : tie.Need-enum-told
-enum-told c = search needs
+has-clauses-requires : tie.Need-has-clauses-requires
+has-clauses-requires c κs = search needs
 
 say-unknown-requires : tie.Need-say-unknown-requires
 say-unknown-requires c κs = search needs
@@ -25,20 +16,23 @@ say-unknown-requires c κs = search needs
 returns : tie.Need-returns
 returns c = search needs
 
+word-requires : tie.Need-word-requires
+word-requires c κs = search needs
+
+room-of-requires : tie.Need-room-of-requires
+room-of-requires c κs = search needs
+
+enum-known-room : tie.Need-enum-known-room
+enum-known-room c = search needs
+
+enum-told : tie.Need-enum-told
+enum-told c = search needs
+
 say-unknown-requires-2 : tie.Need-say-unknown-requires-2
 say-unknown-requires-2 c κs = search needs
 
 returns-2 : tie.Need-returns-2
 returns-2 c = search needs
-
-has-clauses-requires : tie.Need-has-clauses-requires
-has-clauses-requires c κs = search needs
-
-say-unknown-requires-3 : tie.Need-say-unknown-requires-3
-say-unknown-requires-3 c κs = search needs
-
-returns-3 : tie.Need-returns-3
-returns-3 c = search needs
 
 copy-clauses-requires : tie.Need-copy-clauses-requires
 copy-clauses-requires c κs = search needs
@@ -47,14 +41,13 @@ filled-requires : tie.Need-filled-requires
 filled-requires c κs = search needs
 
 array-borrow-prefix-out : tie.Need-array-borrow-prefix-out
-array-borrow-prefix-out c = search needs
+array-borrow-prefix-out c =
+    let s = c .before .before .before .before .before .before .before in
+    let fits : s .room .given .0 .0 ≤ 4096 = subst Lendable (s .room .given .1) (s .before .before .room-of .ensures) in
+    omega (arith, fits, c .before .filled .ensures)
 
 slice-aggregate-write-into : tie.Need-slice-aggregate-write-into
-slice-aggregate-write-into c =
-    let room = c .before .before .before .before .before .before .before .before .before .before .before .room .given .0 .0 in
-    let out = c .before .before .filled in
-    let fits : room ≤ length (out .result) = omega (arith, out .ensures) in
-    sym (length-take-le room (out .result) fits)
+slice-aggregate-write-into c = sym (length-take-le _ _ (array-borrow-prefix-out (c .before)))
 
 write-into-requires : tie.Need-write-into-requires
 write-into-requires c κs = search needs
@@ -62,28 +55,26 @@ write-into-requires c κs = search needs
 same-length : tie.Need-same-length
 same-length c = search needs
 
-returns-4 : tie.Need-returns-4
-returns-4 c = search needs
+returns-3 : tie.Need-returns-3
+returns-3 c = search needs
 
 pub answer-write-spec : {M : Type 1} → statement M
 answer-write-spec =
     tie.close
     (tie.spec
-    word-requires
-    decimal-of-requires
-    enum-known-room
-    enum-told
+    has-clauses-requires
     say-unknown-requires
     returns
+    word-requires
+    room-of-requires
+    enum-known-room
+    enum-told
     say-unknown-requires-2
     returns-2
-    has-clauses-requires
-    say-unknown-requires-3
-    returns-3
     copy-clauses-requires
     filled-requires
     array-borrow-prefix-out
     slice-aggregate-write-into
     write-into-requires
     same-length
-    returns-4)
+    returns-3)

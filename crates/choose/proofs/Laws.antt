@@ -1,0 +1,3 @@
+pub mod ApplicationFlag
+pub mod Choose
+pub mod Flags

@@ -1,0 +1,4 @@
+pub mod Judge
+pub mod Choose
+pub mod ApplicationFlag
+pub mod Internal

@@ -1,0 +1,87 @@
+// The answer to a ping over an accepted image, 11 to 19, however the ping came in: document 01, "Answer numbers".
+ghost use mathlib.Core.Path.{_≡_};
+ghost use mathlib.Core.Bool.{false, not};
+ghost use Prim.Native.Nat.{_+_, _≤_};
+ghost use lib.ListN.{length};
+ghost use Rattle.octets.specs.Buffer.{over};
+ghost use Rattle.octets.specs.Lists.{holds, cut};
+ghost use Rattle.unicode.specs.UserName.{isUserName};
+ghost use Rattle.filter.specs.Request.{octetsOf};
+ghost use Rattle.filter_read.specs.Internal.RawPing.{pingAt};
+ghost use Rattle.table.specs.Context.{contextOf, contextFormat};
+ghost use Rattle.table.specs.Table.{tableFrom};
+ghost use Rattle.table_whole.specs.Judgement.{Accepted};
+ghost use Rattle.choose.specs.Choose.{namesApplication};
+ghost use Rattle.locator.specs.Answer.{replyTo, answerOver, answerAs, octetsWritten};
+use crate::Answer;
+use crate::user::is_wrong_user;
+use answers::Refusal;
+use choose::answer::form_of;
+use choose_context::context::ContextUsed;
+use choose_context::context::context_used;
+use choose_reply::chosen::reply_for;
+use filter_read::ping::RawPing;
+use octets::part::part;
+use reply_plan::plan::plan_reply;
+use reply_write::put::put_reply;
+use table::Caller;
+use table::context;
+use table::server::server_of;
+
+// 18 and 19, and the reply in the context used: its length is known before its first octet is written.
+fn reply_to<'a>(
+    image: &'a [u8],
+    caller: Caller,
+    source: &'a [u8],
+    ping: RawPing,
+    context: usize,
+    application: bool,
+    reply: &mut [u8],
+) -> Answer
+    requires { ⌜ Accepted (now image) × (context + contextFormat .width ≤ length (now image)) ⌝ }
+    requires { ⌜ application ≡ namesApplication (tableFrom (now image)) (pingAt (now source) ping) ⌝ }
+    requires { ⌜ holds (λ x. not (isUserName x)) (octetsOf (now source) (ping .user)) ≡ false ⌝ }
+    ensures { λ r. ⌜ r ≡ answerAs (replyTo (tableFrom (now (image .entry))) caller (pingAt (now (source .entry)) ping) (length (now (reply .entry))) (contextOf (cut (now (image .entry)) context (contextFormat .width)))) ⌝ }
+    ensures { λ _. ⌜ now (reply .exit) ≡ over (octetsWritten (replyTo (tableFrom (now (image .entry))) caller (pingAt (now (source .entry)) ping) (length (now (reply .entry))) (contextOf (cut (now (image .entry)) context (contextFormat .width))))) (now (reply .entry)) ⌝ }
+{
+    let version = ping.version;
+    let user = ping.user;
+    let form = form_of(server_of(image), version);
+    if is_wrong_user(form, source, user) {
+        return Answer::Refused(Refusal::UserLabelEmpty);
+    }
+    let raw = reply_for(image, caller, source, ping, context, application, form);
+    let plan = plan_reply(image, source, form, raw);
+    let length = plan.length;
+    if reply.len() < length {
+        return Answer::Refused(Refusal::NoRoom);
+    }
+    put_reply(reply, image, source, form, raw, plan);
+    Answer::Answered {
+        length,
+        context: context::number(part(image, context, context::FORMAT.width)),
+        form,
+    }
+}
+
+// The clauses of the ping are stretches of the source. The reply is written at the front of the part that is lent, and pointers count from there.
+pub fn answer_over<'a>(
+    image: &'a [u8],
+    caller: Caller,
+    source: &'a [u8],
+    ping: RawPing,
+    reply: &mut [u8],
+) -> Answer
+    requires { ⌜ Accepted (now image) ⌝ }
+    requires { ⌜ holds (λ x. not (isUserName x)) (octetsOf (now source) (ping .user)) ≡ false ⌝ }
+    ensures { λ r. ⌜ r ≡ answerAs (answerOver (tableFrom (now (image .entry))) caller (pingAt (now (source .entry)) ping) (length (now (reply .entry)))) ⌝ }
+    ensures { λ _. ⌜ now (reply .exit) ≡ over (octetsWritten (answerOver (tableFrom (now (image .entry))) caller (pingAt (now (source .entry)) ping) (length (now (reply .entry))))) (now (reply .entry)) ⌝ }
+{
+    match context_used(image, source, ping) {
+        ContextUsed::Used {
+            context,
+            application,
+        } => reply_to(image, caller, source, ping, context, application, reply),
+        ContextUsed::Refused(refusal) => Answer::Refused(refusal),
+    }
+}

@@ -1,0 +1,32 @@
+// The answer to a ping: document 01, "What the locator takes and gives".
+ghost use mathlib.Core.Path.{_≡_};
+ghost use lib.ListN.{length};
+ghost use Rattle.octets.specs.Buffer.{over};
+ghost use Rattle.locator.specs.Answer.{answerTo, answerAs, octetsWritten};
+use crate::Answer;
+use crate::over::answer_over;
+use filter_read::ping::PingRead;
+use filter_read::ping::read_ping;
+use table::Caller;
+use table_whole::judge::Judgement;
+use table_whole::judge::judge;
+
+// Answers a filter of any octets from a table image of any octets: the table is judged first, then the filter, then the ping over the table.
+// A refusal leaves the reply buffer as it was; an answer changes its first octets, as many as the reply has.
+pub fn answer_ping<'a>(
+    image: &'a [u8],
+    caller: Caller,
+    filter: &'a [u8],
+    reply: &mut [u8],
+) -> Answer
+    ensures { λ r. ⌜ r ≡ answerAs (answerTo (now (image .entry)) caller (now (filter .entry)) (length (now (reply .entry)))) ⌝ }
+    ensures { λ _. ⌜ now (reply .exit) ≡ over (octetsWritten (answerTo (now (image .entry)) caller (now (filter .entry)) (length (now (reply .entry))))) (now (reply .entry)) ⌝ }
+{
+    match judge(image) {
+        Judgement::Refused(refusal) => Answer::Refused(refusal),
+        Judgement::Passed => match read_ping(filter) {
+            PingRead::Refused(refusal) => Answer::Refused(refusal),
+            PingRead::Ping(ping) => answer_over(image, caller, filter, ping, reply),
+        },
+    }
+}

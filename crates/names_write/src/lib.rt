@@ -1,0 +1,2 @@
+// Compressed names, written as they are planned: document 01, "Reply octets".
+pub mod put;

@@ -1,0 +1,2 @@
+pub mod LastPlan
+pub mod Slots
