@@ -8,12 +8,8 @@ use Rattle.answers.specs.declared.Refusal.the-variants.{ReplyCut, ReplyText}
 use Rattle.answers.specs.Try.{Try, refused, good, _>>=_}
 use Rattle.octets.specs.Number.{little}
 use Rattle.unicode.specs.Utf16.{isHigh, isLow}
+use Rattle.reader.specs.declared.field.Stretch.{Stretch}
 use Rattle.reader.specs.Field.{Read, readOctets}
-
--- a stretch of the reply: where it starts, and how many octets it has
-pub record Stretch : Type 0 where
-  pub start : ℕ
-  pub len : ℕ
 
 -- a unit: the zero unit that ends a text, a unit of its own, the first or the second half of a pair
 pub data Unit16 : Type 0 where

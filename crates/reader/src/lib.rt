@@ -1,1 +1,2 @@
 // Reading a received reply: document 01, "Reading a reply".
+pub mod field;

@@ -15,7 +15,8 @@ use Rattle.unicode.specs.Utf16.{pointOctets, pointsOctets, isHigh, isLow}
 use Rattle.unicode.proofs.Laws.Utf16.{highUnit, lowUnit, one-unit, two-units}
 use Rattle.reader.specs.Field.{Read}
 use Rattle.reader.proofs.Laws.Field.{Left, octets-here, left-after, left-next, left-length}
-use Rattle.reader.specs.Text.{Stretch, ends, plain, high, low, unitOf, go, turn, readTextFrom, readText}
+use Rattle.reader.specs.declared.field.Stretch.{Stretch}
+use Rattle.reader.specs.Text.{ends, plain, high, low, unitOf, go, turn, readTextFrom, readText}
 
 -- ---- units
 
