@@ -1,2 +1,3 @@
 // Reading a received reply: document 01, "Reading a reply".
 pub mod field;
+pub mod text;

@@ -8,6 +8,7 @@ use Rattle.answers.specs.Try.{Try, refused, good}
 use Rattle.reader.specs.declared.field.Stretch.{Stretch}
 use Rattle.reader.specs.Reader as reader
 use Rattle.reader_names.specs.declared.NameAt.{NameAt}
+use Rattle.reader_names.specs.Name.{nameAs}
 use Rattle.reader_forms.specs.declared.reading.Nt40Fields.{Nt40Fields}
 use Rattle.reader_forms.specs.declared.reading.ResponseFields.{ResponseFields}
 use Rattle.reader_forms.specs.declared.reading.Address.{Address}
@@ -19,9 +20,6 @@ use Rattle.reader_forms.specs.declared.reading.Fields.{Fields}
 use Rattle.reader_forms.specs.declared.reading.Fields.the-variants as fields
 use Rattle.reader_forms.specs.declared.reading.Reading.{Reading}
 use Rattle.reader_forms.specs.declared.reading.Reading.the-variants as reading
-
-abbrev pub nameAs : reader.NameRead → NameAt
-nameAs n = record { start = n .start; len = length (n .text); pointers = n .pointers }
 
 -- what stands past the last name
 abbrev pub noName : reader.NameRead

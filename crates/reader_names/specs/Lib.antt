@@ -1,1 +1,3 @@
+pub mod Name
 pub mod Text
+pub mod Internal

@@ -1,6 +1,12 @@
 // Names of a received reply: document 01, "Reading a reply".
 use answers::Refusal;
 
+pub mod list;
+pub mod look;
+pub mod read;
+pub mod step;
+pub mod text;
+
 // How many octets a name's text can have: 255 written out, less its first length octet and the final zero.
 pub const TEXT_MOST: usize = 253;
 
@@ -17,7 +23,7 @@ pub enum TextLength {
     Refused(Refusal),
 }
 
-// A name's labels joined by dots, at the front of room for the longest; zeros after them. Their length may be 0, and a name that is refused has none.
+// A name's labels joined by dots, at the front of room for the longest; zeros after them. An empty name has length 0, a refused one none.
 pub struct NameText {
     pub len: TextLength,
     pub octets: [u8; TEXT_MOST],

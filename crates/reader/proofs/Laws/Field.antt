@@ -11,6 +11,10 @@ use Rattle.octets.proofs.Laws.Lists.{cut-after}
 use Rattle.octets.proofs.Laws.Text.{same-self}
 use Rattle.reader.specs.Field.{readOctets, readStretch, readFixed}
 
+-- what an enum says, once it is known which of its cases it is
+pub told : {A B : Type 0} (f : A → B) {x y : A} {t : B} → x ≡ y → f x ≡ t → t ≡ f y
+told f g e = sym e ∙ ap f g
+
 -- from `at` on, s holds these octets and no others
 pub record Left (s : List ℕ) (at : ℕ) (rest : List ℕ) : Type 0 where
   pub front : List ℕ

@@ -1,0 +1,5 @@
+pub mod Look
+pub mod Step
+pub mod NameRead
+pub mod Label
+pub mod NamesRead
