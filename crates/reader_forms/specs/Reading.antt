@@ -1,5 +1,5 @@
 -- Document 01, "Reading a reply": what the reader gives, as the call returns it. A name is its first offset, the length of its text and its pointer count.
-use mathlib.Core.List.{List, []}
+use mathlib.Core.List.{List, [], map}
 use mathlib.Core.Option.{Option, none, some}
 use Prim.Native.Nat.{ℕ}
 use lib.ListN.{length, getD}
@@ -27,7 +27,7 @@ noName = record { start = 0; text = []; pointers = 0 }
 
 -- the name at a place
 abbrev pub nameIn : List reader.NameRead → ℕ → NameAt
-nameIn names k = nameAs (getD names k noName)
+nameIn names k = getD (map nameAs names) k (nameAs noName)
 
 abbrev pub nt40As : reader.Nt40Fields → Nt40Fields
 nt40As f = record { opcode = f .opcode; server = f .server; user = f .user; domain = f .domain; version = f .version }

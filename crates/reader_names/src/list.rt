@@ -35,9 +35,10 @@ pub fn read_names(reply: &[u8], start: usize, count: usize) -> NamesRead
     let mut i = 0;
     while i < count {
         match read_name(reply, next) {
-            NameRead::Name { name, next: after } => {
+            NameRead::Name(field) => {
+                let name = field.name;
                 names[i] = name;
-                next = after;
+                next = field.next;
             }
             NameRead::Refused(refusal) => {
                 return NamesRead {

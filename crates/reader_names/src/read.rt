@@ -9,8 +9,13 @@ use crate::step::name_step;
 use crate::step::text_len;
 use answers::Refusal;
 
+pub struct NameField {
+    pub name: NameAt,
+    pub next: usize,
+}
+
 pub enum NameRead {
-    Name { name: NameAt, next: usize },
+    Name(NameField),
     Refused(Refusal),
 }
 
@@ -36,14 +41,14 @@ pub fn read_name(reply: &[u8], start: usize) -> NameRead
     loop {
         match name_step(reply, run, at, spent, pointers) {
             NameStep::Ends => {
-                return NameRead::Name {
+                return NameRead::Name(NameField {
                     name: NameAt {
                         start,
                         len: text_len(spent),
                         pointers,
                     },
                     next: field_end(pointers, next, at + 1),
-                };
+                });
             }
             NameStep::Label(len) => {
                 at = at + 1 + len;

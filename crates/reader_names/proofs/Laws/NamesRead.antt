@@ -70,7 +70,7 @@ module _ (s : List ℕ) (start count : ℕ) where
           left = sym (resumed-more (n .given) (joinedName next w) rest) ∙ ap (resumed (n .given)) (sym step) ∙ n .left;
         }
 
-    pub names-end : count ≤ i → (given : List NameRead) × (readNames count s start ≡ good (record { value = given; next = next })) × (take count names ≡ map nameAs given)
+    pub names-end : count ≤ i → (given : List NameRead) × (readNames count s start ≡ good (record { value = given; next = next })) × (take count names ≡ map nameAs given) × (length names ≡ 8)
     unfolding readNames
     names-end h =
         let e : i ≡ count = omega (arith, n .within) in
@@ -79,4 +79,5 @@ module _ (s : List ℕ) (start count : ℕ) where
           n .given,
           sym l ∙ ap (λ (x : List NameRead). good (record { value = x; next = next })) (append-nil (n .given)),
           ap (λ (k : ℕ). take k names) (sym e) ∙ n .stand,
+          n .room,
         )

@@ -11,5 +11,5 @@ use Rattle.reader_names.specs.declared.read.NameRead.the-variants.{Name,
 use Rattle.reader_names.specs.Name.{nameAs}
 
 abbrev pub NameOf : List ℕ → ℕ → NameRead → Type 0
-NameOf s at (Name name next) = (n : WalkedName) × (readName s at ≡ good (record { value = n; next = next })) × (name ≡ nameAs (joinedName at n))
+NameOf s at (Name f) = (n : WalkedName) × (readName s at ≡ good (record { value = n; next = f .next })) × (f .name ≡ nameAs (joinedName at n))
 NameOf s at (Refused r) = readName s at ≡ refused r

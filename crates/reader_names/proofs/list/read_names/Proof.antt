@@ -1,5 +1,5 @@
-use mathlib.Core.Path.{_≡_, refl, sym, ap, _∙_, subst}
-use Prim.Native.Nat.{ℕ, _-_}
+use mathlib.Core.Path.{refl, subst}
+use Prim.Native.Nat.{_-_}
 use native.Mathlib.Omega.{arith}
 use Rattle.reader_names.specs.Internal.NameRead.{NameOf}
 use Rattle.reader_names.proofs.Laws.NamesRead.{NamesLeft, names-start, names-refused, names-more, names-end}
@@ -19,8 +19,8 @@ loop-holds c = names-start (c .before .args .reply .now) (c .before .args .start
 read-name-requires : tie.Need-read-name-requires Inv-loop μ-loop
 read-name-requires c κs = search needs
 
-enum-known-name : tie.Need-enum-known-name Inv-loop μ-loop
-enum-known-name c = search needs
+enum-known-field : tie.Need-enum-known-field Inv-loop μ-loop
+enum-known-field c = search needs
 
 mul-names : tie.Need-mul-names Inv-loop μ-loop
 mul-names c = omega arith
@@ -45,10 +45,10 @@ loop-less c = omega arith
 
 loop-again : tie.Need-loop-again Inv-loop μ-loop
 loop-again c =
-    let a = c .before .before .before .before .before .before .before .args in
-    let v = c .before .name .given .0 in
-    let r = subst (NameOf (a .reply .now) (c .before .before .before .before .before .loop .next)) (c .before .name .given .1) (c .before .before .before .read-name .ensures) in
-    names-more (a .reply .now) (a .start) (a .count) (c .before .before .before .before .before .loop .inv) (c .before .before .before .before .before .before .before .pre) (c .before .before .before .before .loop-test .taken) (r .0) (v .0) (v .1 .0) (r .1) (r .2)
+    let a = c .before .before .before .before .before .before .before .before .args in
+    let f = c .before .before .field .given .0 .0 in
+    let r = subst (NameOf (a .reply .now) (c .before .before .before .before .before .before .loop .next)) (c .before .before .field .given .1) (c .before .before .before .before .read-name .ensures) in
+    names-more (a .reply .now) (a .start) (a .count) (c .before .before .before .before .before .before .loop .inv) (c .before .before .before .before .before .before .before .before .pre) (c .before .before .before .before .before .loop-test .taken) (r .0) (f .name) (f .next) (r .1) (r .2)
 
 returns-2 : tie.Need-returns-2 Inv-loop μ-loop
 returns-2 c =
@@ -63,7 +63,7 @@ read-names-spec =
     μ-loop
     loop-holds
     read-name-requires
-    enum-known-name
+    enum-known-field
     mul-names
     array-set-from-names
     enum-known-refusal
