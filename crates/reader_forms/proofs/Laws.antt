@@ -1,3 +1,4 @@
 pub mod Reading
 pub mod Response
 pub mod Ex
+pub mod Settled

@@ -237,7 +237,8 @@ pub fn read_ex(reply: &[u8], version: u32) -> Reading
         AddressRead::Address(field) => field,
         AddressRead::Refused(refusal) => return Reading::Refused(refusal),
     };
-    let last = match read_last(reply, has_next_site(reply), version, ipv4.next) {
+    let present = has_next_site(reply);
+    let last = match read_last(reply, present, version, ipv4.next) {
         LastRead::Last(last) => last,
         LastRead::Refused(refusal) => return Reading::Refused(refusal),
     };
