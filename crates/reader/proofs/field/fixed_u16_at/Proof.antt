@@ -2,27 +2,19 @@ use borrow.Author.Needs.{needs}
 use Rattle.octets.specs.Number.{littleOctets}
 use Rattle.reader.proofs.field.fixed_u16_at.Statement.{statement}
 use Rattle.reader.proofs.field.fixed_u16_at.Tie as tie
-use Rattle.reader.proofs.field.fixed_u16_at.Reads as reads
-use Rattle.reader.proofs.field.fixed_u16_at.Lts as lts
-use Rattle.reader.proofs.field.fixed_at.Reads as fixed-at-reads
 
--- src/field.rt:78:19
 cast-t6 : tie.Need-cast-t6
 cast-t6 c = search needs
 
--- src/field.rt:78:41
 cast-t9 : tie.Need-cast-t9
 cast-t9 c = search needs
 
--- src/field.rt:79:25
 slice-aggregate-fixed-at : tie.Need-slice-aggregate-fixed-at
 slice-aggregate-fixed-at c = search needs
 
--- src/field.rt:79:5
 fixed-at-requires : tie.Need-fixed-at-requires
 fixed-at-requires c κs = search needs
 
--- src/field.rt:74:1
 returns : tie.Need-returns
 unfolding littleOctets
 returns c = c .fixed-at .ensures

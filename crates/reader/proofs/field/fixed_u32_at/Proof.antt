@@ -2,35 +2,25 @@ use borrow.Author.Needs.{needs}
 use Rattle.octets.specs.Number.{littleOctets}
 use Rattle.reader.proofs.field.fixed_u32_at.Statement.{statement}
 use Rattle.reader.proofs.field.fixed_u32_at.Tie as tie
-use Rattle.reader.proofs.field.fixed_u32_at.Reads as reads
-use Rattle.reader.proofs.field.fixed_u32_at.Lts as lts
-use Rattle.reader.proofs.field.fixed_at.Reads as fixed-at-reads
 
--- src/field.rt:88:9
 cast-t6 : tie.Need-cast-t6
 cast-t6 c = search needs
 
--- src/field.rt:89:9
 cast-t9 : tie.Need-cast-t9
 cast-t9 c = search needs
 
--- src/field.rt:90:9
 cast-t13 : tie.Need-cast-t13
 cast-t13 c = search needs
 
--- src/field.rt:91:9
 cast-t18 : tie.Need-cast-t18
 cast-t18 c = search needs
 
--- src/field.rt:93:25
 slice-aggregate-fixed-at : tie.Need-slice-aggregate-fixed-at
 slice-aggregate-fixed-at c = search needs
 
--- src/field.rt:93:5
 fixed-at-requires : tie.Need-fixed-at-requires
 fixed-at-requires c κs = search needs
 
--- src/field.rt:83:1
 returns : tie.Need-returns
 unfolding littleOctets
 returns c = c .fixed-at .ensures

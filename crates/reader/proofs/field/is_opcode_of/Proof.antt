@@ -1,44 +1,31 @@
 use borrow.Author.Needs.{needs}
 use Rattle.reader.proofs.field.is_opcode_of.Statement.{statement}
 use Rattle.reader.proofs.field.is_opcode_of.Tie as tie
-use Rattle.reader.proofs.field.is_opcode_of.Reads as reads
-use Rattle.reader.proofs.field.is_opcode_of.Lts as lts
-use Rattle.reader.proofs.field.is_ex_opcode.Reads as is-ex-opcode-reads
-use Rattle.reader.proofs.field.is_older_opcode.Reads as is-older-opcode-reads
 
--- src/field.rt:129:23
 enum-told : tie.Need-enum-told
 enum-told c = search needs
 
--- src/field.rt:129:23
 is-older-opcode-requires : tie.Need-is-older-opcode-requires
 is-older-opcode-requires c κs = search needs
 
--- src/field.rt:130:27
 enum-told-2 : tie.Need-enum-told-2
 enum-told-2 c = search needs
 
--- src/field.rt:130:27
 is-older-opcode-requires-2 : tie.Need-is-older-opcode-requires-2
 is-older-opcode-requires-2 c κs = search needs
 
--- src/field.rt:131:21
 enum-told-3 : tie.Need-enum-told-3
 enum-told-3 c = search needs
 
--- src/field.rt:131:21
 is-ex-opcode-requires : tie.Need-is-ex-opcode-requires
 is-ex-opcode-requires c κs = search needs
 
--- src/field.rt:125:1
 returns : tie.Need-returns
 returns c = cc
 
--- src/field.rt:125:1
 returns-2 : tie.Need-returns-2
 returns-2 c = cc
 
--- src/field.rt:125:1
 returns-3 : tie.Need-returns-3
 returns-3 c = cc
 

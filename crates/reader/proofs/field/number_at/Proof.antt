@@ -8,38 +8,28 @@ use Rattle.reader.specs.Internal.Field.{fieldIn, FieldWithin}
 use Rattle.reader.proofs.Laws.Field.{told}
 use Rattle.reader.proofs.field.number_at.Statement.{statement}
 use Rattle.reader.proofs.field.number_at.Tie as tie
-use Rattle.reader.proofs.field.number_at.Reads as reads
-use Rattle.reader.proofs.field.number_at.Lts as lts
-use Rattle.octets.proofs.number.u32_at.Reads as u32-at-reads
-use Rattle.reader.proofs.field.octets_at.Reads as octets-at-reads
 
--- src/field.rt:100:11
 octets-at-requires : tie.Need-octets-at-requires
 octets-at-requires c κs = search needs
 
--- src/field.rt:101:25
 enum-known-next : tie.Need-enum-known-next
 enum-known-next c = search needs
 
--- src/field.rt:102:20
 u32-at-requires : tie.Need-u32-at-requires
 u32-at-requires c κs =
     let a = c .before .before .before .before .before .args in
     let h = subst (FieldWithin (length (a .reply .now)) (a .at) 4) (c .before .next .given .1) (c .before .before .before .octets-at .ensures .1) in
     omega arith
 
--- src/field.rt:105:28
 enum-known-refusal : tie.Need-enum-known-refusal
 enum-known-refusal c = search needs
 
--- src/field.rt:97:1
 returns : tie.Need-returns
 unfolding readNumber
 returns c =
     let a = c .before .before .before .before .before .before .args in
     rw (told (fieldIn (cut (a .reply .now) (a .at) 4)) (c .before .before .next .given .1) (c .before .before .before .before .octets-at .ensures .0), ← c .u32-at .ensures)
 
--- src/field.rt:97:1
 returns-2 : tie.Need-returns-2
 unfolding readNumber
 returns-2 c =

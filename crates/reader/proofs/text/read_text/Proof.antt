@@ -7,9 +7,6 @@ use Rattle.reader.specs.Internal.Text.{StepWithin}
 use Rattle.reader.proofs.Laws.Text.{TextLeft, text-start, text-stop, text-refused, text-go}
 use Rattle.reader.proofs.text.read_text.Statement.{statement}
 use Rattle.reader.proofs.text.read_text.Tie as tie
-use Rattle.reader.proofs.text.read_text.Reads as reads
-use Rattle.reader.proofs.text.read_text.Lts as lts
-use Rattle.reader.proofs.text.unit_step.Reads as unit-step-reads
 
 abbrev Inv-loop : tie.InvT-loop
 Inv-loop reply start at₀ pending₀ at pending = TextLeft reply start at pending
@@ -17,39 +14,31 @@ Inv-loop reply start at₀ pending₀ at pending = TextLeft reply start at pendi
 abbrev μ-loop : tie.MeasureT-loop
 μ-loop reply start at₀ pending₀ at pending = length reply - at
 
--- src/text.rt:109:5
 loop-holds : tie.Need-loop-holds Inv-loop μ-loop
 loop-holds c = text-start (c .before .args .reply .now) (c .before .args .start)
 
--- src/text.rt:110:15
 unit-step-requires : tie.Need-unit-step-requires Inv-loop μ-loop
 unit-step-requires c κs = search needs
 
--- src/text.rt:111:28
 enum-known-next : tie.Need-enum-known-next Inv-loop μ-loop
 enum-known-next c = search needs
 
--- src/text.rt:115:30
 sub-t10 : tie.Need-sub-t10 Inv-loop μ-loop
 sub-t10 c = c .before .before .before .before .loop .inv .from
 
--- src/text.rt:112:17
 returns : tie.Need-returns Inv-loop μ-loop
 returns c =
     let a = c .before .before .before .before .before .before .args in
     sym (text-stop (a .reply .now) (a .start) (c .before .before .before .before .loop .inv) (c .before .next .given .0 .0) (sym (c .before .before .before .unit-step .ensures .0) ∙ c .before .next .given .1))
 
--- src/text.rt:120:28
 enum-known-after-high : tie.Need-enum-known-after-high Inv-loop μ-loop
 enum-known-after-high c = search needs
 
--- src/text.rt:109:5
 loop-less : tie.Need-loop-less Inv-loop μ-loop
 loop-less c =
     let h = subst (StepWithin (length (c .before .before .before .before .before .before .args .reply .now)) (c .before .before .before .before .loop .at)) (c .before .after-high .given .1) (c .before .before .before .unit-step .ensures .1) in
     omega arith
 
--- src/text.rt:109:5
 loop-again : tie.Need-loop-again Inv-loop μ-loop
 loop-again c =
     let a = c .before .before .before .before .before .before .args in
@@ -57,11 +46,9 @@ loop-again c =
     let h = subst (StepWithin (length (a .reply .now)) (c .before .before .before .before .loop .at)) (c .before .after-high .given .1) (c .before .before .before .unit-step .ensures .1) in
     text-go (a .reply .now) (a .start) (c .before .before .before .before .loop .inv) (v .0) (v .1 .0) (sym (c .before .before .before .unit-step .ensures .0) ∙ c .before .after-high .given .1) (h .0) (h .1)
 
--- src/text.rt:124:31
 enum-known-refusal : tie.Need-enum-known-refusal Inv-loop μ-loop
 enum-known-refusal c = search needs
 
--- src/text.rt:124:43
 returns-2 : tie.Need-returns-2 Inv-loop μ-loop
 returns-2 c =
     let a = c .before .before .before .before .before .before .args in

@@ -8,60 +8,43 @@ use Rattle.reader.specs.Internal.Text.{unitStep}
 use Rattle.reader.proofs.Laws.Field.{told}
 use Rattle.reader.proofs.text.unit_step.Statement.{statement}
 use Rattle.reader.proofs.text.unit_step.Tie as tie
-use Rattle.reader.proofs.text.unit_step.Reads as reads
-use Rattle.reader.proofs.text.unit_step.Lts as lts
-use Rattle.octets.proofs.number.u16_at.Reads as u16-at-reads
-use Rattle.reader.proofs.field.octets_at.Reads as octets-at-reads
-use Rattle.reader.proofs.text.turn_of.Reads as turn-of-reads
-use Rattle.reader.proofs.text.unit_of.Reads as unit-of-reads
 
--- src/text.rt:89:22
 octets-at-requires : tie.Need-octets-at-requires
 octets-at-requires c κs = search needs
 
--- src/text.rt:90:25
 enum-known-next : tie.Need-enum-known-next
 enum-known-next c = search needs
 
--- src/text.rt:91:28
 enum-known-refusal : tie.Need-enum-known-refusal
 enum-known-refusal c = search needs
 
--- src/text.rt:91:40
 returns : tie.Need-returns
 unfolding unitStep
 returns c =
     let a = c .before .before .before .before .before .args in
     (rw (told (fieldIn (cut (a .reply .now) (a .at) 2)) (c .before .refusal .given .1) (c .before .before .before .octets-at .ensures .0)), tt)
 
--- src/text.rt:93:39
 u16-at-requires : tie.Need-u16-at-requires
 u16-at-requires c κs =
     let a = c .before .before .before .before .before .args in
     let h = subst (FieldWithin (length (a .reply .now)) (a .at) 2) (c .before .next .given .1) (c .before .before .before .octets-at .ensures .1) in
     omega arith
 
--- src/text.rt:93:31
 unit-of-requires : tie.Need-unit-of-requires
 unit-of-requires c κs = search needs
 
--- src/text.rt:93:11
 turn-of-requires : tie.Need-turn-of-requires
 turn-of-requires c κs = search needs
 
--- src/text.rt:94:23
 enum-told : tie.Need-enum-told
 enum-told c = search needs
 
--- src/text.rt:95:18
 enum-known-high : tie.Need-enum-known-high
 enum-known-high c = search needs
 
--- src/text.rt:99:42
 enum-told-2 : tie.Need-enum-told-2
 enum-told-2 c = search needs
 
--- src/text.rt:85:1
 returns-2 : tie.Need-returns-2
 unfolding unitStep
 returns-2 c =
@@ -76,7 +59,6 @@ returns-2 c =
       subst (FieldWithin (length (a .reply .now)) (a .at) 2) (c .before .before .before .before .before .before .next .given .1) (c .before .before .before .before .before .before .before .before .octets-at .ensures .1),
     )
 
--- src/text.rt:85:1
 returns-3 : tie.Need-returns-3
 unfolding unitStep
 returns-3 c =
@@ -91,7 +73,6 @@ returns-3 c =
       subst (FieldWithin (length (a .reply .now)) (a .at) 2) (c .before .before .before .before .before .before .before .next .given .1) (c .before .before .before .before .before .before .before .before .before .octets-at .ensures .1),
     )
 
--- src/text.rt:85:1
 returns-4 : tie.Need-returns-4
 unfolding unitStep
 returns-4 c =
