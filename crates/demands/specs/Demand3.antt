@@ -14,6 +14,7 @@ use Rattle.names.specs.Name.{writeNames}
 use Rattle.names.specs.Walk.{WalkedName, walk}
 use Rattle.octets.specs.Label as label
 use Rattle.reader.specs.Reader.{NameRead, Fields, nt40, response, ex, readIn}
+use Rattle.reader_forms.specs.Reading.{noName}
 use Rattle.reply.specs.Reply.{Reply, responseHead, responseNames, exHead, exNames, addressIf}
 use Rattle.table.specs.declared.Caller.{Caller}
 use Rattle.table.specs.Table.{Table}
@@ -58,9 +59,6 @@ abbrev pub lastIn : Fields → Option NameRead
 lastIn (nt40 f) = none
 lastIn (response f) = none
 lastIn (ex f) = f .nextSite
-
-abbrev pub noName : NameRead
-noName = record { text = []; pointers = 0 }
 
 -- one name, at place k, with its first octet at `start` and its own octets `text`, and as the reader gave it back
 pub record NameWalked (s : List ℕ) (start k : ℕ) (text : List ℕ) (given : NameRead) : Type 0 where

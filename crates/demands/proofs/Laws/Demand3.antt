@@ -1,5 +1,5 @@
 -- Demand 3 is proved: each name was written after the names before it, and what is appended changes no walk.
-use mathlib.Core.Path.{_≡_, refl, sym, subst}
+use mathlib.Core.Path.{_≡_, refl, sym, ap, subst}
 use mathlib.Core.List.{List}
 use mathlib.Core.Option.{Option, none, some}
 use Prim.Native.Nat.{ℕ, _+_}
@@ -7,14 +7,15 @@ use native.Mathlib.Omega.{arith}
 use lib.ListN.{length}
 use Rattle.answers.specs.declared.Form.{Form}
 use Rattle.answers.specs.declared.Form.the-variants.{Nt40, Response, Ex}
-use Rattle.names.proofs.Laws.Name.{Spot, row-lengths}
+use Rattle.names.proofs.Laws.Name.{Spot}
 use Rattle.names.proofs.Laws.Walk.{finds}
 use Rattle.octets.specs.Label.{labels}
 use Rattle.octets.proofs.Laws.Label.{joined-labels}
 use Rattle.reader.specs.Reader.{NameRead}
 use Rattle.reader.proofs.Laws.Reader.{read-nt40, given-at, given-length, lastGiven}
+use Rattle.reader_forms.specs.Reading.{noName}
 use Rattle.reply.specs.Reply.{Reply, nt40Octets, responseNames, responseOctets, exNames, exOctets, octetsIn}
-use Rattle.demands.specs.Demand3.{NameWalked, LastWalked, lastStart, noName, NamesWalked, ReplyWalked, Demand3Over, Demand3}
+use Rattle.demands.specs.Demand3.{NameWalked, LastWalked, lastStart, NamesWalked, ReplyWalked, Demand3Over, Demand3}
 use Rattle.demands.specs.Derivation.{said}
 use Rattle.demands.proofs.Laws.Derivation.{derived, every-answer}
 use Rattle.demands.proofs.Laws.Forms.Ex.{ex-row, ex-spot, ex-read, LastSpot, last-there}
@@ -46,36 +47,32 @@ nt40-walked v r k =
 response-walked : (v : ℕ) (r : Reply) → Sound Response v r → NamesWalked Response v r (responseOctets r)
 response-walked v r k =
     let row = response-row v r k in
-    let counts : List ℕ = row .counts in
-    let same : length (responseNames r) ≡ length counts = row-lengths (row .row) in
     record {
       fields = _;
       accepted = response-read v r k;
-      many = given-length (responseNames r) counts same;
+      many = given-length (row .row);
       names =
           λ i h.
-          walked i _ (response-spot v r k i h) (given-at (responseNames r) counts noName i same h);
+          walked i _ (response-spot v r k i h) (ap (λ (n : NameRead). n .pointers) (given-at (row .row) noName i h));
       last = tt;
     }
 
 last-walked : (v : ℕ) (r : Reply) (k : Sound Ex v r) (site : Option (List ℕ)) (count : ℕ) → LastSpot v r k site count
-    → LastWalked (exOctets r) (lastStart r) site (lastGiven site count .nextSite)
+    → LastWalked (exOctets r) (lastStart r) site (lastGiven site (lastStart r) count .nextSite)
 last-walked v r k none count spot = tt
 last-walked v r k (some text) count spot = walked 8 _ spot refl
 
 ex-walked : (v : ℕ) (r : Reply) → Sound Ex v r → NamesWalked Ex v r (exOctets r)
 ex-walked v r k =
     let row = ex-row v r k in
-    let counts : List ℕ = row .counts in
-    let same : length (exNames r) ≡ length counts = row-lengths (row .row) in
     let last = last-there v r k (r .nextSite) refl in
     record {
       fields = _;
       accepted = ex-read v r k;
-      many = given-length (exNames r) counts same;
+      many = given-length (row .row);
       names =
           λ i h.
-          walked i _ (ex-spot v r k i h) (given-at (exNames r) counts noName i same h);
+          walked i _ (ex-spot v r k i h) (ap (λ (n : NameRead). n .pointers) (given-at (row .row) noName i h));
       last = last-walked v r k (r .nextSite) (last .0) (last .2);
     }
 

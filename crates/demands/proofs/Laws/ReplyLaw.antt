@@ -1,22 +1,28 @@
 -- The reply law is proved: each form's octets stand in the order of the reader's fields.
 use mathlib.Core.Path.{_≡_, refl, sym, ap, _∙_, subst}
 use mathlib.Core.Bool.{Bool, true, false}
-use mathlib.Core.List.{List}
+use mathlib.Core.List.{List, [], _∷_, _++_, append-assoc}
 use mathlib.Core.Option.{Option, none, some, Option·map}
-use Prim.Native.Nat.{ℕ}
+use Prim.Native.Nat.{ℕ, _+_}
 use lib.ListN.{length}
 use Rattle.answers.specs.declared.Form.{Form}
 use Rattle.answers.specs.declared.Form.the-variants.{Nt40, Response, Ex}
-use Rattle.names.proofs.Laws.Name.{row-lengths}
+use Rattle.answers.specs.Wire.{NETLOGON-NT-VERSION-5EX-WITH-IP, DcSockAddrSize, sin-family, sin-zero}
+use Rattle.octets.specs.Number.{littleOctets, has}
+use Rattle.octets.proofs.Laws.Number.{length-little}
+use Rattle.octets.specs.Sid.{ipv4Size}
 use Rattle.reader.specs.Reader.{readIn, readLength}
+use Rattle.reader.proofs.Laws.Field.{Left, left-next}
+use Rattle.reader.proofs.Laws.Reader as reading
 use Rattle.reader.proofs.Laws.Reader.{read-nt40, texts-given, addressGiven, lastGiven}
-use Rattle.reply.specs.Reply.{Reply, nt40Octets, responseNames, responseOctets, exNames, exOctets, octetsIn}
+use Rattle.reply.specs.Reply.{Reply, nt40Octets, responseOctets, exOctets, octetsIn}
 use Rattle.demands.specs.Derivation.{said}
-use Rattle.demands.specs.ReplyLaw.{GivenBack, ReadBack, ReplyLawOver, ReplyLaw, addressWritten, textOf, versionWritten}
+use Rattle.demands.specs.ReplyLaw.{stretchOf, GivenBack, ReadBack, ReplyLawOver, ReplyLaw, addressWritten, textOf, versionWritten}
 use Rattle.demands.proofs.Laws.Derivation.{derived, every-answer}
-use Rattle.demands.proofs.Laws.Forms.Ex.{ex-row, ex-read, last-there}
+use Rattle.demands.proofs.Laws.Forms.Ex.{ex-row, ex-rest, ex-guid, ex-read, last-there}
+use Rattle.demands.proofs.Laws.Forms.{stretch-is}
 use Rattle.demands.proofs.Laws.Forms.Nt40.{nt40-opened}
-use Rattle.demands.proofs.Laws.Forms.Response.{response-opened, response-row, response-read}
+use Rattle.demands.proofs.Laws.Forms.Response.{response-opened, response-row, response-read, response-guid, response-ipv4}
 use Rattle.demands.proofs.Laws.Sound.{said-octets, said-sound, Sound}
 
 nt40-back : (v : ℕ) (r : Reply) → Sound Nt40 v r → GivenBack Nt40 v r (nt40Octets r)
@@ -38,26 +44,31 @@ response-back v r k =
         server = o .serverIs;
         user = o .userIs;
         domain = o .domainIs;
-        guid = refl;
-        names = texts-given (responseNames r) (row .counts) (row-lengths (row .row));
-        ipv4 = refl;
+        guid = response-guid v r k;
+        names = texts-given (row .row);
+        ipv4 = response-ipv4 v r k;
         flags = refl;
         version = refl;
       },
     )
 
 -- the address and name 8 are given back where they were written
-address-back : (r : Reply) (b : Bool) → addressGiven b (r .ipv4) ≡ addressWritten r b
-address-back r true = refl
-address-back r false = refl
+address-back : {s : List ℕ} {at : ℕ} (r : Reply) (b : Bool) (rest : List ℕ) → length (r .ipv4) ≡ ipv4Size → Left s at (reading.address b (r .ipv4) ++ rest)
+    → Option·map (stretchOf s) (addressGiven b at) ≡ addressWritten r b
+address-back {s} {at} r true rest i l =
+    let after : List ℕ = r .ipv4 ++ (sin-zero ++ rest) in
+    let sized : Left s at ((DcSockAddrSize ∷ []) ++ (littleOctets 4 sin-family ++ after)) = simp append-assoc at l in
+    let family : Left s (at + 1) (littleOctets 4 sin-family ++ after) = left-next (DcSockAddrSize ∷ []) (littleOctets 4 sin-family ++ after) 1 refl sized in
+    ap some (stretch-is (r .ipv4) (sin-zero ++ rest) ipv4Size i (left-next (littleOctets 4 sin-family) after 4 (length-little 4 sin-family) family))
+address-back r false rest i l = refl
 
-last-back : (site : Option (List ℕ)) (count : ℕ) → Option·map textOf (lastGiven site count .nextSite) ≡ site
-last-back none count = refl
-last-back (some text) count = refl
+last-back : (site : Option (List ℕ)) (at count : ℕ) → Option·map textOf (lastGiven site at count .nextSite) ≡ site
+last-back none at count = refl
+last-back (some text) at count = refl
 
-version-back : (site : Option (List ℕ)) (count : ℕ) → lastGiven site count .version ≡ versionWritten site
-version-back none count = refl
-version-back (some text) count = refl
+version-back : (site : Option (List ℕ)) (at count : ℕ) → lastGiven site at count .version ≡ versionWritten site
+version-back none at count = refl
+version-back (some text) at count = refl
 
 ex-back : (v : ℕ) (r : Reply) → Sound Ex v r → GivenBack Ex v r (exOctets r)
 ex-back v r k =
@@ -68,11 +79,11 @@ ex-back v r k =
       record {
         opcode = refl;
         flags = refl;
-        guid = refl;
-        names = texts-given (exNames r) (row .counts) (row-lengths (row .row));
-        ipv4 = ap (λ (b : Bool). addressGiven b (r .ipv4)) (sym (k .address)) ∙ address-back r (r .withAddress);
-        nextSite = last-back (r .nextSite) count;
-        version = version-back (r .nextSite) count;
+        guid = ex-guid v r k;
+        names = texts-given (row .row);
+        ipv4 = address-back r (has v NETLOGON-NT-VERSION-5EX-WITH-IP) _ (k .ipv4) (ex-rest v r k) ∙ ap (addressWritten r) (sym (k .address));
+        nextSite = last-back (r .nextSite) _ count;
+        version = version-back (r .nextSite) _ count;
       },
     )
 

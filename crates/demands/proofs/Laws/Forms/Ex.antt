@@ -17,15 +17,18 @@ use Rattle.octets.specs.Label.{labels}
 use Rattle.octets.proofs.Laws.Label.{Plain, size}
 use Rattle.octets.proofs.Laws.Lists.{Every}
 use Rattle.octets.proofs.Laws.NameRule.{Writable}
+use Rattle.octets.specs.Lists.{cut}
 use Rattle.octets.specs.Number.{littleOctets, has}
 use Rattle.octets.proofs.Laws.Number.{length-little}
+use Rattle.octets.specs.Sid.{guidSize}
 use Rattle.reader.specs.Reader as reader
+use Rattle.reader.proofs.Laws.Field.{Left, left-start, left-after, left-next}
 use Rattle.reader.proofs.Laws.Reader as reading
-use Rattle.reader.proofs.Laws.Reader.{NamesRow, LastAt}
+use Rattle.reader.proofs.Laws.Reader.{NamesRow, givenBack, LastAt}
 use Rattle.reply.specs.Reply.{Reply, exHead, exNames, addressIf, exLast, exOctets}
 use Rattle.demands.specs.Length.{longest}
 use Rattle.demands.proofs.Laws.Sound.{Sound}
-use Rattle.demands.proofs.Laws.Forms.{ending-same, address-same, size-most, ending-length}
+use Rattle.demands.proofs.Laws.Forms.{ending-same, address-same, stretch-is, size-most, ending-length}
 use Rattle.demands.proofs.Laws.Forms.Names.{chain, named-row, named-spot}
 
 -- the octets of name 8, if there is one
@@ -156,15 +159,38 @@ module _ (v : ℕ) (r : Reply) (k : Sound Ex v r) where
       head : exHead r ++ exNamed .octets ++ exRest ≡ littleOctets 2 (r .opcode) ++ (littleOctets 2 Sbz ++ (littleOctets 4 (r .flags) ++ (r .guid ++ (exNamed .octets ++ exRest))))
       head = unfold exHead in simp append-assoc
 
+  ex-left : Left (exOctets r) (length (exHead r)) (exNamed .octets ++ exRest)
+  ex-left = record { front = exHead r; whole = ex-names ∙ append-assoc (exHead r) (exNamed .octets) exRest; offset = refl }
+
+  -- the address and what follows stand after the names
+  pub ex-rest : Left (exOctets r) (length (exHead r) + length (exNamed .octets)) exRest
+  ex-rest = left-after (exNamed .octets) exRest ex-left
+
+  pub ex-guid : cut (exOctets r) (2 + 2 + 4) guidSize ≡ r .guid
+  ex-guid =
+      let numbers : List ℕ = littleOctets 2 (r .opcode) ++ (littleOctets 2 Sbz ++ littleOctets 4 (r .flags)) in
+      let n : length numbers ≡ 2 + 2 + 4 = simp length-append (omega (arith, length-little 2 (r .opcode), length-little 2 Sbz, length-little 4 (r .flags))) in
+      let whole : Left (exOctets r) 0 (numbers ++ (r .guid ++ (exNamed .octets ++ exRest))) = subst (Left (exOctets r) 0) (ex-shape ∙ simp append-assoc) (left-start (exOctets r)) in
+      stretch-is (r .guid) (exNamed .octets ++ exRest) guidSize (k .guid) (left-next numbers (r .guid ++ (exNamed .octets ++ exRest)) (2 + 2 + 4) n whole)
+
   pub ex-read : reader.readEx v (exOctets r)
-      ≡ good (reader.ex (reading.exGiven v (r .opcode) (r .flags) (r .guid) (exNames r) (ex-row .counts) (r .ipv4) (r .nextSite) lastCount))
+      ≡ good
+      (reader.ex
+      (reading.exGiven v (r .opcode) (r .flags) (givenBack (ex-row .starts) (exNames r) (ex-row .counts)) (length (exHead r) + length (exNamed .octets))
+      (reading.lastGiven (r .nextSite) (length exFront) lastCount)))
   ex-read =
       let last : LastAt (exOctets r) v (length (exHead r) + length (exNamed .octets) + length (reading.address (has v NETLOGON-NT-VERSION-5EX-WITH-IP) (r .ipv4))) (r .nextSite) exEnd lastCount =
       subst (λ (x : ℕ). LastAt (exOctets r) v x (r .nextSite) exEnd lastCount) front-length (last-there (r .nextSite) refl .1) in
-      reading.read-ex (exOctets r) v (r .opcode) (r .flags) (r .guid) (exNames r) (exNamed .octets) (r .ipv4) (r .nextSite) exEnd lastCount
+      subst (λ (x : ℕ).
+      reader.readEx v (exOctets r)
+      ≡ good
+      (reader.ex
+      (reading.exGiven v (r .opcode) (r .flags) (givenBack (ex-row .starts) (exNames r) (ex-row .counts)) (length (exHead r) + length (exNamed .octets))
+      (reading.lastGiven (r .nextSite) x lastCount))))
+      (sym front-length)
+      (reading.read-ex (exOctets r) v (r .opcode) (r .flags) (r .guid) (exNames r) (exNamed .octets) (r .ipv4) (r .nextSite) exEnd lastCount
       (length (exHead r)) ex-shape (k .opcode) (k .flags) (k .guid) (k .ipv4) refl
-      (record { front = exHead r; whole = ex-names ∙ append-assoc (exHead r) (exNamed .octets) exRest; offset = refl })
-      ex-row last
+      ex-left ex-row last)
 
   last-length : (site : Option (List ℕ)) → r .nextSite ≡ site → length (reading.last site (lastName site (exNamed .tails) (length exFront))) ≤ 73
   unfolding writeName

@@ -14,13 +14,16 @@ use Rattle.octets.proofs.Laws.Label.{Plain, size}
 use Rattle.octets.proofs.Laws.Lists.{Every}
 use Rattle.octets.specs.Number.{littleOctets}
 use Rattle.octets.proofs.Laws.Number.{length-little}
+use Rattle.octets.specs.Lists.{cut}
+use Rattle.octets.specs.Sid.{guidSize, ipv4Size}
 use Rattle.reader.specs.Reader as reader
+use Rattle.reader.proofs.Laws.Field.{Left, left-after}
 use Rattle.reader.proofs.Laws.Reader as reading
 use Rattle.reader.proofs.Laws.Reader.{Opened, opened, NamesRow, givenBack}
 use Rattle.reply.specs.Reply.{Reply, opening, responseHead, responseNames, responseOctets}
 use Rattle.demands.specs.Length.{longest}
 use Rattle.demands.proofs.Laws.Sound.{Sound}
-use Rattle.demands.proofs.Laws.Forms.{ending-same, opening-same, size-most, opening-length}
+use Rattle.demands.proofs.Laws.Forms.{ending-same, opening-same, stretch-is, size-most, opening-length}
 use Rattle.demands.proofs.Laws.Forms.Names.{named-row, named-spot}
 
 module _ (v : ℕ) (r : Reply) (k : Sound Response v r) where
@@ -82,6 +85,9 @@ module _ (v : ℕ) (r : Reply) (k : Sound Response v r) where
       shape : responseOctets r ≡ reading.opening (r .opcode) (r .server) (r .user) (r .netbios) (r .guid ++ (NullGuid ++ (responseNamed ++ responseRest)))
       shape = response-split ∙ head ∙ opening-same r (r .guid ++ (NullGuid ++ (responseNamed ++ responseRest)))
 
+  response-left : Left (responseOctets r) (length (responseHead r)) (responseNamed ++ responseRest)
+  response-left = record { front = responseHead r; whole = response-split ∙ append-assoc (responseHead r) responseNamed responseRest; offset = refl }
+
   pub response-read : reader.readResponse (responseOctets r)
       ≡ good
       (reader.response
@@ -90,14 +96,19 @@ module _ (v : ℕ) (r : Reply) (k : Sound Response v r) where
         server = response-opened .serverAt;
         user = response-opened .userAt;
         domain = response-opened .domainAt;
-        guid = r .guid;
-        names = givenBack (responseNames r) (response-row .counts);
-        ipv4 = r .ipv4;
+        guid = record { start = response-opened .next; len = guidSize };
+        names = givenBack (response-row .starts) (responseNames r) (response-row .counts);
+        ipv4 = record { start = length (responseHead r) + length responseNamed; len = ipv4Size };
         flags = r .flags;
         version = responseVersion;
       }))
   response-read =
       reading.read-response (responseOctets r) (r .opcode) (r .server) (r .user) (r .netbios) (r .guid) (responseNames r) responseNamed (r .ipv4) (r .flags)
       response-opened (k .guid) (k .ipv4) (k .flags) refl (length (responseHead r))
-      (record { front = responseHead r; whole = response-split ∙ append-assoc (responseHead r) responseNamed responseRest; offset = refl })
-      response-row
+      response-left response-row
+
+  pub response-guid : cut (responseOctets r) (response-opened .next) guidSize ≡ r .guid
+  response-guid = stretch-is (r .guid) (NullGuid ++ (responseNamed ++ responseRest)) guidSize (k .guid) (response-opened .left)
+
+  pub response-ipv4 : cut (responseOctets r) (length (responseHead r) + length responseNamed) ipv4Size ≡ r .ipv4
+  response-ipv4 = stretch-is (r .ipv4) (littleOctets 4 (r .flags) ++ reading.ending responseVersion) ipv4Size (k .ipv4) (left-after responseNamed responseRest response-left)
