@@ -2,6 +2,8 @@ pub mod Derivation
 pub mod Sound
 pub mod Forms
 pub mod ReplyLaw
+pub mod Places
 pub mod Demand3
+pub mod WriterPlaces
 pub mod Length
 pub mod Pointers

@@ -2,26 +2,25 @@
 -- none is written twice. So of the tails that fit, the first is the only one, and the lowest.
 use mathlib.Core.Path.{_≡_}
 use mathlib.Core.Bool.{true, not, _||_}
-use mathlib.Core.List.{List, []}
+use mathlib.Core.List.{List}
 use mathlib.Core.Option.{some}
 use Prim.Native.Nat.{ℕ}
 use lib.Dec.{leb, ltb}
-use lib.ListN.{length, take}
 use Rattle.answers.specs.declared.Form.{Form}
 use Rattle.filter_read.specs.Value.{Ping}
 use Rattle.locator.specs.Answer.{Outcome}
-use Rattle.names.specs.Name.{pointerLimit, Tail, writeNames}
+use Rattle.names.specs.Name.{pointerLimit, Tail}
 use Rattle.octets.specs.Lists.{all, unique, first}
 use Rattle.octets.specs.Text.{same}
 use Rattle.reply.specs.Reply.{Reply}
 use Rattle.table.specs.declared.Caller.{Caller}
 use Rattle.table.specs.Table.{Table}
-use Rattle.demands.specs.Demand3.{headOf, namesOf}
 use Rattle.demands.specs.Derivation.{Derivation, said, EveryAnswerOver, EveryAnswer}
+use Rattle.demands.specs.WriterPlaces.{namesBefore}
 
 -- the tails that the first k names of a form leave
 abbrev pub tailsBefore : Form → Reply → ℕ → List Tail
-tailsBefore form r k = writeNames [] (length (headOf form r)) (take k (namesOf form r)) .tails
+tailsBefore form r k = namesBefore form r k .tails
 
 pub record Fit (tails : List Tail) : Type 0 where
   pub low : all (λ t. ltb (t .offset) pointerLimit) tails ≡ true
