@@ -1,3 +1,6 @@
+pub mod Only
+pub mod Reading
+pub mod Demand1
 pub mod Derivation
 pub mod Sound
 pub mod Forms

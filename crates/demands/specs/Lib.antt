@@ -1,3 +1,5 @@
+pub mod Calls
+pub mod Demand1
 pub mod Derivation
 pub mod ReplyLaw
 pub mod Places
