@@ -7,6 +7,7 @@ pub mod Forms
 pub mod ReplyLaw
 pub mod Places
 pub mod Demand3
+pub mod Demand3Calls
 pub mod WriterPlaces
 pub mod Length
 pub mod Pointers

@@ -4,6 +4,7 @@ pub mod Derivation
 pub mod ReplyLaw
 pub mod Places
 pub mod Demand3
+pub mod Demand3Calls
 pub mod WriterPlaces
 pub mod Length
 pub mod Pointers

@@ -1,0 +1,78 @@
+-- Demand 3 of the two calls follows from demand 3: the reading has the names that the definition gives, in their places.
+use mathlib.Core.Path.{_≡_, refl, sym, ap, _∙_, subst}
+use mathlib.Core.List.{List, [], _∷_}
+use mathlib.Core.Option.{Option, none, some, Option·map}
+use Prim.Native.Nat.{ℕ, zero, suc, _<_}
+use native.Mathlib.Omega.{arith}
+use lib.ListN.{length, getD, List·getD-map}
+use Rattle.answers.specs.declared.Form.{Form}
+use Rattle.reader.specs.Reader.{NameRead, Fields, nt40, response, ex, readIn}
+use Rattle.reader_forms.specs.Reading.{noName, nameIn, nextSiteAs, fieldsAs, readingAs}
+use Rattle.reader_names.specs.declared.NameAt.{NameAt}
+use Rattle.reader_names.specs.Name.{nameAs}
+use Rattle.reply.specs.Reply.{Reply}
+use Rattle.demands.specs.Demand1.{ForReply}
+use Rattle.demands.specs.Demand3.{namesOf, lastOf, namesIn, lastIn, NameGiven, WhereWritten, NamesWalked}
+use Rattle.demands.specs.Demand3Calls.{namesRead, siteRead, lastRead, NameReported, ReadsWalked, Demand3Calls}
+use Rattle.demands.specs.Places.{nameStart, lastStart}
+use Rattle.demands.proofs.Laws.Demand3.{demand-3}
+use Rattle.demands.proofs.Laws.Derivation.{every-reply}
+use Rattle.demands.proofs.Laws.Only.{only-good}
+use Rattle.demands.proofs.Laws.Reading.{formRead, reading-only}
+
+-- names at the first n places, each as it is known by its place
+abbrev firstPlaces : (ℕ → NameAt) → ℕ → List NameAt
+firstPlaces name zero = []
+firstPlaces name (suc n) = name 0 ∷ firstPlaces (λ k. name (suc k)) n
+
+at-place : (name : ℕ → NameAt) (other : NameAt) (n k : ℕ) → k < n → getD (firstPlaces name n) k other ≡ name k
+at-place name other zero k h = absurd (omega arith)
+at-place name other (suc n) zero h = refl
+at-place name other (suc n) (suc k) h = at-place (λ i. name (suc i)) other n k (omega arith)
+
+-- the fields of a form have as many names, each at its place
+names-many : (f : Fields) (r : Reply) → length (namesRead (fieldsAs f)) ≡ length (namesOf (formRead f) r)
+names-many (nt40 f) r = refl
+names-many (response f) r = refl
+names-many (ex f) r = refl
+
+names-there : (f : Fields) (r : Reply) (k : ℕ) → k < length (namesOf (formRead f) r) → getD (namesRead (fieldsAs f)) k (nameAs noName) ≡ nameAs (getD (namesIn f) k noName)
+names-there (nt40 f) r k h = absurd (omega arith)
+names-there (response f) r k h = at-place (nameIn (f .names)) (nameAs noName) 3 k h ∙ List·getD-map nameAs (f .names) k noName
+names-there (ex f) r k h = at-place (nameIn (f .names)) (nameAs noName) 8 k h ∙ List·getD-map nameAs (f .names) k noName
+
+site-there : (o : Option NameRead) → siteRead (nextSiteAs o) ≡ Option·map nameAs o
+site-there none = refl
+site-there (some n) = refl
+
+last-there : (f : Fields) → lastRead (fieldsAs f) ≡ Option·map nameAs (lastIn f)
+last-there (nt40 f) = refl
+last-there (response f) = refl
+last-there (ex f) = site-there (f .nextSite)
+
+-- a name that the definition gives is one that the reading reports
+reported : (s : List ℕ) (start k : ℕ) (text : List ℕ) (n : NameRead) → NameGiven s start k text n → NameReported s start k text (nameAs n)
+reported s start k text n g = record { walked = g .walked; placed = g .placed; sized = ap length (g .told); counted = g .counted }
+
+last-reported : (s : List ℕ) (start : ℕ) (site : Option (List ℕ)) (o : Option NameRead) → WhereWritten (NameGiven s start 8) site o → WhereWritten (NameReported s start 8) site (Option·map nameAs o)
+last-reported s start none none w = tt
+last-reported s start none (some n) w = w
+last-reported s start (some text) none w = w
+last-reported s start (some text) (some n) w = reported s start 8 text n w
+
+reading-walked : (form : Form) (v : ℕ) (r : Reply) (s : List ℕ) → NamesWalked form v r s → ReadsWalked form v r s (length s)
+reading-walked form v r s w given promise =
+    let f : Fields = w .fields in
+    let formed : formRead f ≡ form = only-good ForReply (λ f. formRead f ≡ form) (readIn form v s) f (reading-only ForReply refl refl refl refl refl form v s) (w .accepted) in
+    record {
+      read = fieldsAs f;
+      accepted = promise ∙ ap (readingAs s) (w .accepted);
+      many = subst (λ (x : Form). length (namesRead (fieldsAs f)) ≡ length (namesOf x r)) formed (names-many f r);
+      names =
+          λ k h.
+          rw (names-there f r k (subst (λ (x : Form). k < length (namesOf x r)) (sym formed) h)) (reported s (nameStart form s k) k _ _ (w .names k h));
+      last = rw (last-there f) (last-reported s (lastStart v s) (lastOf form r) (lastIn f) (w .last));
+    }
+
+pub demand-3-calls : Demand3Calls
+demand-3-calls = every-reply NamesWalked ReadsWalked demand-3 reading-walked
