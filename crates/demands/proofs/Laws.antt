@@ -5,6 +5,7 @@ pub mod Derivation
 pub mod Sound
 pub mod Forms
 pub mod ReplyLaw
+pub mod Demand2Calls
 pub mod Places
 pub mod Demand3
 pub mod Demand3Calls

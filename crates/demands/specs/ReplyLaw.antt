@@ -8,14 +8,14 @@ use Prim.Native.Nat.{ℕ}
 use lib.ListN.{length}
 use Rattle.answers.specs.declared.Form.{Form}
 use Rattle.answers.specs.declared.Form.the-variants.{Nt40, Response, Ex}
-use Rattle.answers.specs.Try.{good}
+use Rattle.answers.specs.Try.{Try, good}
 use Rattle.answers.specs.Wire.{nt40Version, responseVersion, exVersion, exVersionWithNextSite}
 use Rattle.filter_read.specs.Value.{Ping}
 use Rattle.locator.specs.Answer.{Outcome}
 use Rattle.octets.specs.Lists.{cut}
 use Rattle.unicode.specs.Utf16.{utf16}
 use Rattle.reader.specs.declared.field.Stretch.{Stretch}
-use Rattle.reader.specs.Reader.{NameRead, Nt40Fields, ResponseFields, ExFields, nt40, response, ex, readIn, readLength}
+use Rattle.reader.specs.Reader.{NameRead, Nt40Fields, ResponseFields, ExFields, Fields, nt40, response, ex, readIn, readLength}
 use Rattle.reply.specs.Reply.{Reply, responseNames, exNames}
 use Rattle.table.specs.declared.Caller.{Caller}
 use Rattle.table.specs.Table.{Table}
@@ -65,17 +65,17 @@ pub record ExBack (r : Reply) (s : List ℕ) (f : ExFields) : Type 0 where
   pub nextSite : Option·map textOf (f .nextSite) ≡ r .nextSite
   pub version : f .version ≡ versionWritten (r .nextSite)
 
--- what the reader gives back of a reply r in its form, whose octets are s
-abbrev pub GivenBack : Form → ℕ → Reply → List ℕ → Type 0
-GivenBack Nt40 v r s = (f : Nt40Fields) × (readIn Nt40 v s ≡ good (nt40 f)) × Nt40Back r s f
-GivenBack Response v r s = (f : ResponseFields) × (readIn Response v s ≡ good (response f)) × ResponseBack r s f
-GivenBack Ex v r s = (f : ExFields) × (readIn Ex v s ≡ good (ex f)) × ExBack r s f
+-- what is read of a reply r in its form, whose octets are s, gives back what went in
+abbrev pub GivenBack : Form → Reply → List ℕ → Try Fields → Type 0
+GivenBack Nt40 r s read = (f : Nt40Fields) × (read ≡ good (nt40 f)) × Nt40Back r s f
+GivenBack Response r s read = (f : ResponseFields) × (read ≡ good (response f)) × ResponseBack r s f
+GivenBack Ex r s read = (f : ExFields) × (read ≡ good (ex f)) × ExBack r s f
 
 -- an answer's reply, read back
 abbrev pub ReadBack : Table → Caller → Ping → ℕ → Outcome → Type 0
 ReadBack t caller p room a =
     (d : Derivation t caller p room a)
-    × GivenBack (a .form) (p .version) (said d) (a .octets)
+    × GivenBack (a .form) (said d) (a .octets) (readIn (a .form) (p .version) (a .octets))
     × (readLength (readIn (a .form) (p .version) (a .octets)) (a .octets) ≡ length (a .octets))
 
 abbrev pub ReplyLawOver : Type 0

@@ -25,7 +25,7 @@ use Rattle.demands.proofs.Laws.Forms.Nt40.{nt40-opened}
 use Rattle.demands.proofs.Laws.Forms.Response.{response-opened, response-row, response-read, response-guid, response-ipv4}
 use Rattle.demands.proofs.Laws.Sound.{said-octets, said-sound, Sound}
 
-nt40-back : (v : ℕ) (r : Reply) → Sound Nt40 v r → GivenBack Nt40 v r (nt40Octets r)
+nt40-back : (v : ℕ) (r : Reply) → Sound Nt40 v r → GivenBack Nt40 r (nt40Octets r) (readIn Nt40 v (nt40Octets r))
 nt40-back v r k =
     let o = nt40-opened v r k in (
       _,
@@ -33,7 +33,7 @@ nt40-back v r k =
       record { opcode = refl; server = o .serverIs; user = o .userIs; domain = o .domainIs; version = refl },
     )
 
-response-back : (v : ℕ) (r : Reply) → Sound Response v r → GivenBack Response v r (responseOctets r)
+response-back : (v : ℕ) (r : Reply) → Sound Response v r → GivenBack Response r (responseOctets r) (readIn Response v (responseOctets r))
 response-back v r k =
     let o = response-opened v r k in
     let row = response-row v r k in (
@@ -70,7 +70,7 @@ version-back : (site : Option (List ℕ)) (at count : ℕ) → lastGiven site at
 version-back none at count = refl
 version-back (some text) at count = refl
 
-ex-back : (v : ℕ) (r : Reply) → Sound Ex v r → GivenBack Ex v r (exOctets r)
+ex-back : (v : ℕ) (r : Reply) → Sound Ex v r → GivenBack Ex r (exOctets r) (readIn Ex v (exOctets r))
 ex-back v r k =
     let row = ex-row v r k in
     let count : ℕ = last-there v r k (r .nextSite) refl .0 in (
@@ -87,13 +87,13 @@ ex-back v r k =
       },
     )
 
-given-back : (form : Form) (v : ℕ) (r : Reply) → Sound form v r → GivenBack form v r (octetsIn form r)
+given-back : (form : Form) (v : ℕ) (r : Reply) → Sound form v r → GivenBack form r (octetsIn form r) (readIn form v (octetsIn form r))
 given-back Nt40 v r k = nt40-back v r k
 given-back Response v r k = response-back v r k
 given-back Ex v r k = ex-back v r k
 
 -- a reply that the reader accepts is read with its length
-read-whole : (form : Form) (v : ℕ) (r : Reply) (s : List ℕ) → GivenBack form v r s → readLength (readIn form v s) s ≡ length s
+pub read-whole : (form : Form) (v : ℕ) (r : Reply) (s : List ℕ) → GivenBack form r s (readIn form v s) → readLength (readIn form v s) s ≡ length s
 read-whole Nt40 v r s g = rw (g .1)
 read-whole Response v r s g = rw (g .1)
 read-whole Ex v r s g = rw (g .1)
@@ -102,7 +102,8 @@ pub reply-law-over : ReplyLawOver
 reply-law-over t caller p room a passed user e =
     let d = derived t caller p room a e in
     let v : ℕ = p .version in
-    let g : GivenBack (a .form) v (said d) (a .octets) = subst (GivenBack (a .form) v (said d)) (sym (said-octets d)) (given-back (a .form) v (said d) (said-sound d passed user)) in
+    let g : GivenBack (a .form) (said d) (a .octets) (readIn (a .form) v (a .octets)) =
+    subst (λ (s : List ℕ). GivenBack (a .form) (said d) s (readIn (a .form) v s)) (sym (said-octets d)) (given-back (a .form) v (said d) (said-sound d passed user)) in
     (d, g, read-whole (a .form) v (said d) (a .octets) g)
 
 pub reply-law : ReplyLaw
