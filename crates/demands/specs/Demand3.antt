@@ -8,16 +8,12 @@ use lib.ListN.{length, getD}
 use Rattle.answers.specs.declared.Form.{Form}
 use Rattle.answers.specs.declared.Form.the-variants.{Nt40, Response, Ex}
 use Rattle.answers.specs.Try.{good}
-use Rattle.filter_read.specs.Value.{Ping}
-use Rattle.locator.specs.Answer.{Outcome}
 use Rattle.names.specs.Walk.{WalkedName, walk}
 use Rattle.octets.specs.Label as label
 use Rattle.reader.specs.Reader.{NameRead, Fields, nt40, response, ex, readIn}
 use Rattle.reader_forms.specs.Reading.{noName}
 use Rattle.reply.specs.Reply.{Reply, responseNames, exNames}
-use Rattle.table.specs.declared.Caller.{Caller}
-use Rattle.table.specs.Table.{Table}
-use Rattle.demands.specs.Derivation.{Derivation, said, EveryAnswerOver, EveryAnswer}
+use Rattle.demands.specs.Derivation.{ReplyIs, EveryAnswerOver, EveryAnswer}
 use Rattle.demands.specs.Places.{nameStart, lastStart}
 
 -- the own octets of the names of a form, in their places: NT40 has no names
@@ -73,12 +69,8 @@ pub record NamesWalked (form : Form) (v : ℕ) (r : Reply) (s : List ℕ) : Type
   pub names : (k : ℕ) → k < length (namesOf form r) → NameGiven s (nameStart form s k) k (getD (namesOf form r) k []) (getD (namesIn fields) k noName)
   pub last : WhereWritten (NameGiven s (lastStart v s) 8) (lastOf form r) (lastIn fields)
 
--- an answer's reply, with every name walked
-abbrev pub ReplyWalked : Table → Caller → Ping → ℕ → Outcome → Type 0
-ReplyWalked t caller p room a = (d : Derivation t caller p room a) × NamesWalked (a .form) (p .version) (said d) (a .octets)
-
 abbrev pub Demand3Over : Type 0
-Demand3Over = EveryAnswerOver ReplyWalked
+Demand3Over = EveryAnswerOver (ReplyIs NamesWalked)
 
 abbrev pub Demand3 : Type 0
-Demand3 = EveryAnswer ReplyWalked
+Demand3 = EveryAnswer (ReplyIs NamesWalked)

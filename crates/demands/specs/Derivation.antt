@@ -41,6 +41,10 @@ pub record Derivation (t : Table) (caller : Caller) (p : Ping) (room : ℕ) (a :
 abbrev pub said : {t : Table} {caller : Caller} {p : Ping} {room : ℕ} {a : Outcome} → Derivation t caller p room a → Reply
 said {t} {caller} {p} {a = a} d = replyFor t caller p (d .context) (a .form)
 
+-- an answer whose reply is so: by its form, the version bits asked, what it says and its octets
+abbrev pub ReplyIs : (Form → ℕ → Reply → List ℕ → Type 0) → Table → Caller → Ping → ℕ → Outcome → Type 0
+ReplyIs P t caller p room a = (d : Derivation t caller p room a) × P (a .form) (p .version) (said d) (a .octets)
+
 -- this holds of every answer over a table that passed, to a ping that came in any way and whose user 9 lets pass
 abbrev pub EveryAnswerOver : (Table → Caller → Ping → ℕ → Outcome → Type 0) → Type 0
 EveryAnswerOver P =

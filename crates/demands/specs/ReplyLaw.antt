@@ -10,16 +10,12 @@ use Rattle.answers.specs.declared.Form.{Form}
 use Rattle.answers.specs.declared.Form.the-variants.{Nt40, Response, Ex}
 use Rattle.answers.specs.Try.{Try, good}
 use Rattle.answers.specs.Wire.{nt40Version, responseVersion, exVersion, exVersionWithNextSite}
-use Rattle.filter_read.specs.Value.{Ping}
-use Rattle.locator.specs.Answer.{Outcome}
 use Rattle.octets.specs.Lists.{cut}
 use Rattle.unicode.specs.Utf16.{utf16}
 use Rattle.reader.specs.declared.field.Stretch.{Stretch}
 use Rattle.reader.specs.Reader.{NameRead, Nt40Fields, ResponseFields, ExFields, Fields, nt40, response, ex, readIn, readLength}
 use Rattle.reply.specs.Reply.{Reply, responseNames, exNames}
-use Rattle.table.specs.declared.Caller.{Caller}
-use Rattle.table.specs.Table.{Table}
-use Rattle.demands.specs.Derivation.{Derivation, said, EveryAnswerOver, EveryAnswer}
+use Rattle.demands.specs.Derivation.{ReplyIs, EveryAnswerOver, EveryAnswer}
 
 -- the octets of a stretch
 abbrev pub stretchOf : List ℕ → Stretch → List ℕ
@@ -71,15 +67,12 @@ GivenBack Nt40 r s read = (f : Nt40Fields) × (read ≡ good (nt40 f)) × Nt40Ba
 GivenBack Response r s read = (f : ResponseFields) × (read ≡ good (response f)) × ResponseBack r s f
 GivenBack Ex r s read = (f : ExFields) × (read ≡ good (ex f)) × ExBack r s f
 
--- an answer's reply, read back
-abbrev pub ReadBack : Table → Caller → Ping → ℕ → Outcome → Type 0
-ReadBack t caller p room a =
-    (d : Derivation t caller p room a)
-    × GivenBack (a .form) (said d) (a .octets) (readIn (a .form) (p .version) (a .octets))
-    × (readLength (readIn (a .form) (p .version) (a .octets)) (a .octets) ≡ length (a .octets))
+-- a reply r in its form, whose octets are s, read back
+abbrev pub ReadBack : Form → ℕ → Reply → List ℕ → Type 0
+ReadBack form v r s = GivenBack form r s (readIn form v s) × (readLength (readIn form v s) s ≡ length s)
 
 abbrev pub ReplyLawOver : Type 0
-ReplyLawOver = EveryAnswerOver ReadBack
+ReplyLawOver = EveryAnswerOver (ReplyIs ReadBack)
 
 abbrev pub ReplyLaw : Type 0
-ReplyLaw = EveryAnswer ReadBack
+ReplyLaw = EveryAnswer (ReplyIs ReadBack)

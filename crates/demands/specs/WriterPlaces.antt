@@ -5,14 +5,10 @@ use Prim.Native.Nat.{ℕ, _+_, _<_}
 use lib.ListN.{length, take}
 use Rattle.answers.specs.declared.Form.{Form}
 use Rattle.answers.specs.declared.Form.the-variants.{Nt40, Response, Ex}
-use Rattle.filter_read.specs.Value.{Ping}
-use Rattle.locator.specs.Answer.{Outcome}
 use Rattle.names.specs.Name.{Writing, writeNames}
 use Rattle.reply.specs.Reply.{Reply, responseHead, exHead, exNames, addressIf}
-use Rattle.table.specs.declared.Caller.{Caller}
-use Rattle.table.specs.Table.{Table}
 use Rattle.demands.specs.Demand3.{namesOf}
-use Rattle.demands.specs.Derivation.{Derivation, said, EveryAnswerOver, EveryAnswer}
+use Rattle.demands.specs.Derivation.{ReplyIs, EveryAnswerOver, EveryAnswer}
 use Rattle.demands.specs.Places.{nameStart, lastStart}
 
 -- what is written before the first name of a form
@@ -38,12 +34,8 @@ pub record PlacedAsWritten (form : Form) (v : ℕ) (r : Reply) (s : List ℕ) : 
   pub names : (k : ℕ) → k < length (namesOf form r) → nameStart form s k ≡ writtenAt form r k
   pub last : form ≡ Ex → lastStart v s ≡ lastWrittenAt r
 
--- an answer's reply, with its names placed as they were written
-abbrev pub ReplyPlaced : Table → Caller → Ping → ℕ → Outcome → Type 0
-ReplyPlaced t caller p room a = (d : Derivation t caller p room a) × PlacedAsWritten (a .form) (p .version) (said d) (a .octets)
-
 abbrev pub WriterPlacesOver : Type 0
-WriterPlacesOver = EveryAnswerOver ReplyPlaced
+WriterPlacesOver = EveryAnswerOver (ReplyIs PlacedAsWritten)
 
 abbrev pub WriterPlaces : Type 0
-WriterPlaces = EveryAnswer ReplyPlaced
+WriterPlaces = EveryAnswer (ReplyIs PlacedAsWritten)

@@ -1,5 +1,5 @@
 -- Demand 3 is proved: the names stand in a row from where the layout starts them, and reader and walk find each at its place.
-use mathlib.Core.Path.{_≡_, refl, sym, subst}
+use mathlib.Core.Path.{_≡_, refl}
 use mathlib.Core.List.{List, []}
 use mathlib.Core.Option.{Option, none, some}
 use Prim.Native.Nat.{ℕ, _+_, _<_}
@@ -14,16 +14,16 @@ use Rattle.octets.proofs.Laws.Label.{joined-labels}
 use Rattle.reader.proofs.Laws.Reader.{NamesRow, givenBack, read-nt40, given-at, given-length, lastGiven}
 use Rattle.reader_forms.specs.Reading.{noName}
 use Rattle.reply.specs.Reply.{Reply, nt40Octets, responseOctets, exOctets, octetsIn}
-use Rattle.demands.specs.Demand3.{NameGiven, WhereWritten, NamesWalked, ReplyWalked, Demand3Over, Demand3}
-use Rattle.demands.specs.Derivation.{said}
+use Rattle.demands.specs.Demand3.{NameGiven, WhereWritten, NamesWalked, Demand3Over, Demand3}
+use Rattle.demands.specs.Derivation.{ReplyIs}
 use Rattle.demands.specs.Places.{namesStart, nameStart}
 use Rattle.demands.specs.WriterPlaces.{lastWrittenAt}
-use Rattle.demands.proofs.Laws.Derivation.{derived, every-answer}
+use Rattle.demands.proofs.Laws.Derivation.{every-answer}
 use Rattle.demands.proofs.Laws.Forms.Ex.{ex-row, ex-start, ex-last-start, ex-read, LastSpot, last-there}
 use Rattle.demands.proofs.Laws.Forms.Nt40.{nt40-opened}
 use Rattle.demands.proofs.Laws.Forms.Response.{response-row, response-start, response-read}
 use Rattle.demands.proofs.Laws.Places.{name-placed}
-use Rattle.demands.proofs.Laws.Sound.{said-octets, said-sound, Sound}
+use Rattle.demands.proofs.Laws.Sound.{Sound, every-sound}
 
 -- a name where the walk finds it, and where the reader found it
 given : {s : List ℕ} {start : ℕ} {text : List ℕ} {count : ℕ} (k : ℕ) → Spot s start (0 + k) text count → NameGiven s start k text (record { start = start; text = text; pointers = count })
@@ -91,10 +91,7 @@ names-walked Response v r k = response-walked v r k
 names-walked Ex v r k = ex-walked v r k
 
 pub demand-3-over : Demand3Over
-demand-3-over t caller p room a passed user e =
-    let d = derived t caller p room a e in
-    let v : ℕ = p .version in
-    (d, subst (NamesWalked (a .form) v (said d)) (sym (said-octets d)) (names-walked (a .form) v (said d) (said-sound d passed user)))
+demand-3-over = every-sound NamesWalked names-walked
 
 pub demand-3 : Demand3
-demand-3 = every-answer ReplyWalked demand-3-over
+demand-3 = every-answer (ReplyIs NamesWalked) demand-3-over

@@ -18,7 +18,7 @@ use Rattle.reply.specs.Reply.{Reply}
 use Rattle.table.specs.declared.Caller.{Caller}
 use Rattle.table.specs.Table.{Table}
 use Rattle.table_whole.specs.Judgement.{tableIn}
-use Rattle.demands.specs.Derivation.{Derivation, said, EveryAnswerOver, Parts, EveryAnswer, EveryReply}
+use Rattle.demands.specs.Derivation.{Derivation, said, ReplyIs, EveryAnswerOver, Parts, EveryAnswer, EveryReply}
 
 pub derived : (t : Table) (caller : Caller) (p : Ping) (room : ℕ) (a : Outcome) → answerOver t caller p room ≡ good a → Derivation t caller p room a
 unfolding answerOver
@@ -36,7 +36,7 @@ every-answer P over image caller filter room a e =
     )
 
 pub every-reply : (P : Form → ℕ → Reply → List ℕ → Type 0) (Q : Form → ℕ → Reply → List ℕ → ℕ → Type 0)
-    → EveryAnswer (λ t caller p room a. (d : Derivation t caller p room a) × P (a .form) (p .version) (said d) (a .octets))
+    → EveryAnswer (ReplyIs P)
     → ((form : Form) (v : ℕ) (r : Reply) (s : List ℕ) → P form v r s → Q form v r s (length s)) → EveryReply Q
 every-reply P Q every weaken image caller filter before after a len context form promise answered = by (answerTo image caller filter (length before)) refl
   where

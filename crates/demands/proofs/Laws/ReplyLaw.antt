@@ -1,5 +1,5 @@
 -- The reply law is proved: each form's octets stand in the order of the reader's fields.
-use mathlib.Core.Path.{_≡_, refl, sym, ap, _∙_, subst}
+use mathlib.Core.Path.{_≡_, refl, sym, ap, _∙_}
 use mathlib.Core.Bool.{Bool, true, false}
 use mathlib.Core.List.{List, [], _∷_, _++_, append-assoc}
 use mathlib.Core.Option.{Option, none, some, Option·map}
@@ -16,14 +16,14 @@ use Rattle.reader.proofs.Laws.Field.{Left, left-next}
 use Rattle.reader.proofs.Laws.Reader as reading
 use Rattle.reader.proofs.Laws.Reader.{read-nt40, texts-given, addressGiven, lastGiven}
 use Rattle.reply.specs.Reply.{Reply, nt40Octets, responseOctets, exOctets, octetsIn}
-use Rattle.demands.specs.Derivation.{said}
+use Rattle.demands.specs.Derivation.{ReplyIs}
 use Rattle.demands.specs.ReplyLaw.{stretchOf, GivenBack, ReadBack, ReplyLawOver, ReplyLaw, addressWritten, textOf, versionWritten}
-use Rattle.demands.proofs.Laws.Derivation.{derived, every-answer}
+use Rattle.demands.proofs.Laws.Derivation.{every-answer}
 use Rattle.demands.proofs.Laws.Forms.Ex.{ex-row, ex-rest, ex-guid, ex-read, last-there}
 use Rattle.demands.proofs.Laws.Forms.{stretch-is}
 use Rattle.demands.proofs.Laws.Forms.Nt40.{nt40-opened}
 use Rattle.demands.proofs.Laws.Forms.Response.{response-opened, response-row, response-read, response-guid, response-ipv4}
-use Rattle.demands.proofs.Laws.Sound.{said-octets, said-sound, Sound}
+use Rattle.demands.proofs.Laws.Sound.{Sound, every-sound}
 
 nt40-back : (v : ℕ) (r : Reply) → Sound Nt40 v r → GivenBack Nt40 r (nt40Octets r) (readIn Nt40 v (nt40Octets r))
 nt40-back v r k =
@@ -93,18 +93,16 @@ given-back Response v r k = response-back v r k
 given-back Ex v r k = ex-back v r k
 
 -- a reply that the reader accepts is read with its length
-pub read-whole : (form : Form) (v : ℕ) (r : Reply) (s : List ℕ) → GivenBack form r s (readIn form v s) → readLength (readIn form v s) s ≡ length s
+read-whole : (form : Form) (v : ℕ) (r : Reply) (s : List ℕ) → GivenBack form r s (readIn form v s) → readLength (readIn form v s) s ≡ length s
 read-whole Nt40 v r s g = rw (g .1)
 read-whole Response v r s g = rw (g .1)
 read-whole Ex v r s g = rw (g .1)
 
+read-back : (form : Form) (v : ℕ) (r : Reply) → Sound form v r → ReadBack form v r (octetsIn form r)
+read-back form v r k = let g = given-back form v r k in (g, read-whole form v r (octetsIn form r) g)
+
 pub reply-law-over : ReplyLawOver
-reply-law-over t caller p room a passed user e =
-    let d = derived t caller p room a e in
-    let v : ℕ = p .version in
-    let g : GivenBack (a .form) (said d) (a .octets) (readIn (a .form) v (a .octets)) =
-    subst (λ (s : List ℕ). GivenBack (a .form) (said d) s (readIn (a .form) v s)) (sym (said-octets d)) (given-back (a .form) v (said d) (said-sound d passed user)) in
-    (d, g, read-whole (a .form) v (said d) (a .octets) g)
+reply-law-over = every-sound ReadBack read-back
 
 pub reply-law : ReplyLaw
-reply-law = every-answer ReadBack reply-law-over
+reply-law = every-answer (ReplyIs ReadBack) reply-law-over
