@@ -4,6 +4,7 @@ use super::super::bulk::write_lines;
 use super::super::{lines_of, KINDS};
 use super::trace::trace;
 use super::trail::{trail, End, Trail};
+use super::Coverage;
 use crate::lines::{form_of_word, octets_of_word, word_of_octets, Answerer};
 
 /// The words and the answers of all stored lines of a kind, and of some in bulk, but for those of another shape.
@@ -65,4 +66,11 @@ fn trails_lead_to_what_the_walk_answers() {
         };
         assert_eq!(answer, expected, "{words:?}");
     }
+}
+
+#[test]
+fn a_filter_cut_inside_a_length_is_observed() {
+    let mut coverage = Coverage::default();
+    coverage.observe(b"filter a3020482", "filter 6 . . . . . . . .");
+    assert_eq!(coverage.count("filter 6"), 1);
 }
