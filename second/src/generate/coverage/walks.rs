@@ -8,6 +8,7 @@ const NONE_BY_OFFSET: [&str; 4] = ["no octets", "the end", "past the end", "past
 
 pub fn required() -> Vec<String> {
     let mut cases: Vec<String> = features().map(str::to_string).to_vec();
+    cases.extend(["a name", "none"].map(str::to_string));
     cases.extend(CAUSES.map(|cause| format!("none: {cause}")));
     cases.extend(CAUSES.map(|cause| format!("none: {cause}, after a pointer")));
     cases.extend(NONE_BY_OFFSET.map(|offset| format!("none: an offset of {offset}")));
@@ -37,6 +38,7 @@ pub fn add_cases(request: &[&str], answer: &[&str], met: &mut Met) -> Option<()>
         End::Cut { cause, .. } | End::Broken { cause } => vec![no_name(&trail, cause)],
     };
     let outcome = if trail.end == End::Zero { "a name" } else { "none" };
+    cases.push(outcome.to_string());
     cases.extend(offset_inside(&octets, offset).map(|place| format!("{outcome}, from {place}")));
     cases.extend(no_such_offset(offset, octets.len()).map(|offset| format!("none: an offset of {offset}")));
     for case in cases {

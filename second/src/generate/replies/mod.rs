@@ -3,6 +3,7 @@
 mod build;
 mod fields;
 mod names;
+mod received;
 mod walks;
 
 use super::chance::Chance;
@@ -11,14 +12,14 @@ use super::requests::{Asked, Requests};
 use super::sample::{sample, version_bits, Size};
 use crate::choose::Form;
 use crate::image::{ContextBlock, Image, Record, ServerBlock};
-use build::{labels, pointer};
+pub use received::{name_like, offset_in, received};
 pub use walks::add_walks;
 
-/// A reply and how it was asked for.
-struct Written {
-    form: Form,
-    version: u32,
-    octets: Vec<u8>,
+/// A reply, and the form and version bits that its reader is told.
+pub struct Received {
+    pub form: Form,
+    pub version: u32,
+    pub octets: Vec<u8>,
 }
 
 pub fn add_reads(requests: &mut Requests, chance: &mut Chance) {
@@ -33,7 +34,7 @@ pub fn add_reads(requests: &mut Requests, chance: &mut Chance) {
 }
 
 /// Replies of all forms to pings on a table whose names share tails.
-fn written_replies() -> Vec<Written> {
+fn written_replies() -> Vec<Received> {
     let server = ServerBlock { roles: 0x8FF, address: [192, 0, 2, 7], ..ServerBlock::default() };
     let mut image = Image::with_server(&server, b"example");
     image.push_context(&ContextBlock::default());
@@ -53,13 +54,13 @@ fn written_replies() -> Vec<Written> {
         let plain = Asked::version(version);
         let filter = user.map_or(plain.clone(), |user| plain.with_user(user)).filter();
         if let Some((form, octets)) = reply_to(&image.octets(), [10, 0, 0, 1], &filter) {
-            replies.push(Written { form, version, octets });
+            replies.push(Received { form, version, octets });
         }
     }
     replies
 }
 
-fn add_good(requests: &mut Requests, replies: &[Written]) {
+fn add_good(requests: &mut Requests, replies: &[Received]) {
     requests.note("replies as written, by every form and with other version bits");
     for reply in replies {
         for form in Form::ALL {
@@ -71,7 +72,7 @@ fn add_good(requests: &mut Requests, replies: &[Written]) {
     }
 }
 
-fn add_truncated(requests: &mut Requests, replies: &[Written]) {
+fn add_truncated(requests: &mut Requests, replies: &[Received]) {
     requests.note("replies cut at every length");
     for reply in replies {
         for length in 0..reply.octets.len() {
@@ -80,7 +81,7 @@ fn add_truncated(requests: &mut Requests, replies: &[Written]) {
     }
 }
 
-fn add_left_over(requests: &mut Requests, replies: &[Written]) {
+fn add_left_over(requests: &mut Requests, replies: &[Received]) {
     requests.note("octets left over");
     for reply in replies {
         for rest in [
@@ -98,7 +99,7 @@ fn add_left_over(requests: &mut Requests, replies: &[Written]) {
     }
 }
 
-fn add_mutated(requests: &mut Requests, chance: &mut Chance, replies: &[Written]) {
+fn add_mutated(requests: &mut Requests, chance: &mut Chance, replies: &[Received]) {
     requests.note("replies with one octet changed, at every offset");
     // An EX reply with the address and name 8, a RESPONSE reply and an NT40 reply.
     for reply in &replies[1..4] {
@@ -142,21 +143,4 @@ fn add_random(requests: &mut Requests, chance: &mut Chance) {
             requests.read(form, version | 0x18, &octets);
         }
     }
-}
-
-/// Octets such as names are made of: short labels, zeros and pointers near by.
-pub fn name_like(chance: &mut Chance, most: usize) -> Vec<u8> {
-    let mut octets = Vec::new();
-    while octets.len() < most {
-        match chance.below(7) {
-            0 | 1 => octets.push(0),
-            2 | 3 => octets.extend(pointer(chance.below(octets.len() + 3))),
-            4 | 5 => octets.extend(labels(&[chance.below(5)])),
-            _ => octets.push(chance.octet()),
-        }
-        if chance.once_in(20) {
-            break;
-        }
-    }
-    octets
 }
