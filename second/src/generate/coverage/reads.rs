@@ -266,30 +266,27 @@ impl<'a> Read<'a> {
     }
 
     /// What only EX replies can be, and whether this one is.
-    fn ex_alone(&self) -> [(&'static str, bool); 16] {
+    fn ex_alone(&self) -> [(&'static str, bool); 17] {
         let (number, shown) = (self.trace.number(), self.trace.name_8);
         let asks_address = self.version_asked & ASKS_ADDRESS != 0;
         let asks_name_8 = self.version_asked & ASKS_NAME_8 != 0;
-        let name_8_cut_or_broken = |number: u8| {
-            let is_name_8 = |fault: &Fault| fault.part.0 == "name 8" && fault.number == number;
-            shown && self.trace.faults.first().is_some_and(is_name_8)
+        let first_is = |field: &str, number: u8| {
+            let is_so = |fault: &Fault| fault.part.0 == field && fault.number == number;
+            shown && self.trace.faults.first().is_some_and(is_so)
         };
-        let version_fault = self.trace.faults.first().filter(|fault| fault.part.0 == "version" && fault.number == 34);
-        let version_is = |cause: &str| version_fault.is_some_and(|fault| fault.cause == cause);
+        let unasked = self.trace.faults.first().is_some_and(|fault| fault.cause == "not asked for");
         let lost_by_cut = !shown && (1..=8).any(|cut| self.reads_with_end(&END_WITH_NAME_8[8 - cut..]));
         [
             ("name 8 with the address", number == 0 && shown && asks_address),
             ("name 8 without the address", number == 0 && shown && !asks_address),
             ("no name 8, asked for", number == 0 && !shown && asks_name_8),
             ("no name 8, not asked for", number == 0 && !shown && !asks_name_8),
-            ("name 8 not asked for", self.is_alone() && version_is("not asked for")),
-            ("name 8 not asked for and broken", !asks_name_8 && name_8_cut_or_broken(33)),
-            ("name 8 not asked for and cut", !asks_name_8 && name_8_cut_or_broken(31)),
+            ("name 8 not asked for", self.is_alone() && unasked),
+            ("name 8 not asked for and broken", !asks_name_8 && first_is("name 8", 33)),
+            ("name 8 not asked for and cut", !asks_name_8 && first_is("name 8", 31)),
+            ("name 8 not asked for, its version cut", !asks_name_8 && first_is("version", 31)),
             ("name 8 shown where the version stands", shown && self.name_8_at() == self.octets.len().checked_sub(8)),
-            (
-                "name 8 shown, another version after it",
-                shown && version_fault.is_some() && !version_is("not asked for"),
-            ),
+            ("name 8 shown, another version after it", first_is("version", 34) && !unasked),
             ("name 8 shown by octets left over", number != 0 && shown && self.reads_shorter(false)),
             ("name 8 lost to octets left over", number != 0 && !shown && self.reads_shorter(true)),
             ("name 8 lost by a cut, 31", number == 31 && lost_by_cut),

@@ -126,13 +126,13 @@ pub fn trace(form: Form, version_asked: u32, octets: &[u8]) -> Trace {
     let mut start = 0;
     for (name, sort) in layout(form, version_asked & 0x8 != 0, name_8) {
         let fault = |(number, cause)| Fault { number, part: (name, sort), start, cause };
-        let named = matches!(sort, Sort::Name).then(|| trail(octets, start));
-        match end_of(octets, start, sort, named.as_ref()) {
+        match end_of(octets, start, sort) {
             Ok(end) => {
                 let unasked = name == "version" && name_8 && version_asked & 0x10 == 0;
                 let unasked = unasked.then(|| (34, "not asked for".to_string()));
                 trace.faults.extend(wrong_value(form, sort, &octets[start..end]).or(unasked).map(fault));
-                trace.fields.push(Field { name, sort, start, end, trail: named });
+                let trail = matches!(sort, Sort::Name).then(|| trail(octets, start));
+                trace.fields.push(Field { name, sort, start, end, trail });
                 start = end;
             }
             Err(cause) => {
@@ -146,13 +146,13 @@ pub fn trace(form: Form, version_asked: u32, octets: &[u8]) -> Trace {
 }
 
 /// Where a field ends, or the number and the cause where it is cut or broken.
-fn end_of(octets: &[u8], start: usize, sort: Sort, named: Option<&Trail>) -> Result<usize, (u8, String)> {
+fn end_of(octets: &[u8], start: usize, sort: Sort) -> Result<usize, (u8, String)> {
     let length = match sort {
         Sort::Opcode => 2,
         Sort::Fixed(expected) => expected.len(),
         Sort::Any(length) => length,
         Sort::Text => text_length(&octets[start..]).map_err(|(number, cause)| (number, cause.to_string()))?,
-        Sort::Name => named.map_or(Ok(0), name_end)? - start,
+        Sort::Name => return name_end(&trail(octets, start)),
     };
     if octets.len() - start < length {
         return Err((31, "cut".to_string()));
