@@ -69,7 +69,8 @@ fn add_beyond_limits(requests: &mut Requests) {
     for offset in 0..falling.len() {
         requests.walk(offset, &falling);
     }
-    let farthest = [vec![0; 0x4000], pointer(0x3FFF).to_vec()].concat();
+    // Every octet but the one aimed at is broken, so that each of the 14 bits counts.
+    let farthest = [&[0x40; 0x3FFF][..], &[0], &pointer(0x3FFF)].concat();
     requests.walk(0x4000, &farthest);
 }
 
