@@ -12,7 +12,7 @@ use Rattle.octets.specs.Lists.{any}
 use Rattle.octets.specs.Number.{bigOctets}
 use Rattle.filter.specs.declared.request.ClauseName.{ClauseName}
 use Rattle.filter.specs.declared.request.Request.{Request}
-use Rattle.filter.specs.Filter.{shortLimit, oneAfter, twoAfter, andTag, equalityTag, stringTag, filterLimit}
+use Rattle.filter_position.specs.Filter.{shortLimit, oneAfter, twoAfter, andTag, equalityTag, stringTag, filterLimit}
 use Rattle.filter_write.specs.declared.write.Written.{Written}
 use Rattle.filter_write.specs.declared.write.Written.the-variants as written
 use Rattle.filter.specs.Request.{clauseNames, spelling, clause, isPresent, octetsOf}

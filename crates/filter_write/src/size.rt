@@ -6,13 +6,13 @@ ghost use Rattle.octets.specs.Lists.{any};
 ghost use Rattle.filter.specs.Request.{clauseNames, spelling, clause, isPresent, octetsOf};
 ghost use Rattle.filter_write.specs.Write.{equalityFor};
 ghost use Rattle.filter_write.specs.Internal.Size.{headSize, elementSize, contents};
-use filter::position::SHORT_LIMIT;
 use filter::request::CLAUSE_COUNT;
 use filter::request::Clause;
 use filter::request::ClauseName;
 use filter::request::Request;
 use filter::request::clause_name_at;
 use filter::request::spelling_of;
+use filter_position::position::SHORT_LIMIT;
 use octets::part::part;
 
 // Lengths below this take one octet.

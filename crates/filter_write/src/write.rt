@@ -8,8 +8,8 @@ use crate::size::contents_size;
 use crate::size::element_size;
 use crate::size::has_clause;
 use answers::Refusal;
-use filter::position::FILTER_LIMIT;
 use filter::request::Request;
+use filter_position::position::FILTER_LIMIT;
 
 // What writing a filter gives: 0 with the length, or 6, 5 or 19.
 pub enum Written {

@@ -25,7 +25,7 @@ use Rattle.filter_write.specs.declared.write.Written.the-variants as wri
 use Rattle.filter.specs.Internal.ClauseNames.{isSameName}
 use Rattle.filter.proofs.Laws.ClauseNames.{clause-by, names-any, same-self}
 use Rattle.filter.specs.Request.{clauseNames, clause, isPresent, octetsOf}
-use Rattle.filter.specs.Filter.{andTag, filterLimit, one, andOf, clausesOf}
+use Rattle.filter_position.specs.Filter.{andTag, filterLimit, one, andOf, clausesOf}
 use Rattle.filter_read.specs.Taken.{isNamed, asClause, requestOf, requestIn, takenAs}
 use Rattle.filter_write.specs.Write.{element, equalityFor, filterOctets, filterFor, writtenAs, writtenOctets}
 use Rattle.filter_write.specs.RoundTrip.{SameClauses, RoundTrip, CallsRoundTrip}

@@ -17,7 +17,7 @@ use Rattle.filter.specs.declared.request.ClauseName.{ClauseName}
 use Rattle.filter.specs.declared.request.ClauseName.the-variants.{NtVer}
 use Rattle.filter.specs.Internal.ClauseNames.{clauseNameAt}
 use Rattle.filter.specs.declared.request.Request.{Request}
-use Rattle.filter.specs.Filter.{andTag, equalityTag, stringTag, filterLimit}
+use Rattle.filter_position.specs.Filter.{andTag, equalityTag, stringTag, filterLimit}
 use Rattle.filter.specs.Request.{clauseNames, spelling, clause, isPresent, octetsOf}
 use Rattle.filter_write.specs.Write.{lengthOctets, element, equalityFor, filterOctets, filterFor}
 use Rattle.filter_write.proofs.Laws.Write.{octets-one, octets-two, octets-three}

@@ -3,7 +3,7 @@ use mathlib.Core.Bool.{cond}
 use mathlib.Core.List.{List, flatMap}
 use Prim.Native.Nat.{ℕ, _+_}
 use lib.Dec.{ltb}
-use Rattle.filter.specs.Filter.{shortLimit}
+use Rattle.filter_position.specs.Filter.{shortLimit}
 use Rattle.filter.specs.declared.request.ClauseName.{ClauseName}
 use Rattle.filter.specs.declared.request.Request.{Request}
 use Rattle.filter.specs.Request.{clause, octetsOf}

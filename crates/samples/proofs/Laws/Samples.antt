@@ -2,7 +2,7 @@
 use mathlib.Core.Path.{refl}
 use mathlib.Core.List.{flatMap}
 use mathlib.Core.Option.{bind}
-use Rattle.filter.specs.Filter.{elementAt, equality, one, siblings, andOf, clausesOf}
+use Rattle.filter_position.specs.Filter.{elementAt, equality, one, siblings, andOf, clausesOf}
 use Rattle.filter_read.specs.Taken.{isNamed, requestOf, requestIn}
 use Rattle.filter_read.specs.Taken.{hasUnknown, hasDuplicate}
 use Rattle.filter_read.specs.Value.{wrongValue, versionAsked, pingIn, pingFrom}

@@ -4,7 +4,7 @@ use Prim.Native.Nat.{ℕ}
 use borrow.Author.Needs.{needs}
 use Rattle.octets.specs.Buffer.{over}
 use Rattle.octets.proofs.Laws.Buffer.{over-lent}
-use Rattle.filter.specs.Filter.{andTag}
+use Rattle.filter_position.specs.Filter.{andTag}
 use Rattle.filter.specs.Request.{clauseNames}
 use Rattle.filter_write.specs.Write.{lengthOctets, element, filterOctets}
 use Rattle.filter_write.specs.Internal.Size.{contents}

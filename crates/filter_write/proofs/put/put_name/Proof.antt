@@ -5,7 +5,7 @@ use native.Mathlib.Omega.{arith}
 use borrow.Author.Needs.{needs}
 use lib.ListN.{length}
 use Rattle.octets.specs.Buffer.{over}
-use Rattle.filter.specs.Filter.{stringTag}
+use Rattle.filter_position.specs.Filter.{stringTag}
 use Rattle.filter.specs.Request.{spelling}
 use Rattle.filter_write.specs.Write.{element}
 use Rattle.filter_write.specs.Internal.Size.{elementSize}

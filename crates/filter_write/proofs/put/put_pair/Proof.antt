@@ -6,7 +6,7 @@ use borrow.Author.Needs.{needs}
 use lib.ListN.{length, take, drop, length-append}
 use Rattle.octets.specs.Buffer.{over}
 use Rattle.octets.proofs.Laws.Buffer.{over-lent}
-use Rattle.filter.specs.Filter.{equalityTag, stringTag}
+use Rattle.filter_position.specs.Filter.{equalityTag, stringTag}
 use Rattle.filter.specs.Request.{spelling}
 use Rattle.filter_write.specs.Write.{lengthOctets, element}
 use Rattle.filter_write.proofs.Laws.Size.{head-length, element-length}

@@ -3,7 +3,7 @@ use Prim.Native.Nat.{ℕ, _+_}
 use borrow.Author.Needs.{needs}
 use lib.ListN.{length}
 use Rattle.lent.proofs.Laws.OverAt.{laid-over, laid-more, over-laid}
-use Rattle.filter.specs.Filter.{stringTag}
+use Rattle.filter_position.specs.Filter.{stringTag}
 use Rattle.filter_write.specs.Write.{element}
 use Rattle.filter_write.proofs.Laws.Size.{head-length}
 use Rattle.filter_write.proofs.put.put_string.Statement.{statement}
