@@ -1,7 +1,7 @@
 use mathlib.Core.Path.{sym, _∙_}
 use borrow.Author.Needs.{needs}
-use Rattle.table_layout.proofs.layout.record_layout.Statement.{statement}
-use Rattle.table_layout.proofs.layout.record_layout.Tie as tie
+use Rattle.table_blocks.proofs.layout.record_layout.Statement.{statement}
+use Rattle.table_blocks.proofs.layout.record_layout.Tie as tie
 
 enum-told : tie.Need-enum-told
 enum-told c = search needs

@@ -2,16 +2,16 @@ use Rattle.table.proofs.Laws.Table.{blocks-step, blocks-end}
 use Rattle.table.specs.Block.{blockSize, blockAt, blocksOf}
 use Rattle.table.specs.Countings.{blockPlace}
 use Rattle.table.specs.Server.{serverPlace}
-use Rattle.table_layout.proofs.Laws.Layout.{layouts-fail, layouts-next, layouts-end}
+use Rattle.table_blocks.proofs.Laws.Layout.{layouts-fail, layouts-next, layouts-end}
 use Rattle.table_layout.specs.Layout.{blockLayout, layoutsFrom}
 use borrow.Author.Tests.{not-true, not-false}
 use borrow.Author.Needs.{needs}
 use lib.ListN.{length, drop}
 use native.Mathlib.Omega.{arith}
 use Prim.Native.Nat.{_+_, _-_, _/_, _≤_}
 use mathlib.Core.Path.{_≡_, refl, sym, ap, _∙_}
-use Rattle.table_layout.proofs.layout.good_layouts.Statement.{statement}
-use Rattle.table_layout.proofs.layout.good_layouts.Tie as tie
+use Rattle.table_blocks.proofs.layout.good_layouts.Statement.{statement}
+use Rattle.table_blocks.proofs.layout.good_layouts.Tie as tie
 
 abbrev Inv-loop : tie.InvT-loop
 Inv-loop image n i₀ i = (i ≤ length image / blockSize) × (layoutsFrom (blockPlace i) (drop i (blocksOf image)) ≡ layoutsFrom serverPlace (blocksOf image))

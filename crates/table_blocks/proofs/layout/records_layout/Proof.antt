@@ -1,10 +1,10 @@
 use mathlib.Core.Path.{sym, ap, _∙_}
 use borrow.Author.Tests.{eq-eqb, ne-eqb}
 use Rattle.table.specs.declared.record.RecordFormat.{RecordFormat}
 use Rattle.table_layout.specs.Layout.{recordsLayout}
 use borrow.Author.Needs.{needs}
-use Rattle.table_layout.proofs.layout.records_layout.Statement.{statement}
-use Rattle.table_layout.proofs.layout.records_layout.Tie as tie
+use Rattle.table_blocks.proofs.layout.records_layout.Statement.{statement}
+use Rattle.table_blocks.proofs.layout.records_layout.Tie as tie
 
 format-of-requires : tie.Need-format-of-requires
 format-of-requires c κs = search needs

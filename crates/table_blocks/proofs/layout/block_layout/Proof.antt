@@ -1,7 +1,7 @@
 use Rattle.table_layout.specs.Layout.{blockLayout}
 use borrow.Author.Needs.{needs}
-use Rattle.table_layout.proofs.layout.block_layout.Statement.{statement}
-use Rattle.table_layout.proofs.layout.block_layout.Tie as tie
+use Rattle.table_blocks.proofs.layout.block_layout.Statement.{statement}
+use Rattle.table_blocks.proofs.layout.block_layout.Tie as tie
 
 place-of-requires : tie.Need-place-of-requires
 place-of-requires c κs = search needs

@@ -9,9 +9,9 @@ use Rattle.octets.proofs.Laws.Lists.{all-piece-fails, all-piece-next, all-piece
 use Rattle.table.specs.declared.record.RecordFormat.{RecordFormat}
 use Rattle.table.specs.Format.{formatOf, recordsIn}
 use Rattle.table.proofs.Laws.Format.{record-fits}
 use Rattle.table_layout.specs.Layout.{recordLayout}
-use Rattle.table_layout.proofs.layout.all_records.Statement.{statement}
-use Rattle.table_layout.proofs.layout.all_records.Tie as tie
+use Rattle.table_blocks.proofs.layout.all_records.Statement.{statement}
+use Rattle.table_blocks.proofs.layout.all_records.Tie as tie
 
 abbrev Inv-loop : tie.InvT-loop
 Inv-loop b kind width count i₀ i =

@@ -1,8 +1,8 @@
 use borrow.Author.Tests.{eq-eqb, ne-eqb}
 use Rattle.table_layout.specs.Layout.{bodyLayout}
 use borrow.Author.Needs.{needs}
-use Rattle.table_layout.proofs.layout.body_layout.Statement.{statement}
-use Rattle.table_layout.proofs.layout.body_layout.Tie as tie
+use Rattle.table_blocks.proofs.layout.body_layout.Statement.{statement}
+use Rattle.table_blocks.proofs.layout.body_layout.Tie as tie
 
 server-layout-requires : tie.Need-server-layout-requires
 server-layout-requires c κs = search needs

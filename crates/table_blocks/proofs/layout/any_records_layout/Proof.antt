@@ -1,7 +1,7 @@
 use Rattle.octets.specs.Lists.{any}
 use borrow.Author.Needs.{needs}
-use Rattle.table_layout.proofs.layout.any_records_layout.Statement.{statement}
-use Rattle.table_layout.proofs.layout.any_records_layout.Tie as tie
+use Rattle.table_blocks.proofs.layout.any_records_layout.Statement.{statement}
+use Rattle.table_blocks.proofs.layout.any_records_layout.Tie as tie
 
 records-layout-requires : tie.Need-records-layout-requires
 records-layout-requires c κs = search needs
