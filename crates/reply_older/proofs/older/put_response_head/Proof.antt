@@ -7,8 +7,8 @@ use Rattle.reply.specs.Reply.{Reply, opening, responseHead}
 use Rattle.reply.specs.Internal.RawReply.{replyIn}
 use Rattle.reply.proofs.Laws.Reply.{response-head-length}
 use borrow.Author.Needs.{needs}
-use Rattle.reply_write.proofs.older.put_response_head.Statement.{statement}
-use Rattle.reply_write.proofs.older.put_response_head.Tie as tie
+use Rattle.reply_older.proofs.older.put_response_head.Statement.{statement}
+use Rattle.reply_older.proofs.older.put_response_head.Tie as tie
 
 module _ (c : tie.Start) where
   abbrev reply : Reply

@@ -6,8 +6,8 @@ use Rattle.reply.specs.Reply.{Reply, text16, opening}
 use Rattle.reply.specs.Internal.RawReply.{replyIn}
 use Rattle.reply.proofs.Laws.Reply.{opening-length}
 use borrow.Author.Needs.{needs}
-use Rattle.reply_write.proofs.older.put_opening.Statement.{statement}
-use Rattle.reply_write.proofs.older.put_opening.Tie as tie
+use Rattle.reply_older.proofs.older.put_opening.Statement.{statement}
+use Rattle.reply_older.proofs.older.put_opening.Tie as tie
 
 module _ (c : tie.Start) where
   abbrev reply : Reply

@@ -13,8 +13,8 @@ use Rattle.lent.proofs.Laws.OverAt.{laid-none, laid-number, laid-more}
 use Rattle.reply.specs.Reply.{addressIf}
 use Rattle.reply.proofs.Laws.Reply.{address-length}
 use borrow.Author.Needs.{needs}
-use Rattle.reply_write.proofs.ex.put_address_at.Statement.{statement}
-use Rattle.reply_write.proofs.ex.put_address_at.Tie as tie
+use Rattle.reply_ex.proofs.ex.put_address_at.Statement.{statement}
+use Rattle.reply_ex.proofs.ex.put_address_at.Tie as tie
 
 returns : tie.Need-returns
 returns c =

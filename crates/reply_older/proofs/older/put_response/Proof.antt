@@ -12,8 +12,8 @@ use Rattle.reply.specs.Reply.{ending, Reply, responseHead}
 use Rattle.reply.specs.Internal.RawReply.{replyIn}
 use Rattle.reply.proofs.Laws.Plan.{response-parts, response-length}
 use borrow.Author.Needs.{needs}
-use Rattle.reply_write.proofs.older.put_response.Statement.{statement}
-use Rattle.reply_write.proofs.older.put_response.Tie as tie
+use Rattle.reply_older.proofs.older.put_response.Statement.{statement}
+use Rattle.reply_older.proofs.older.put_response.Tie as tie
 
 module _ (c : tie.Start) where
   abbrev T : List ℕ

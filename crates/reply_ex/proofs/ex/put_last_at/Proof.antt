@@ -14,8 +14,8 @@ use Rattle.reply.specs.Internal.Plan.{lastName, lastOctets, LastFits}
 use Rattle.reply.proofs.Laws.Reply.{ending-length}
 use Rattle.reply.proofs.Laws.Plan.{last-length}
 use borrow.Author.Needs.{needs}
-use Rattle.reply_write.proofs.ex.put_last_at.Statement.{statement}
-use Rattle.reply_write.proofs.ex.put_last_at.Tie as tie
+use Rattle.reply_ex.proofs.ex.put_last_at.Statement.{statement}
+use Rattle.reply_ex.proofs.ex.put_last_at.Tie as tie
 
 put-last-name-at-requires : tie.Need-put-last-name-at-requires
 put-last-name-at-requires c κs =

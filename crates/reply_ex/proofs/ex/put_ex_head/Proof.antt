@@ -7,8 +7,8 @@ use Rattle.reply.specs.Reply.{Reply, exHead}
 use Rattle.reply.specs.Internal.RawReply.{replyIn}
 use Rattle.reply.proofs.Laws.Reply.{ex-head-length}
 use borrow.Author.Needs.{needs}
-use Rattle.reply_write.proofs.ex.put_ex_head.Statement.{statement}
-use Rattle.reply_write.proofs.ex.put_ex_head.Tie as tie
+use Rattle.reply_ex.proofs.ex.put_ex_head.Statement.{statement}
+use Rattle.reply_ex.proofs.ex.put_ex_head.Tie as tie
 
 module _ (c : tie.Start) where
   abbrev reply : Reply

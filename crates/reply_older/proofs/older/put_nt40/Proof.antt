@@ -8,8 +8,8 @@ use Rattle.reply.specs.Reply.{Reply, ending, opening, nt40Octets}
 use Rattle.reply.specs.Internal.RawReply.{replyIn}
 use Rattle.reply.proofs.Laws.Reply.{nt40-length}
 use borrow.Author.Needs.{needs}
-use Rattle.reply_write.proofs.older.put_nt40.Statement.{statement}
-use Rattle.reply_write.proofs.older.put_nt40.Tie as tie
+use Rattle.reply_older.proofs.older.put_nt40.Statement.{statement}
+use Rattle.reply_older.proofs.older.put_nt40.Tie as tie
 
 module _ (c : tie.Start) where
   abbrev reply : Reply

@@ -12,8 +12,8 @@ use Rattle.reply.specs.Internal.RawReply.{slotText, replyIn}
 use Rattle.reply.specs.Internal.Plan.{exFront, lastName, lastOctets}
 use Rattle.reply.proofs.Laws.Plan.{last-fits, ex-parts, ex-length}
 use borrow.Author.Needs.{needs}
-use Rattle.reply_write.proofs.ex.put_ex.Statement.{statement}
-use Rattle.reply_write.proofs.ex.put_ex.Tie as tie
+use Rattle.reply_ex.proofs.ex.put_ex.Statement.{statement}
+use Rattle.reply_ex.proofs.ex.put_ex.Tie as tie
 
 module _ (c : tie.Start) where
   abbrev T : List ℕ
