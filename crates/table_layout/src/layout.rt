@@ -7,7 +7,7 @@ use crate::field::Rule;
 use crate::field::is_last_text;
 use crate::field::is_text_field;
 use crate::field::is_zero_room;
-use octets::name_rule::is_sid;
+use name_rules::name_rule::is_sid;
 use octets::text::all_zero;
 use table::account;
 use table::address::ADDRESS_BITS;

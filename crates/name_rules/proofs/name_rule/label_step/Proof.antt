@@ -1,9 +1,9 @@
-use Rattle.octets.specs.Internal.LabelStep.{labelStep}
+use Rattle.name_rules.specs.Internal.LabelStep.{labelStep}
 use borrow.Author.Tests.{lt-leb, le-leb, eq-eqb, ne-eqb}
 use native.Mathlib.Omega.{arith}
 use borrow.Author.Needs.{needs}
-use Rattle.octets.proofs.name_rule.label_step.Statement.{statement}
-use Rattle.octets.proofs.name_rule.label_step.Tie as tie
+use Rattle.name_rules.proofs.name_rule.label_step.Statement.{statement}
+use Rattle.name_rules.proofs.name_rule.label_step.Tie as tie
 
 returns : tie.Need-returns
 unfolding labelStep

@@ -1,16 +1,16 @@
-use Rattle.octets.specs.declared.name_rule.LabelStep.{LabelStep}
+use Rattle.name_rules.specs.declared.name_rule.LabelStep.{LabelStep}
 use Rattle.octets.specs.NameRule.{sized}
 use Rattle.octets.specs.Lists.{all}
-use Rattle.octets.proofs.Laws.LabelStep.{goodLabels, good-whole, after, step-good, end-good}
-use Rattle.octets.specs.Internal.LabelStep.{InLabel}
+use Rattle.name_rules.proofs.Laws.LabelStep.{goodLabels, good-whole, after, step-good, end-good}
+use Rattle.name_rules.specs.Internal.LabelStep.{InLabel}
 use Rattle.octets.specs.Label.{parts}
 use borrow.Author.Needs.{needs}
 use lib.ListN.{length, drop}
 use native.Mathlib.Omega.{arith}
 use Prim.Native.Nat.{_+_, _-_, _≤_}
 use mathlib.Core.Path.{_≡_, sym, ap, _∙_, subst}
-use Rattle.octets.proofs.name_rule.has_good_labels.Statement.{statement}
-use Rattle.octets.proofs.name_rule.has_good_labels.Tie as tie
+use Rattle.name_rules.proofs.name_rule.has_good_labels.Statement.{statement}
+use Rattle.name_rules.proofs.name_rule.has_good_labels.Tie as tie
 
 abbrev Inv-loop : tie.InvT-loop
 Inv-loop s n₀ i₀ n i = (i ≤ length s) × (n ≤ 63) × (goodLabels n (drop i s) ≡ all (sized 1 63) (parts s))

@@ -2,8 +2,8 @@
 use mathlib.Core.Bool.{cond}
 use Prim.Native.Nat.{ℕ, _+_, _≤_}
 use lib.Dec.{eqb, leb}
-use Rattle.octets.specs.declared.name_rule.LabelStep.{LabelStep}
-use Rattle.octets.specs.declared.name_rule.LabelStep.the-variants.{Bad, Length}
+use Rattle.name_rules.specs.declared.name_rule.LabelStep.{LabelStep}
+use Rattle.name_rules.specs.declared.name_rule.LabelStep.the-variants.{Bad, Length}
 
 -- from n octets of a label on: a dot ends it, unless it has none, and any other octet is one more, up to 63
 unfoldable pub labelStep : ℕ → ℕ → LabelStep

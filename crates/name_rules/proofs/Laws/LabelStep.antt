@@ -10,13 +10,13 @@ use lib.Dec.{eqb, leb}
 use lib.ListN.{length, getD, drop, drop-of-length-le}
 use lib.Seq.{drop-cons}
 use borrow.Author.Tests.{eqb-true, eqb-false, leb-true, le-leb, lt-leb}
-use Rattle.octets.specs.declared.name_rule.LabelStep.{LabelStep}
-use Rattle.octets.specs.declared.name_rule.LabelStep.the-variants.{Bad, Length}
+use Rattle.name_rules.specs.declared.name_rule.LabelStep.{LabelStep}
+use Rattle.name_rules.specs.declared.name_rule.LabelStep.the-variants.{Bad, Length}
 use Rattle.octets.specs.Label.{parts, toFirst, onDot}
-use Rattle.octets.specs.Internal.LabelStep.{labelStep}
+use Rattle.name_rules.specs.Internal.LabelStep.{labelStep}
 use Rattle.octets.specs.Lists.{all}
 use Rattle.octets.specs.NameRule.{sized}
 use Rattle.octets.specs.Text.{within}
 
 -- labels of which n octets of the first are already read
 abbrev goodFrom : ℕ → List (List ℕ) → Bool

@@ -1,11 +1,11 @@
 use Rattle.octets.proofs.Laws.Sid.{sid-short, sid-revision, sid-count, sid-length}
 use lib.ListN.{length}
 use lib.Dec.{eqb}
 use Prim.Native.Nat.{ℕ, _+_, _*_, _<_, _≤_}
 use mathlib.Core.Path.{ap, subst, _∙_}
 use borrow.Author.Needs.{needs}
-use Rattle.octets.proofs.name_rule.is_sid.Statement.{statement}
-use Rattle.octets.proofs.name_rule.is_sid.Tie as tie
+use Rattle.name_rules.proofs.name_rule.is_sid.Statement.{statement}
+use Rattle.name_rules.proofs.name_rule.is_sid.Tie as tie
 
 returns : tie.Need-returns
 returns c = sid-short _ (c .if1 .taken)

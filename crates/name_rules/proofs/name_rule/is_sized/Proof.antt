@@ -1,6 +1,6 @@
 use borrow.Author.Tests.{lt-leb, le-leb}
-use Rattle.octets.proofs.name_rule.is_sized.Statement.{statement}
-use Rattle.octets.proofs.name_rule.is_sized.Tie as tie
+use Rattle.name_rules.proofs.name_rule.is_sized.Statement.{statement}
+use Rattle.name_rules.proofs.name_rule.is_sized.Tie as tie
 
 returns : tie.Need-returns
 returns c = rw (lt-leb _ _ (c .if1 .taken))
