@@ -11,14 +11,14 @@ use name_rules::name_rule::is_sid;
 use octets::text::all_zero;
 use table::account;
 use table::address::ADDRESS_BITS;
-use table::address::address_number;
-use table::address::is_prefix_only;
 use table::block::BODY_SIZE;
 use table::context;
 use table::forest;
 use table::server;
 use table::site;
 use table::subnet;
+use table_address::address::address_number;
+use table_address::address::is_prefix_only;
 
 // Twelve roles and four states, and no other bit of theirs.
 pub fn server_layout(b: &[u8]) -> bool

@@ -1,10 +1,10 @@
 use native.Mathlib.Nat.{div-add-mod'}
 use native.Mathlib.Omega.{arith}
 use Rattle.table.specs.Address.{networkOf}
-use Rattle.table.proofs.Laws.Address.{share-some}
+use Rattle.table_address.proofs.Laws.Address.{share-some}
 use borrow.Author.Needs.{needs}
-use Rattle.table.proofs.address.network_of.Statement.{statement}
-use Rattle.table.proofs.address.network_of.Tie as tie
+use Rattle.table_address.proofs.address.network_of.Statement.{statement}
+use Rattle.table_address.proofs.address.network_of.Tie as tie
 
 share-size-requires : tie.Need-share-size-requires
 share-size-requires c κs = search needs

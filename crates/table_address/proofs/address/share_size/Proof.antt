@@ -1,7 +1,7 @@
-use Rattle.table.proofs.Laws.Address.{share-whole, share-shift}
+use Rattle.table_address.proofs.Laws.Address.{share-whole, share-shift}
 use borrow.Author.Needs.{needs}
-use Rattle.table.proofs.address.share_size.Statement.{statement}
-use Rattle.table.proofs.address.share_size.Tie as tie
+use Rattle.table_address.proofs.address.share_size.Statement.{statement}
+use Rattle.table_address.proofs.address.share_size.Tie as tie
 
 returns : tie.Need-returns
 returns c = share-whole (c .before .args .prefix) (c .if1 .taken)

@@ -1,7 +1,7 @@
 use Rattle.table.specs.Address.{sharePrefix}
 use borrow.Author.Needs.{needs}
-use Rattle.table.proofs.address.share_prefix.Statement.{statement}
-use Rattle.table.proofs.address.share_prefix.Tie as tie
+use Rattle.table_address.proofs.address.share_prefix.Statement.{statement}
+use Rattle.table_address.proofs.address.share_prefix.Tie as tie
 
 network-of-requires : tie.Need-network-of-requires
 network-of-requires c κs = search needs

@@ -1,7 +1,7 @@
 use Rattle.table.specs.Address.{isPrefixOnly}
 use borrow.Author.Needs.{needs}
-use Rattle.table.proofs.address.is_prefix_only.Statement.{statement}
-use Rattle.table.proofs.address.is_prefix_only.Tie as tie
+use Rattle.table_address.proofs.address.is_prefix_only.Statement.{statement}
+use Rattle.table_address.proofs.address.is_prefix_only.Tie as tie
 
 network-of-requires : tie.Need-network-of-requires
 network-of-requires c κs = search needs

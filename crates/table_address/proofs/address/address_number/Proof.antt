@@ -1,8 +1,8 @@
 use native.Mathlib.Omega.{arith}
 use Rattle.table.specs.Address.{addressNumber}
 use borrow.Author.Needs.{needs}
-use Rattle.table.proofs.address.address_number.Statement.{statement}
-use Rattle.table.proofs.address.address_number.Tie as tie
+use Rattle.table_address.proofs.address.address_number.Statement.{statement}
+use Rattle.table_address.proofs.address.address_number.Tie as tie
 
 octet-in-requires : tie.Need-octet-in-requires
 octet-in-requires c κs = search needs
