@@ -17,10 +17,10 @@ use Rattle.filter.specs.Request.{spelling}
 use Rattle.filter_position.specs.Filter.{equalityTag, stringTag, Element, elementAt, equality, lengthWidth}
 use Rattle.filter_position.specs.Internal.Position.{lengthAt}
 use Rattle.filter_position.proofs.Laws.Position.{width-one, width-two, length-of, value-at, element-known, ends-within}
-use Rattle.filter_write.specs.Write.{lengthOctets, element, equalityFor}
-use Rattle.filter_write.proofs.Laws.Write.{octets-one, octets-two, octets-three}
-use Rattle.filter_write.specs.Internal.Size.{headSize, elementSize}
-use Rattle.filter_write.proofs.Laws.Size.{by-size, head-two, head-three, head-four, head-length, head-bounds, element-length}
+use Rattle.filter_octets.specs.Octets.{lengthOctets, element, equalityFor}
+use Rattle.filter_octets.proofs.Laws.Octets.{octets-one, octets-two, octets-three}
+use Rattle.filter_octets.specs.Internal.Size.{headSize, elementSize}
+use Rattle.filter_octets.proofs.Laws.Size.{by-size, head-two, head-three, head-four, head-length, head-bounds, element-length}
 
 -- what stands after the first octets of a stretch
 pub after : (s xs ys : List ℕ) (at n : ℕ) → drop at s ≡ xs ++ ys → length xs ≡ n → drop (at + n) s ≡ ys
