@@ -22,7 +22,7 @@ use table_find::search::ContextKey;
 use table_find::search::Found;
 use table_find::search::Key;
 use table_find::search::SiteKey;
-use table_find::search::first_record;
+use table_search::search::first_record;
 
 pub fn context_by_number(image: &[u8], number: ContextNumber) -> Found
     requires { ⌜ Accepted (now image) ⌝ }

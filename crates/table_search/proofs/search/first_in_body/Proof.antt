@@ -10,11 +10,11 @@ use Rattle.table.specs.Block.{bodySize}
 use Rattle.table.specs.Format.{formatOf}
 use Rattle.table.proofs.Laws.Format.{format-fills}
 use Rattle.octets.specs.Lists.{first, cut, pieces}
-use Rattle.table_find.proofs.Laws.Search.{less-one, left-found, left-next, left-none, body-records}
+use Rattle.table_search.proofs.Laws.Search.{less-one, left-found, left-next, left-none, body-records}
 use Rattle.table_find.specs.Internal.Search.{firstInBody}
 use Rattle.table_find.specs.Internal.Key.{kindFor, isFoundBy}
-use Rattle.table_find.proofs.search.first_in_body.Statement.{statement}
-use Rattle.table_find.proofs.search.first_in_body.Tie as tie
+use Rattle.table_search.proofs.search.first_in_body.Statement.{statement}
+use Rattle.table_search.proofs.search.first_in_body.Tie as tie
 
 abbrev Inv-loop : tie.InvT-loop
 Inv-loop image body key asked width left₀ offset₀ left offset =

@@ -6,12 +6,12 @@ use lib.ListN.{length, drop}
 use borrow.Author.Needs.{needs}
 use Rattle.table.specs.Block.{blocksOf}
 use Rattle.table_whole.proofs.Laws.Judgement.{accepted-bounds}
-use Rattle.table_find.proofs.Laws.Search.{search-step, search-end}
+use Rattle.table_search.proofs.Laws.Search.{search-step, search-end}
 use Rattle.table_find.specs.Internal.Search.{firstIn}
 use Rattle.table_find.specs.Internal.Found.{recordFound, LiesIn}
 use Rattle.table_find.specs.Internal.Key.{kindFor}
-use Rattle.table_find.proofs.search.first_record.Statement.{statement}
-use Rattle.table_find.proofs.search.first_record.Tie as tie
+use Rattle.table_search.proofs.search.first_record.Statement.{statement}
+use Rattle.table_search.proofs.search.first_record.Tie as tie
 
 abbrev Inv-loop : tie.InvT-loop
 Inv-loop image key asked blocks i₀ i = firstIn key asked (drop i (blocksOf image)) ≡ firstIn key asked (blocksOf image)

@@ -8,11 +8,11 @@ use Rattle.octets.proofs.Laws.Lists.{cut-cut}
 use Rattle.table.specs.declared.record.RecordFormat.{RecordFormat}
 use Rattle.table.specs.Block.{blockSize, bodyOffset, bodySize, blockAt, kindIn}
 use Rattle.table.specs.Format.{formatOf}
 use Rattle.table_find.specs.Internal.Search.{firstInBody, firstInBlock}
 use Rattle.table_find.specs.Internal.Key.{kindFor}
 use borrow.Author.Needs.{needs}
-use Rattle.table_find.proofs.search.first_in_block.Statement.{statement}
-use Rattle.table_find.proofs.search.first_in_block.Tie as tie
+use Rattle.table_search.proofs.search.first_in_block.Statement.{statement}
+use Rattle.table_search.proofs.search.first_in_block.Tie as tie
 
 format-for-requires : tie.Need-format-for-requires
 format-for-requires c κs = search needs
