@@ -2,7 +2,6 @@ use mathlib.Core.Path.{_≡_, refl, sym, ap, subst, _∙_}
 use mathlib.Core.Bool.{false}
 use mathlib.Core.List.{List}
 use Prim.Native.Nat.{ℕ, _<_}
-use native.Mathlib.Omega.{arith}
 use borrow.Author.Needs.{needs}
 use lib.ListN.{length}
 use Rattle.answers.specs.declared.Form.{Form}
@@ -18,9 +17,7 @@ use Rattle.reply.specs.Internal.RawReply.{replyIn}
 use Rattle.reply_write.specs.declared.fit.Fitted.{Fitted}
 use Rattle.reply_write.specs.Internal.Fit.{FittedTo, octetsFitted}
 use Rattle.table.specs.Context.{Context, contextOf, contextFormat}
-use Rattle.table.specs.Server.{Server}
 use Rattle.table.specs.Table.{Table, tableFrom}
-use Rattle.table_whole.proofs.Laws.Judgement.{accepted-bounds}
 use Rattle.locator.specs.declared.Answer.{Answer}
 use Rattle.locator.specs.declared.Answer.the-variants as answer
 use Rattle.locator.specs.Answer.{Outcome, wrongUser, answerAs, octetsWritten}
@@ -28,51 +25,48 @@ use Rattle.locator.proofs.Laws.Answer.{refusal-given, user-refused, roo
 use Rattle.locator.proofs.over.reply_to.Statement.{statement}
 use Rattle.locator.proofs.over.reply_to.Tie as tie
 
-server-of-requires : tie.Need-server-of-requires
-server-of-requires c κs = omega (arith, accepted-bounds (c .before .before .before .args .image .now) (c .before .before .before .pre .0 .0) .0)
-
-form-of-requires : tie.Need-form-of-requires
-form-of-requires c κs = search needs
+form-for-requires : tie.Need-form-for-requires
+form-for-requires c κs = c .before .before .before .pre .0 .0
 
 is-wrong-user-requires : tie.Need-is-wrong-user-requires
-is-wrong-user-requires c κs = c .before .before .before .before .before .pre .1 .1
+is-wrong-user-requires c κs = c .before .before .before .before .pre .1 .1
 
 -- what was asked, and the form chosen for it
-module _ (c : tie.After-form-of) where
+module _ (c : tie.After-form-for) where
   abbrev table : Table
-  table = tableFrom (c .before .before .before .before .before .args .image .now)
+  table = tableFrom (c .before .before .before .before .args .image .now)
 
   abbrev ping : Ping
-  ping = pingAt (c .before .before .before .before .before .args .source .now) (c .before .before .before .before .before .args .ping)
+  ping = pingAt (c .before .before .before .before .args .source .now) (c .before .before .before .before .args .ping)
 
   abbrev room : ℕ
-  room = length (c .before .before .before .before .before .args .reply .now)
+  room = length (c .before .before .before .before .args .reply .now)
 
   abbrev used : Context
-  used = contextOf (cut (c .before .before .before .before .before .args .image .now) (c .before .before .before .before .before .args .context) (contextFormat .width))
+  used = contextOf (cut (c .before .before .before .before .args .image .now) (c .before .before .before .before .args .context) (contextFormat .width))
 
   abbrev form : Form
-  form = c .form-of .result
+  form = c .form-for .result
 
   form-chosen : form ≡ formOf (table .server) (ping .version)
-  form-chosen = c .form-of .ensures ∙ ap (λ (s : Server). formOf s (ping .version)) (c .before .server-of .ensures)
+  form-chosen = c .form-for .ensures
 
 returns : tie.Need-returns
 unfolding wrongUser
 returns c =
-    let a = c .before .before .before .before .before .before .before .args in
+    let a = c .before .before .before .before .before .before .args in
     let f = c .before .before in
     let chosen : Reply = replyFor (table f) (a .caller) (ping f) (used f) (form f) in
     refusal-given _ UserLabelEmpty (a .reply .now)
     (user-refused (table f) (a .caller) (ping f) (room f) (used f) (form f) chosen (form-chosen f) refl (sym (c .if1 .taken) ∙ c .before .is-wrong-user .ensures))
 
 reply-for-requires : tie.Need-reply-for-requires
-reply-for-requires c κs = let q = c .before .before .before .before .before .before .before .pre in ((q .0 .0, q .0 .1, q .1 .1), q .1 .0)
+reply-for-requires c κs = let q = c .before .before .before .before .before .before .pre in ((q .0 .0, q .0 .1, q .1 .1), q .1 .0)
 
 -- the reply chosen, and that 18 found nothing
 module _ (c : tie.After-reply-for) where
   abbrev said : Reply
-  said = replyIn (c .before .before .before .before .before .before .before .before .args .image .now) (c .before .before .before .before .before .before .before .before .args .source .now) (c .reply-for .result)
+  said = replyIn (c .before .before .before .before .before .before .before .args .image .now) (c .before .before .before .before .before .before .before .args .source .now) (c .reply-for .result)
 
   abbrev octets : List ℕ
   octets = octetsIn (form (c .before .before .before)) said
@@ -95,7 +89,7 @@ same-length c = search needs
 
 returns-2 : tie.Need-returns-2
 returns-2 c =
-    let a = c .before .before .before .before .before .before .before .before .before .before .before .before .before .before .args in
+    let a = c .before .before .before .before .before .before .before .before .before .before .before .before .before .args in
     let g = c .before .before .before .before .before .before in
     let f = g .before .before .before in
     let told = c .enum-told .given .1 in
@@ -115,7 +109,7 @@ same-length-2 c = search needs
 
 returns-3 : tie.Need-returns-3
 returns-3 c =
-    let a = c .before .before .before .before .before .before .before .before .before .before .before .before .before .before .before .before .before .args in
+    let a = c .before .before .before .before .before .before .before .before .before .before .before .before .before .before .before .before .args in
     let g = c .before .before .before .before .before .before .before .before .before in
     let f = g .before .before .before in
     let told = c .before .before .before .length .given .1 in
@@ -131,8 +125,7 @@ pub reply-to-spec : {M : Type 1} → statement M
 reply-to-spec =
     tie.close
     (tie.spec
-    server-of-requires
-    form-of-requires
+    form-for-requires
     is-wrong-user-requires
     returns
     reply-for-requires
