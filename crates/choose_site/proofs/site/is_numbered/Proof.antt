@@ -1,6 +1,6 @@
 use borrow.Author.Needs.{needs}
-use Rattle.choose_reply.proofs.site.is_numbered.Statement.{statement}
-use Rattle.choose_reply.proofs.site.is_numbered.Tie as tie
+use Rattle.choose_site.proofs.site.is_numbered.Statement.{statement}
+use Rattle.choose_site.proofs.site.is_numbered.Tie as tie
 
 enum-known-found : tie.Need-enum-known-found
 enum-known-found c = search needs

@@ -13,10 +13,10 @@ use Rattle.table.specs.Site.{Site, siteOf, siteFormat}
 use Rattle.table.specs.Table.{tableFrom}
 use Rattle.table_whole.proofs.Laws.Judgement.{accepted-bounds}
 use Rattle.table_find.specs.Find.{siteIfAny}
-use Rattle.choose_reply.proofs.Laws.NextSite.{next-unasked, next-of-none, next-of}
+use Rattle.choose_site.proofs.Laws.NextSite.{next-unasked, next-of-none, next-of}
 use borrow.Author.Needs.{needs}
-use Rattle.choose_reply.proofs.site.next_site.Statement.{statement}
-use Rattle.choose_reply.proofs.site.next_site.Tie as tie
+use Rattle.choose_site.proofs.site.next_site.Statement.{statement}
+use Rattle.choose_site.proofs.site.next_site.Tie as tie
 
 -- it is asked for, and the level is there
 asked : (c : tie.After-has-bits2)
