@@ -1,6 +1,7 @@
 // Names of a received reply: document 01, "Reading a reply".
 use answers::Refusal;
 
+pub mod label;
 pub mod list;
 pub mod look;
 pub mod read;

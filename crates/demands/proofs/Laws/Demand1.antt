@@ -12,9 +12,9 @@ use Rattle.answers.specs.declared.Refusal.the-variants.{SidShape, SidNotHeld, S
 use Rattle.answers.specs.Refusal.{number}
 use Rattle.answers.specs.Try.{Try}
 use Rattle.choose.specs.Judge.{contextUsed, orWhole, contextIn}
-use Rattle.filter.specs.declared.position.RawClause.{RawClause}
+use Rattle.filter_position.specs.declared.position.RawClause.{RawClause}
 use Rattle.filter.specs.declared.request.Request.{Request}
-use Rattle.filter.specs.Filter.{clausesOf}
+use Rattle.filter_position.specs.Filter.{clausesOf}
 use Rattle.filter_read.specs.declared.read.Taken.the-variants as taken
 use Rattle.filter_read.specs.declared.value.Judged.the-variants as judged
 use Rattle.filter_read.specs.Taken.{judgedClauses, requestIn, takenAs}

@@ -4,8 +4,8 @@ use lib.ListN.{length-set}
 use Rattle.lent.specs.Internal.OverAt.{overAt}
 use Rattle.reader_names.proofs.Laws.Label.{dot-laid}
 use borrow.Author.Needs.{needs}
-use Rattle.reader_names.proofs.text.put_label.Statement.{statement}
-use Rattle.reader_names.proofs.text.put_label.Tie as tie
+use Rattle.reader_names.proofs.label.put_label.Statement.{statement}
+use Rattle.reader_names.proofs.label.put_label.Tie as tie
 
 put-octets-requires : tie.Need-put-octets-requires
 put-octets-requires c κs = omega arith
