@@ -20,8 +20,8 @@ use Rattle.octets.specs.Buffer.{over}
 use Rattle.reader.specs.Reader.{readIn}
 use Rattle.reader_forms.specs.declared.reading.Reading.{Reading}
 use Rattle.reader_forms.specs.Reading.{readingAs}
-use Rattle.reader_names.specs.declared.NameText.{NameText}
-use Rattle.reader_names.specs.Text.{nameText, nameTextAs}
+use Rattle.reader_text.specs.declared.NameText.{NameText}
+use Rattle.reader_text.specs.Text.{nameText, nameTextAs}
 use Rattle.table.specs.declared.Caller.{Caller}
 use Rattle.table_check.specs.declared.check.Check.{Check}
 use Rattle.table_check.specs.Check.{checkOf}

@@ -25,9 +25,9 @@ use Rattle.octets.specs.Text.{within}
 use Rattle.reader_forms.specs.declared.reading.Reading.{Reading}
 use Rattle.reader_forms.specs.declared.reading.Reading.the-variants as reading
 use Rattle.reader_forms.specs.Reading.{readingLength, readingFields}
-use Rattle.reader_names.specs.declared.NameText.{NameText}
-use Rattle.reader_names.specs.declared.TextLength.the-variants as text
-use Rattle.reader_names.specs.Text.{textLength, textGiven}
+use Rattle.reader_text.specs.declared.NameText.{NameText}
+use Rattle.reader_text.specs.declared.TextLength.the-variants as text
+use Rattle.reader_text.specs.Text.{textLength, textGiven}
 use Rattle.table.specs.declared.Caller.{Caller}
 use Rattle.table_check.specs.declared.check.Check.{Check}
 use Rattle.table_whole.specs.declared.judge.Judgement.{Judgement}

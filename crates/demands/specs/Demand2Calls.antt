@@ -7,8 +7,8 @@ use Rattle.answers.specs.declared.Form.{Form}
 use Rattle.reader_forms.specs.declared.reading.Reading.{Reading}
 use Rattle.reader_forms.specs.Reading.{readingLength}
 use Rattle.reader_forms.specs.Settled.{readFrom}
-use Rattle.reader_names.specs.declared.NameText.{NameText}
-use Rattle.reader_names.specs.Text.{textGiven}
+use Rattle.reader_text.specs.declared.NameText.{NameText}
+use Rattle.reader_text.specs.Text.{textGiven}
 use Rattle.reply.specs.Reply.{Reply}
 use Rattle.demands.specs.Calls.{ReadReplyPromise, NameTextPromise}
 use Rattle.demands.specs.Derivation.{EveryReply}

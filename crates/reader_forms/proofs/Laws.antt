@@ -1,4 +1,2 @@
 pub mod Reading
-pub mod Response
-pub mod Ex
 pub mod Settled

@@ -1,4 +1,1 @@
 pub mod Ending
-pub mod Opening
-pub mod Response
-pub mod Ex

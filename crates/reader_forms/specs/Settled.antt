@@ -10,8 +10,8 @@ use Rattle.reader.specs.declared.field.Stretch.{Stretch}
 use Rattle.reader.specs.Reader as reader
 use Rattle.reader.specs.Reader.{readIn, readLength}
 use Rattle.reader_names.specs.declared.NameAt.{NameAt}
-use Rattle.reader_names.specs.declared.NameText.{NameText}
-use Rattle.reader_names.specs.Text.{nameText, nameTextAs, textGiven}
+use Rattle.reader_text.specs.declared.NameText.{NameText}
+use Rattle.reader_text.specs.Text.{nameText, nameTextAs, textGiven}
 use Rattle.reader_forms.specs.declared.reading.Nt40Fields.{Nt40Fields}
 use Rattle.reader_forms.specs.declared.reading.ResponseFields.{ResponseFields}
 use Rattle.reader_forms.specs.declared.reading.Address.{Address}

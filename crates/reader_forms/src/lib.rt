@@ -1,7 +1,3 @@
-// A received reply, read in its form: document 01, "Reading a reply".
+// What reading a received reply gives, and how every reply ends: document 01, "Reading a reply".
 pub mod ending;
-pub mod ex;
-pub mod opening;
-pub mod read;
 pub mod reading;
-pub mod response;

@@ -2,5 +2,4 @@ pub mod Look
 pub mod Step
 pub mod Label
 pub mod NameRead
-pub mod Text
 pub mod NamesRead

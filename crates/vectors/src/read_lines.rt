@@ -1,6 +1,6 @@
 // `read` lines: a received reply is read in a form, with version bits.
 ghost use mathlib.Core.Path.{_≡_};
-ghost use Rattle.reader_names.specs.Text.{textLength};
+ghost use Rattle.reader_text.specs.Text.{textLength};
 ghost use Rattle.reader_forms.specs.Reading.{readingNumber, readingLength};
 use crate::parse::decode;
 use crate::parse::is_octets;
@@ -16,7 +16,6 @@ use octets::number::wide;
 use octets::part::part;
 use octets::text::same_octets;
 use reader::field::Stretch;
-use reader_forms::read::read_reply;
 use reader_forms::reading::Address;
 use reader_forms::reading::ExFields;
 use reader_forms::reading::Fields;
@@ -25,8 +24,9 @@ use reader_forms::reading::Nt40Fields;
 use reader_forms::reading::Reading;
 use reader_forms::reading::ResponseFields;
 use reader_names::NameAt;
-use reader_names::TextLength;
-use reader_names::text::name_text;
+use reader_reply::read::read_reply;
+use reader_text::TextLength;
+use reader_text::text::name_text;
 
 // Version bits, as a word.
 const VERSION_DIGITS: usize = 8;

@@ -30,10 +30,10 @@ use Rattle.reader.specs.Name.{readName}
 use Rattle.reader.specs.Reader.{readIn}
 use Rattle.reader_forms.specs.declared.reading.Reading.the-variants as reading
 use Rattle.reader_forms.specs.Reading.{readingAs, readingLength, readingFields}
-use Rattle.reader_names.specs.declared.NameText.{NameText}
-use Rattle.reader_names.specs.declared.TextLength.{TextLength}
-use Rattle.reader_names.specs.declared.TextLength.the-variants as text
-use Rattle.reader_names.specs.Text.{nameText, textLengthAs, textLength}
+use Rattle.reader_text.specs.declared.NameText.{NameText}
+use Rattle.reader_text.specs.declared.TextLength.{TextLength}
+use Rattle.reader_text.specs.declared.TextLength.the-variants as text
+use Rattle.reader_text.specs.Text.{nameText, textLengthAs, textLength}
 use Rattle.table.specs.declared.Caller.{Caller}
 use Rattle.table.specs.Context.{Context}
 use Rattle.table.specs.Table.{Table}

@@ -26,7 +26,7 @@ use Rattle.reader.specs.Reader as reader
 use Rattle.reader.specs.Reader.{NameRead, joinedName, readConstant, readNumber, readNames, readOpcode, readOpening, readTokens, readNt40, readResponse, readAddress, hasNextSite, readLast, readEx, readIn, readLength}
 use Rattle.reader_names.specs.declared.NameAt.{NameAt}
 use Rattle.reader_names.specs.Name.{nameAs}
-use Rattle.reader_names.specs.Text.{nameText, nameTextAs, textOctets, textGiven}
+use Rattle.reader_text.specs.Text.{nameText, nameTextAs, textOctets, textGiven}
 use Rattle.reader_forms.specs.Reading.{noName, addressAs, nextSiteAs, fieldsAs, readingAs, readingLength}
 use Rattle.reader_forms.specs.Settled.{nameFrom, addressFrom, nextSiteFrom, fieldsFrom, readFrom, ReadingSettled}
 
