@@ -19,7 +19,7 @@ use Rattle.reader_forms.specs.declared.reading.Address.{Address}
 use Rattle.reader_forms.specs.declared.reading.NextSite.{NextSite}
 use Rattle.reader_forms.specs.declared.reading.ExFields.{ExFields}
 use Rattle.reader_ex.specs.declared.ex.Head.{Head}
-use Rattle.reader_ex.specs.declared.ex.Last.{Last}
+use Rattle.reader_last.specs.declared.last.Last.{Last}
 use Rattle.reader_forms.specs.Reading.{exAs, addressAs, nextSiteAs}
 use Rattle.reader_ex.specs.Internal.Ex.{HeadIs, nameOf, fieldsOf}
 

@@ -1,18 +1,14 @@
--- What the enums say that reading the parts of an EX returns.
+-- What the enum says that reading the front of an EX returns, and the fields that its parts make.
 use mathlib.Core.Path.{_≡_}
-use mathlib.Core.Bool.{Bool}
 use mathlib.Core.List.{List}
-use mathlib.Core.Option.{Option}
 use Prim.Native.Nat.{ℕ}
 use lib.ListN.{getD}
 use Rattle.answers.specs.Try.{refused, good}
 use Rattle.answers.specs.Wire.{exOpcodes, Sbz}
 use Rattle.octets.specs.Lists.{cut}
 use Rattle.octets.specs.Sid.{guidSize}
-use Rattle.reader.specs.declared.field.Stretch.{Stretch}
 use Rattle.reader.specs.Field.{readStretch}
-use Rattle.reader.specs.Reader as reader
-use Rattle.reader.specs.Reader.{readOpcode, readNumber, readConstant, readAddress, readLast, readEx}
+use Rattle.reader.specs.Reader.{readOpcode, readNumber, readConstant, readEx}
 use Rattle.reader_names.specs.declared.NameAt.{NameAt}
 use Rattle.reader_names.specs.Name.{nameAs}
 use Rattle.reader_forms.specs.declared.reading.Address.{Address}
@@ -20,12 +16,8 @@ use Rattle.reader_forms.specs.declared.reading.ExFields.{ExFields}
 use Rattle.reader_ex.specs.declared.ex.Head.{Head}
 use Rattle.reader_ex.specs.declared.ex.HeadRead.{HeadRead}
 use Rattle.reader_ex.specs.declared.ex.HeadRead.the-variants as head
-use Rattle.reader_ex.specs.declared.ex.AddressRead.{AddressRead}
-use Rattle.reader_ex.specs.declared.ex.AddressRead.the-variants as address
-use Rattle.reader_ex.specs.declared.ex.Last.{Last}
-use Rattle.reader_ex.specs.declared.ex.LastRead.{LastRead}
-use Rattle.reader_ex.specs.declared.ex.LastRead.the-variants as last
-use Rattle.reader_forms.specs.Reading.{noName, addressAs, nextSiteAs}
+use Rattle.reader_last.specs.declared.last.Last.{Last}
+use Rattle.reader_forms.specs.Reading.{noName}
 
 -- the opcode, the second number, the flags and the GUID, one after the other; a refusal is the whole reply's
 pub record HeadIs (s : List ℕ) (h : Head) : Type 0 where
@@ -40,15 +32,6 @@ pub record HeadIs (s : List ℕ) (h : Head) : Type 0 where
 abbrev pub HeadOf : List ℕ → HeadRead → Type 0
 HeadOf s (head.Head h) = HeadIs s h
 HeadOf s (head.Refused r) = (v : ℕ) → readEx v s ≡ refused r
-
-abbrev pub AddressOf : List ℕ → Bool → ℕ → AddressRead → Type 0
-AddressOf s asked at (address.Address a) = (o : Option Stretch) × (readAddress asked s at ≡ good (record { value = o; next = a .next })) × (a .address ≡ addressAs o)
-AddressOf s asked at (address.Refused r) = readAddress asked s at ≡ refused r
-
-abbrev pub LastOf : List ℕ → Bool → ℕ → ℕ → LastRead → Type 0
-LastOf s present v at (last.Last l) =
-    (given : reader.Last) × (readLast present v s at ≡ good (record { value = given; next = l .next })) × (l .«next_site» ≡ nextSiteAs (given .nextSite)) × (l .version ≡ given .version)
-LastOf s present v at (last.Refused r) = readLast present v s at ≡ refused r
 
 -- what an array of names has at a place
 abbrev pub nameOf : List NameAt → ℕ → NameAt

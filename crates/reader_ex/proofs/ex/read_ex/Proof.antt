@@ -11,11 +11,13 @@ use Rattle.reader_names.specs.Internal.NamesRead.{NamesAre}
 use Rattle.reader_forms.specs.declared.reading.ExFields.{ExFields}
 use Rattle.reader_forms.specs.declared.reading.Fields.the-variants.{Ex}
 use Rattle.reader_forms.specs.declared.reading.Reading.the-variants.{Read}
-use Rattle.reader_ex.specs.declared.ex.AddressRead.the-variants as address
-use Rattle.reader_ex.specs.declared.ex.LastRead.the-variants as last
+use Rattle.reader_last.specs.declared.address.AddressRead.the-variants as address
+use Rattle.reader_last.specs.declared.last.LastRead.the-variants as last
 use Rattle.reader_forms.specs.Reading.{readingAs}
 use Rattle.reader_forms.specs.Internal.Ending.{endingIn}
-use Rattle.reader_ex.specs.Internal.Ex.{HeadIs, HeadOf, AddressOf, LastOf}
+use Rattle.reader_ex.specs.Internal.Ex.{HeadIs, HeadOf}
+use Rattle.reader_last.specs.Internal.Address.{AddressOf}
+use Rattle.reader_last.specs.Internal.Last.{LastOf}
 use Rattle.reader_ex.proofs.Laws.Ex.{names-refused, address-refused, last-refused, said, parts-read, parts-said}
 use borrow.Author.Needs.{needs}
 use Rattle.reader_ex.proofs.ex.read_ex.Statement.{statement}

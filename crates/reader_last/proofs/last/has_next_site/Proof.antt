@@ -3,8 +3,8 @@ use native.Mathlib.Omega.{arith}
 use lib.ListN.{length}
 use Rattle.reader.specs.Reader.{hasNextSite}
 use borrow.Author.Needs.{needs}
-use Rattle.reader_ex.proofs.ex.has_next_site.Statement.{statement}
-use Rattle.reader_ex.proofs.ex.has_next_site.Tie as tie
+use Rattle.reader_last.proofs.last.has_next_site.Statement.{statement}
+use Rattle.reader_last.proofs.last.has_next_site.Tie as tie
 
 returns : tie.Need-returns
 unfolding hasNextSite

@@ -6,10 +6,10 @@ use Rattle.octets.specs.Lists.{cut}
 use Rattle.reader.specs.Reader.{readLast}
 use Rattle.reader.specs.Internal.Field.{fieldIn}
 use Rattle.reader.proofs.Laws.Field.{told}
-use Rattle.reader_ex.specs.Internal.Ex.{LastOf}
+use Rattle.reader_last.specs.Internal.Last.{LastOf}
 use borrow.Author.Needs.{needs}
-use Rattle.reader_ex.proofs.ex.read_last.Statement.{statement}
-use Rattle.reader_ex.proofs.ex.read_last.Tie as tie
+use Rattle.reader_last.proofs.last.read_last.Statement.{statement}
+use Rattle.reader_last.proofs.last.read_last.Tie as tie
 
 read-next-site-requires : tie.Need-read-next-site-requires
 read-next-site-requires c κs = search needs

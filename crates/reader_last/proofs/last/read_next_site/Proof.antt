@@ -9,8 +9,8 @@ use Rattle.reader_names.specs.declared.NameAt.{NameAt}
 use Rattle.reader_names.specs.Internal.NameRead.{NameOf}
 use Rattle.reader_forms.specs.declared.reading.NextSite.the-variants.{Name}
 use borrow.Author.Needs.{needs}
-use Rattle.reader_ex.proofs.ex.read_next_site.Statement.{statement}
-use Rattle.reader_ex.proofs.ex.read_next_site.Tie as tie
+use Rattle.reader_last.proofs.last.read_next_site.Statement.{statement}
+use Rattle.reader_last.proofs.last.read_next_site.Tie as tie
 
 read-name-requires : tie.Need-read-name-requires
 read-name-requires c κs = search needs

@@ -7,8 +7,8 @@ use Rattle.reader.specs.Reader.{readAddress}
 use Rattle.reader.specs.Internal.Field.{fieldIn}
 use Rattle.reader.proofs.Laws.Field.{told, stretch-told}
 use borrow.Author.Needs.{needs}
-use Rattle.reader_ex.proofs.ex.read_address.Statement.{statement}
-use Rattle.reader_ex.proofs.ex.read_address.Tie as tie
+use Rattle.reader_last.proofs.address.read_address.Statement.{statement}
+use Rattle.reader_last.proofs.address.read_address.Tie as tie
 
 returns : tie.Need-returns
 unfolding readAddress
