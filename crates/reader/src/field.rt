@@ -19,10 +19,6 @@ use octets::number::u32_at;
 use octets::part::part;
 use octets::text::same_octets;
 
-pub const GUID_SIZE: usize = 16;
-
-pub const IPV4_SIZE: usize = 4;
-
 // A stretch of the reply: where it starts, and how many octets it has.
 pub struct Stretch {
     pub start: usize,

@@ -4,6 +4,7 @@ ghost use mathlib.Core.Bool.{true};
 ghost use Rattle.reader.specs.Reader.{hasNextSite};
 ghost use Rattle.reader_last.specs.Internal.Last.{LastOf};
 use answers::Refusal;
+use answers::wire::ENDING_SIZE;
 use answers::wire::EX_VERSION;
 use answers::wire::EX_VERSION_WITH_NEXT_SITE;
 use answers::wire::NETLOGON_NT_VERSION_WITH_CLOSEST_SITE;
@@ -14,9 +15,6 @@ use reader::field::fixed_u32_at;
 use reader_forms::reading::NextSite;
 use reader_names::read::NameRead;
 use reader_names::read::read_name;
-
-// The version and the two tokens, which end every reply.
-const ENDING_SIZE: usize = 8;
 
 pub struct Last {
     pub next_site: NextSite,

@@ -36,16 +36,16 @@ names-many (nt40 f) r = refl
 names-many (response f) r = refl
 names-many (ex f) r = refl
 
-names-there : (f : Fields) (r : Reply) (k : ℕ) → k < length (namesOf (formRead f) r) → getD (namesRead (fieldsAs f)) k (nameAs noName) ≡ nameAs (getD (namesIn f) k noName)
-names-there (nt40 f) r k h = absurd (omega arith)
-names-there (response f) r k h = at-place (nameIn (f .names)) (nameAs noName) 3 k h ∙ List·getD-map nameAs (f .names) k noName
-names-there (ex f) r k h = at-place (nameIn (f .names)) (nameAs noName) 8 k h ∙ List·getD-map nameAs (f .names) k noName
+pub names-there : (f : Fields) (k : ℕ) → k < length (namesRead (fieldsAs f)) → getD (namesRead (fieldsAs f)) k (nameAs noName) ≡ nameAs (getD (namesIn f) k noName)
+names-there (nt40 f) k h = absurd (omega arith)
+names-there (response f) k h = at-place (nameIn (f .names)) (nameAs noName) 3 k h ∙ List·getD-map nameAs (f .names) k noName
+names-there (ex f) k h = at-place (nameIn (f .names)) (nameAs noName) 8 k h ∙ List·getD-map nameAs (f .names) k noName
 
 site-there : (o : Option NameRead) → siteRead (nextSiteAs o) ≡ Option·map nameAs o
 site-there none = refl
 site-there (some n) = refl
 
-last-there : (f : Fields) → lastRead (fieldsAs f) ≡ Option·map nameAs (lastIn f)
+pub last-there : (f : Fields) → lastRead (fieldsAs f) ≡ Option·map nameAs (lastIn f)
 last-there (nt40 f) = refl
 last-there (response f) = refl
 last-there (ex f) = site-there (f .nextSite)
@@ -64,13 +64,12 @@ reading-walked : (form : Form) (v : ℕ) (r : Reply) (s : List ℕ) → NamesWal
 reading-walked form v r s w given promise =
     let f : Fields = w .fields in
     let formed : formRead f ≡ form = only-good ForReply (λ f. formRead f ≡ form) (readIn form v s) f (reading-only ForReply refl refl refl refl refl form v s) (w .accepted) in
+    let many : length (namesRead (fieldsAs f)) ≡ length (namesOf form r) = subst (λ (x : Form). length (namesRead (fieldsAs f)) ≡ length (namesOf x r)) formed (names-many f r) in
     record {
       read = fieldsAs f;
       accepted = promise ∙ ap (readingAs s) (w .accepted);
-      many = subst (λ (x : Form). length (namesRead (fieldsAs f)) ≡ length (namesOf x r)) formed (names-many f r);
-      names =
-          λ k h.
-          rw (names-there f r k (subst (λ (x : Form). k < length (namesOf x r)) (sym formed) h)) (reported s (nameStart form s k) k _ _ (w .names k h));
+      many = many;
+      names = λ k h. rw (names-there f k (subst (λ (x : ℕ). k < x) (sym many) h)) (reported s (nameStart form s k) k _ _ (w .names k h));
       last = rw (last-there f) (last-reported s (lastStart v s) (lastOf form r) (lastIn f) (w .last));
     }
 
