@@ -12,11 +12,12 @@ use Rattle.reader_forms.specs.declared.reading.Fields.{Fields}
 use Rattle.reader_forms.specs.declared.reading.Fields.the-variants as fields
 use Rattle.reader_forms.specs.declared.reading.Reading.{Reading}
 use Rattle.reader_forms.specs.declared.reading.Reading.the-variants as reading
-use Rattle.reader_forms.specs.Reading.{noName}
+use Rattle.reader_forms.specs.Reading.{noName, ReadReplyPromise}
 use Rattle.reader_names.specs.declared.NameAt.{NameAt}
 use Rattle.reader_names.specs.Name.{nameAs}
+use Rattle.reader_text.specs.declared.NameText.{NameText}
+use Rattle.reader_text.specs.Text.{textGiven, NameTextPromise}
 use Rattle.reply.specs.Reply.{Reply}
-use Rattle.demands.specs.Calls.{ReadReplyPromise}
 use Rattle.demands.specs.Demand3.{namesOf, lastOf, NameWalked, WhereWritten}
 use Rattle.demands.specs.Derivation.{EveryReply}
 use Rattle.demands.specs.Places.{nameStart, lastStart}
@@ -38,12 +39,13 @@ lastRead (fields.Nt40 f) = none
 lastRead (fields.Response f) = none
 lastRead (fields.Ex f) = siteRead (f .«next_site»)
 
--- one name, at place k, with its first octet at `start` and its own octets `text`: walked, and as the reading has it
+-- one name, at place k, with its first octet at `start` and its own octets `text`: walked, as the reading has it, and as `name_text` gives it from there
 pub record NameReported (s : List ℕ) (start k : ℕ) (text : List ℕ) (given : NameAt) : Type 0 where
   pub walked : NameWalked s start k text
   pub placed : given .start ≡ start
   pub sized : given .len ≡ length text
   pub counted : given .pointers ≡ walked .name .pointers
+  pub told : (t : NameText) → NameTextPromise s start t → textGiven t ≡ text
 
 -- a reading of a reply r in its form, whose octets are s: it accepts the reply with its length, and every name is walked
 pub record ReadingWalked (form : Form) (v : ℕ) (r : Reply) (s : List ℕ) (len : ℕ) (given : Reading) : Type 0 where

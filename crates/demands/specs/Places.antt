@@ -12,25 +12,18 @@ use Rattle.names.specs.Walk.{lookAt, onLook}
 use Rattle.octets.specs.Number.{u16At, has}
 use Rattle.octets.specs.Sid.{guidSize}
 
--- the octets of a u16, which a unit of UTF-16 is too, and of a u32
-abbrev pub u16Size : ℕ
-u16Size = 2
-
-abbrev pub u32Size : ℕ
-u32Size = 4
-
--- where the field of a name at `at` ends, k labels further at most: after the first zero or pointer. Where there is neither there is no name, and no end to ask for
+-- where the field of a name at `at` ends, k steps at most: after the first zero or pointer. Where there is neither there is no name, and no end to ask for
 unfoldable pub fieldEndFrom : ℕ → List ℕ → ℕ → ℕ
 fieldEndFrom zero s at = at
-fieldEndFrom (suc k) s at = onLook (lookAt s at) (at + 1) (λ n. fieldEndFrom k s (at + 1 + n)) (λ t. at + u16Size) at at
+fieldEndFrom (suc k) s at = onLook (lookAt s at) (at + 1) (λ n. fieldEndFrom k s (at + 1 + n)) (λ t. at + 2) at at
 
 unfoldable pub fieldEnd : List ℕ → ℕ → ℕ
 fieldEnd s at = fieldEndFrom (length s) s at
 
--- where the field of a UTF-16 text at `at` ends, k units further at most: after the first zero unit
+-- where the field of a UTF-16 text at `at` ends, k units at most: after the first zero unit
 unfoldable pub textEndFrom : ℕ → List ℕ → ℕ → ℕ
 textEndFrom zero s at = at
-textEndFrom (suc k) s at = elim (eqb (u16At s at) 0) [ true ↦ at + u16Size | false ↦ textEndFrom k s (at + u16Size) ]
+textEndFrom (suc k) s at = elim (eqb (u16At s at) 0) [ true ↦ at + 2 | false ↦ textEndFrom k s (at + 2) ]
 
 unfoldable pub textEnd : List ℕ → ℕ → ℕ
 textEnd s at = textEndFrom (suc (length s)) s at
@@ -38,8 +31,8 @@ textEnd s at = textEndFrom (suc (length s)) s at
 -- the first octet of the names. NT40 has none; RESPONSE: after the opcode, three texts, the GUID and 16 zeros; EX: after the opcode, a u16, the flags and the GUID
 abbrev pub namesStart : Form → List ℕ → ℕ
 namesStart Nt40 s = length s
-namesStart Response s = textEnd s (textEnd s (textEnd s u16Size)) + guidSize + length NullGuid
-namesStart Ex s = u16Size + u16Size + u32Size + guidSize
+namesStart Response s = textEnd s (textEnd s (textEnd s 2)) + guidSize + length NullGuid
+namesStart Ex s = 2 + 2 + 4 + guidSize
 
 -- the first octet of the name at a place: the first name's, or where the field of the name before it ends
 unfoldable pub nameStart : Form → List ℕ → ℕ → ℕ

@@ -1,6 +1,5 @@
 // A UTF-16 text of a received reply, which ends in a zero unit.
 ghost use mathlib.Core.Path.{_≡_};
-ghost use Prim.Native.Nat.{_≤_};
 ghost use lib.ListN.{length};
 ghost use Rattle.reader.specs.Text.{unitOf, turn, readText};
 ghost use Rattle.reader.specs.Internal.Text.{textIn, unitStep, StepWithin};

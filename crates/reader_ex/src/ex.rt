@@ -30,7 +30,7 @@ use reader_last::last::LastRead;
 use reader_last::last::has_next_site;
 use reader_last::last::read_last;
 use reader_names::NameAt;
-use reader_names::list::NAMES_MOST;
+use reader_names::list::NAMES_IN_A_ROW;
 use reader_names::list::NamesEnd;
 use reader_names::list::read_names;
 
@@ -78,7 +78,7 @@ fn read_head(reply: &[u8]) -> HeadRead
 }
 
 // The names at their places.
-fn fields_of(head: Head, names: [NameAt; NAMES_MOST], ipv4: Address, last: Last) -> ExFields
+fn fields_of(head: Head, names: [NameAt; NAMES_IN_A_ROW], ipv4: Address, last: Last) -> ExFields
     ensures { λ r. ⌜ r ≡ fieldsOf head names ipv4 last ⌝ }
 {
     let guid = head.guid;
@@ -108,14 +108,14 @@ pub fn read_ex(reply: &[u8], version: u32) -> Reading
         HeadRead::Head(head) => head,
         HeadRead::Refused(refusal) => return Reading::Refused(refusal),
     };
-    let read = read_names(reply, head.next, NAMES_MOST);
+    let read = read_names(reply, head.next, NAMES_IN_A_ROW);
     let end = read.end;
     let after_names = match end {
         NamesEnd::Next(next) => next,
         NamesEnd::Refused(refusal) => return Reading::Refused(refusal),
     };
-    let asked = has_bits(version, NETLOGON_NT_VERSION_5EX_WITH_IP);
-    let ipv4 = match read_address(reply, asked, after_names) {
+    let with_address = has_bits(version, NETLOGON_NT_VERSION_5EX_WITH_IP);
+    let ipv4 = match read_address(reply, with_address, after_names) {
         AddressRead::Address(field) => field,
         AddressRead::Refused(refusal) => return Reading::Refused(refusal),
     };

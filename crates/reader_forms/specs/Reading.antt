@@ -1,4 +1,6 @@
 -- Document 01, "Reading a reply": what the reader gives, as the call returns it. A name is its first offset, the length of its text and its pointer count.
+use Rattle.answers.specs.declared.Form.{Form}
+use mathlib.Core.Path.{_≡_}
 use mathlib.Core.List.{List, [], map}
 use mathlib.Core.Option.{Option, none, some}
 use Prim.Native.Nat.{ℕ}
@@ -21,7 +23,7 @@ use Rattle.reader_forms.specs.declared.reading.Fields.the-variants as fi
 use Rattle.reader_forms.specs.declared.reading.Reading.{Reading}
 use Rattle.reader_forms.specs.declared.reading.Reading.the-variants as reading
 
--- what stands past the last name
+-- what stands past the last name, where no form has a place: a reading has 3 names or 8, as `ReadingSettled` implies
 abbrev pub noName : reader.NameRead
 noName = record { start = 0; text = []; pointers = 0 }
 
@@ -98,3 +100,7 @@ readingLength (reading.Refused r) = 0
 abbrev pub readingFields : Reading → Option Fields
 readingFields (reading.Read length fields) = some fields
 readingFields (reading.Refused r) = none
+
+-- what `read_reply` promises
+abbrev pub ReadReplyPromise : List ℕ → Form → ℕ → Reading → Type 0
+ReadReplyPromise reply form v r = r ≡ readingAs reply (reader.readIn form v reply)

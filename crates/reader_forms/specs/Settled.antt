@@ -3,7 +3,8 @@
 use mathlib.Core.Path.{_≡_}
 use mathlib.Core.List.{List, [], _∷_}
 use mathlib.Core.Option.{Option, none, some}
-use Prim.Native.Nat.{ℕ}
+use Prim.Native.Nat.{ℕ, _<_}
+use lib.ListN.{length}
 use Rattle.answers.specs.declared.Form.{Form}
 use Rattle.answers.specs.Try.{Try, refused, good}
 use Rattle.reader.specs.declared.field.Stretch.{Stretch}
@@ -11,7 +12,7 @@ use Rattle.reader.specs.Reader as reader
 use Rattle.reader.specs.Reader.{readIn, readLength}
 use Rattle.reader_names.specs.declared.NameAt.{NameAt}
 use Rattle.reader_text.specs.declared.NameText.{NameText}
-use Rattle.reader_text.specs.Text.{nameText, nameTextAs, textGiven}
+use Rattle.reader_text.specs.Text.{textGiven, NameTextPromise}
 use Rattle.reader_forms.specs.declared.reading.Nt40Fields.{Nt40Fields}
 use Rattle.reader_forms.specs.declared.reading.ResponseFields.{ResponseFields}
 use Rattle.reader_forms.specs.declared.reading.Address.{Address}
@@ -23,7 +24,7 @@ use Rattle.reader_forms.specs.declared.reading.Fields.{Fields}
 use Rattle.reader_forms.specs.declared.reading.Fields.the-variants as fields
 use Rattle.reader_forms.specs.declared.reading.Reading.{Reading}
 use Rattle.reader_forms.specs.declared.reading.Reading.the-variants as reading
-use Rattle.reader_forms.specs.Reading.{readingAs, readingLength}
+use Rattle.reader_forms.specs.Reading.{readingLength, ReadReplyPromise}
 
 -- a name with its text, by what the second call gives at each offset
 abbrev pub nameFrom : (ℕ → List ℕ) → NameAt → reader.NameRead
@@ -84,13 +85,13 @@ fieldsFrom text (fields.Response f) = reader.response (responseFrom text f)
 fieldsFrom text (fields.Ex f) = reader.ex (exFrom text f)
 
 abbrev pub readFrom : (ℕ → List ℕ) → Reading → Try reader.Fields
-readFrom text (reading.Read length fields) = good (fieldsFrom text fields)
+readFrom text (reading.Read len fields) = good (fieldsFrom text fields)
 readFrom text (reading.Refused r) = refused r
 
--- whatever octets, form and version: from what both calls promise, what document 01 says follows
+-- whatever octets, form and version: from what both calls promise, the second at offsets within the reply, what document 01 says follows
 abbrev pub ReadingSettled : Type 0
 ReadingSettled =
     (s : List ℕ) (form : Form) (v : ℕ) (reading : Reading) (texts : ℕ → NameText)
-    → reading ≡ readingAs s (readIn form v s)
-    → ((at : ℕ) → texts at ≡ nameTextAs (nameText s at))
+    → ReadReplyPromise s form v reading
+    → ((at : ℕ) → at < length s → NameTextPromise s at (texts at))
     → (readFrom (λ at. textGiven (texts at)) reading ≡ readIn form v s) × (readingLength reading ≡ readLength (readIn form v s) s)

@@ -38,8 +38,8 @@ pub fn has_next_site(reply: &[u8]) -> bool
 }
 
 // Name 8 and the version that goes with it: 34 where v lacks its bit.
-fn read_next_site(reply: &[u8], version: u32, at: usize) -> LastRead
-    ensures { λ r. ⌜ LastOf (now (reply .entry)) true version at r ⌝ }
+fn read_next_site(reply: &[u8], asked: u32, at: usize) -> LastRead
+    ensures { λ r. ⌜ LastOf (now (reply .entry)) true asked at r ⌝ }
 {
     let site = match read_name(reply, at) {
         NameRead::Name(field) => field,
@@ -49,7 +49,7 @@ fn read_next_site(reply: &[u8], version: u32, at: usize) -> LastRead
         FieldRead::Next(next) => next,
         FieldRead::Refused(refusal) => return LastRead::Refused(refusal),
     };
-    if !has_bits(version, NETLOGON_NT_VERSION_WITH_CLOSEST_SITE) {
+    if !has_bits(asked, NETLOGON_NT_VERSION_WITH_CLOSEST_SITE) {
         return LastRead::Refused(Refusal::ReplyFixed);
     }
     let name = site.name;
@@ -61,11 +61,11 @@ fn read_next_site(reply: &[u8], version: u32, at: usize) -> LastRead
 }
 
 // The version is judged again where it stands.
-pub fn read_last(reply: &[u8], present: bool, version: u32, at: usize) -> LastRead
-    ensures { λ r. ⌜ LastOf (now (reply .entry)) present version at r ⌝ }
+pub fn read_last(reply: &[u8], present: bool, asked: u32, at: usize) -> LastRead
+    ensures { λ r. ⌜ LastOf (now (reply .entry)) present asked at r ⌝ }
 {
     if present {
-        return read_next_site(reply, version, at);
+        return read_next_site(reply, asked, at);
     }
     match fixed_u32_at(reply, at, EX_VERSION) {
         FieldRead::Next(next) => LastRead::Last(Last {

@@ -1,5 +1,4 @@
 // Names of a received reply one after the other.
-ghost use mathlib.Core.Path.{_≡_};
 ghost use Prim.Native.Nat.{_≤_};
 ghost use Rattle.reader_names.specs.Internal.NamesRead.{NamesOf};
 use crate::NameAt;
@@ -7,8 +6,8 @@ use crate::read::NameRead;
 use crate::read::read_name;
 use answers::Refusal;
 
-// The most names that stand one after the other.
-pub const NAMES_MOST: usize = 8;
+// The most names that stand one after the other: name 8 comes after the address.
+pub const NAMES_IN_A_ROW: usize = 8;
 
 // Where the field after the names starts, or why one of them is none.
 pub enum NamesEnd {
@@ -18,7 +17,7 @@ pub enum NamesEnd {
 
 // As many names as were asked for, at their places; where one is refused, they say nothing.
 pub struct NamesRead {
-    pub names: [NameAt; NAMES_MOST],
+    pub names: [NameAt; NAMES_IN_A_ROW],
     pub end: NamesEnd,
 }
 
@@ -30,7 +29,7 @@ pub fn read_names(reply: &[u8], start: usize, count: usize) -> NamesRead
         start: 0,
         len: 0,
         pointers: 0,
-    }; NAMES_MOST];
+    }; NAMES_IN_A_ROW];
     let mut next = start;
     let mut i = 0;
     while i < count {

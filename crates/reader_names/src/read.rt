@@ -29,7 +29,7 @@ fn field_end(pointers: usize, before: usize, here: usize) -> usize
     before
 }
 
-// At most 16 pointers and 255 octets are read, whatever the reply.
+// At most 16 pointers are followed, and 255 octets written out: a bound that no reply moves.
 pub fn read_name(reply: &[u8], start: usize) -> NameRead
     ensures { λ r. ⌜ NameOf (now (reply .entry)) start r ⌝ }
 {

@@ -9,7 +9,7 @@ use crate::look::look_at;
 use answers::Refusal;
 
 // The most octets of a name written out, its final zero counted.
-const WRITTEN_MOST: usize = 255;
+pub const WRITTEN_MOST: usize = 255;
 
 const POINTERS_MOST: usize = 16;
 

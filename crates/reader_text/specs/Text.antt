@@ -1,4 +1,5 @@
 -- Document 01, "Reading a reply": "a name comes as its labels joined by dots". The octets of the name that starts at an offset, as the call returns them.
+use mathlib.Core.Path.{_≡_}
 use mathlib.Core.List.{List, []}
 use Prim.Native.Nat.{ℕ}
 use lib.ListN.{length, take, replicate}
@@ -6,8 +7,7 @@ use Rattle.answers.specs.Refusal.{number}
 use Rattle.answers.specs.Try.{Try, refused, good, _>>=_}
 use Rattle.octets.specs.Buffer.{over}
 use Rattle.octets.specs.Label.{joined}
-use Rattle.octets.specs.NameRule.{dnsNameMost}
-use Rattle.reader.specs.Name.{readName}
+use Rattle.reader.specs.Name.{textMost, readName}
 use Rattle.reader_text.specs.declared.NameText.{NameText}
 use Rattle.reader_text.specs.declared.TextLength.{TextLength}
 use Rattle.reader_text.specs.declared.TextLength.the-variants.{Octets, Refused}
@@ -28,7 +28,7 @@ textOctets (good text) = text
 
 -- as the call returns it: the octets at the front of room for the longest name, zeros after them
 abbrev pub nameTextAs : Try (List ℕ) → NameText
-nameTextAs t = record { len = textLengthAs t; octets = over (textOctets t) (replicate dnsNameMost 0) }
+nameTextAs t = record { len = textLengthAs t; octets = over (textOctets t) (replicate textMost 0) }
 
 -- document 01's values of it: its number, its length, and the octets that it gives
 abbrev pub textNumber : TextLength → ℕ
@@ -41,3 +41,7 @@ textLength (Refused r) = 0
 
 abbrev pub textGiven : NameText → List ℕ
 textGiven t = take (textLength (t .len)) (t .octets)
+
+-- what `name_text` promises
+abbrev pub NameTextPromise : List ℕ → ℕ → NameText → Type 0
+NameTextPromise reply start r = r ≡ nameTextAs (nameText reply start)

@@ -1,12 +1,12 @@
 // The texts of names of a received reply: document 01, "Reading a reply".
 use answers::Refusal;
-use octets::name_rule::DNS_NAME_MOST;
+use reader_names::step::WRITTEN_MOST;
 
 pub mod label;
 pub mod text;
 
-// How many octets a name's text can have: 255 written out, less its first length octet and the final zero.
-pub const TEXT_MOST: usize = DNS_NAME_MOST;
+// How many octets a name's text can have: it lacks the first length octet and the final zero of the name written out.
+pub const TEXT_MOST: usize = WRITTEN_MOST - 2;
 
 // How many octets a name's text has, or why there is no name.
 pub enum TextLength {

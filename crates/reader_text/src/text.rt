@@ -1,6 +1,5 @@
 // The text of a name of a received reply, from its first offset: its labels joined by dots.
-ghost use mathlib.Core.Path.{_≡_};
-ghost use Rattle.reader_text.specs.Text.{nameText, nameTextAs};
+ghost use Rattle.reader_text.specs.Text.{NameTextPromise};
 use crate::NameText;
 use crate::TEXT_MOST;
 use crate::TextLength;
@@ -12,7 +11,7 @@ use reader_names::step::text_len;
 
 // Any offset may be asked for; where the reader accepts no name, its refusal is given, and no octets.
 pub fn name_text(reply: &[u8], start: usize) -> NameText
-    ensures { λ r. ⌜ r ≡ nameTextAs (nameText (now (reply .entry)) start) ⌝ }
+    ensures { λ r. ⌜ NameTextPromise (now (reply .entry)) start r ⌝ }
 {
     let mut octets = [0; TEXT_MOST];
     let mut run = start;

@@ -3,6 +3,7 @@ ghost use mathlib.Core.Path.{_≡_};
 ghost use Rattle.reader_text.specs.Text.{textLength};
 ghost use Rattle.reader_forms.specs.Reading.{readingNumber, readingLength};
 use crate::parse::decode;
+use crate::parse::is_four_octets;
 use crate::parse::is_octets;
 use crate::parse::word;
 use crate::say::say;
@@ -28,9 +29,6 @@ use reader_reply::read::read_reply;
 use reader_text::TextLength;
 use reader_text::text::name_text;
 
-// Version bits, as a word.
-const VERSION_DIGITS: usize = 8;
-
 enum FormWord {
     Bad,
     Form(Form),
@@ -47,13 +45,6 @@ fn form_of(text: &[u8]) -> FormWord {
         return FormWord::Form(Form::Ex);
     }
     FormWord::Bad
-}
-
-fn is_version(text: &[u8]) -> bool {
-    if text.len() != VERSION_DIGITS {
-        return false;
-    }
-    is_octets(text)
 }
 
 // The digits of version bits have the most significant first.
@@ -236,7 +227,7 @@ pub fn answer_read(line: &[u8], space: &mut [u8]) {
     };
     let bits = word(line, 2);
     let text = word(line, 3);
-    if !is_version(bits) {
+    if !is_four_octets(bits) {
         say_unknown();
         return;
     }

@@ -67,7 +67,7 @@ fn walk_step(reply: &[u8], run: usize, at: usize) -> WalkStep
     }
 }
 
-// Whether the walk finds a name, and how many pointers and labels it has.
+// Whether the walk finds a name, and how many pointers and labels it has. The sums may wrap, so that no bound has to be proved; no line is so long.
 fn walk_from(reply: &[u8], start: usize) -> Found {
     let mut run = start;
     let mut at = start;

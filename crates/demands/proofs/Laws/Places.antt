@@ -23,7 +23,7 @@ use Rattle.reader.specs.declared.text.Unit16.the-variants.{Ends, Plain, High, L
 use Rattle.reader.specs.Text.{unitOf, turn, onTurn, readTextFrom, readText}
 use Rattle.reader.specs.Reader.{Opening, readOpcode, readOpening}
 use Rattle.reader.proofs.Laws.Reader.{NamesRow}
-use Rattle.demands.specs.Places.{u16Size, fieldEndFrom, fieldEnd, textEndFrom, textEnd, namesStart, nameStart}
+use Rattle.demands.specs.Places.{fieldEndFrom, fieldEnd, textEndFrom, textEnd, namesStart, nameStart}
 
 -- ---- names
 
@@ -84,7 +84,7 @@ text-from (suc k) s start at afterHigh f e =
     by : (h end p q : Bool)
         → onTurn (turn h (cond end Ends (cond p High (cond q Low Plain)))) (good (record { value = record { start = start; len = at - start }; next = at + 2 })) (λ g. readTextFrom k s start (at + 2) g) ≡ good f
         → ((g : Bool) → readTextFrom k s start (at + 2) g ≡ good f → textEndFrom k s (at + 2) ≡ f .next)
-        → elim end as (λ b. ℕ) [ true ↦ at + u16Size | false ↦ textEndFrom k s (at + u16Size) ] ≡ f .next
+        → elim end as (λ b. ℕ) [ true ↦ at + 2 | false ↦ textEndFrom k s (at + 2) ] ≡ f .next
     by false true p q e deeper = cc
     by true true p q e deeper = absurd (refused-not-good ReplyText f e)
     by false false true q e deeper = deeper true e
@@ -99,7 +99,7 @@ unfolding readText textEnd
 text-ends s at f e = text-from (suc (length s)) s at at false f e
 
 -- the opcode and the three texts of the older forms
-opcode-next : (s : List ℕ) (f : Read ℕ) → readOpcode olderOpcodes s ≡ good f → u16Size ≡ f .next
+opcode-next : (s : List ℕ) (f : Read ℕ) → readOpcode olderOpcodes s ≡ good f → 2 ≡ f .next
 unfolding readOpcode
 opcode-next s f e =
     let o = good-then (readOctets s 0 2) _ f e in
@@ -111,10 +111,10 @@ then-read : {A B C : Type 0} (t : Try (Read A)) (end : ℕ) → ((f : Read A) �
     → ((f : Read A) → end ≡ f .next → rest f ≡ good b → C) → C
 then-read t end left rest b e goal = let f = good-then t rest b e in goal (f .0) (left (f .0) (f .1)) (f .2)
 
-pub opening-ends : (s : List ℕ) (o : Read Opening) → readOpening s ≡ good o → textEnd s (textEnd s (textEnd s u16Size)) ≡ o .next
+pub opening-ends : (s : List ℕ) (o : Read Opening) → readOpening s ≡ good o → textEnd s (textEnd s (textEnd s 2)) ≡ o .next
 unfolding readOpening
 opening-ends s o e =
-    then-read (readOpcode olderOpcodes s) u16Size (opcode-next s) _ o e (λ code c e.
+    then-read (readOpcode olderOpcodes s) 2 (opcode-next s) _ o e (λ code c e.
     then-read (readText s (code .next)) (textEnd s (code .next)) (text-ends s (code .next)) _ o e (λ server a e.
     then-read (readText s (server .next)) (textEnd s (server .next)) (text-ends s (server .next)) _ o e (λ user u e.
     then-read (readText s (user .next)) (textEnd s (user .next)) (text-ends s (user .next)) _ o e (λ domain d e.

@@ -1,15 +1,15 @@
 -- What the reader accepts as a name is the walk's, so every name of a reading is.
 use mathlib.Core.Path.{_≡_, refl, sym, ap, _∙_, subst}
-use mathlib.Core.List.{List, [], _∷_}
+use mathlib.Core.List.{List}
 use mathlib.Core.Option.{Option, none, some, Option·map}
-use Prim.Native.Nat.{ℕ, zero, suc, _<_}
+use Prim.Native.Nat.{ℕ, _<_}
 use native.Mathlib.Omega.{arith}
 use lib.ListN.{length, getD}
 use Rattle.answers.specs.declared.Form.{Form}
 use Rattle.answers.specs.Try.{Try, refused, good}
-use Rattle.names.specs.Walk.{WalkedName, walk}
+use Rattle.names.specs.Walk.{WalkedName}
 use Rattle.octets.specs.Label.{joined}
-use Rattle.octets.proofs.Laws.Lists.{Every, none-not-some}
+use Rattle.octets.proofs.Laws.Lists.{every-at, none-not-some}
 use Rattle.reader.specs.Field.{Read}
 use Rattle.reader.specs.Name.{readName}
 use Rattle.reader.specs.Reader as reader
@@ -21,15 +21,13 @@ use Rattle.reader_forms.specs.Reading.{noName, fieldsAs, readingAs}
 use Rattle.reader_forms.proofs.Laws.Names.{SiteHas, AllHave, all-have}
 use Rattle.reader_names.specs.declared.NameAt.{NameAt}
 use Rattle.reader_names.specs.Name.{nameAs}
+use Rattle.reader_text.specs.declared.NameText.{NameText}
+use Rattle.reader_text.specs.Text.{nameTextAs, textGiven}
+use Rattle.reader_text.proofs.Laws.Text.{given-text}
 use Rattle.demands.specs.Demand3.{namesIn, lastIn}
 use Rattle.demands.specs.Demand3Calls.{namesRead, lastRead}
 use Rattle.demands.specs.ReadingWalks.{NameIsWalk, ReadingWalks}
-use Rattle.demands.proofs.Laws.Demand3Calls.{names-there, last-there}
-
-every-at : {A : Type 0} (P : A → Type 0) (xs : List A) (k : ℕ) (d : A) → Every P xs → k < length xs → P (getD xs k d)
-every-at P [] k d e h = absurd (omega arith)
-every-at P (x ∷ xs) zero d e h = e .0
-every-at P (x ∷ xs) (suc k) d e h = every-at P xs k d (e .1) (omega arith)
+use Rattle.demands.proofs.Laws.Demand3Calls.{names-there, last-there, name-spelt, spelt-given}
 
 module _ (s : List ℕ) where
   -- a name that the definition gives, as the call gives it
@@ -37,7 +35,17 @@ module _ (s : List ℕ) where
   IsWalk n = NameIsWalk s (nameAs n)
 
   name-is-walk : (at : ℕ) (f : Read WalkedName) → readName s at ≡ good f → IsWalk (joinedName at (f .value))
-  name-is-walk at f e = record { name = f .value; found = reader-walks s at f e; sized = refl; counted = refl }
+  name-is-walk at f e =
+      record {
+        name = f .value;
+        found = reader-walks s at f e;
+        sized = refl;
+        counted = refl;
+        told =
+            λ t p.
+            let z : t ≡ nameTextAs (good (joined (f .value .labels))) = spelt-given s at (joined (f .value .labels)) (name-spelt s at f e) t p in
+            (ap (λ (x : NameText). x .len) z, ap textGiven z ∙ given-text (good (joined (f .value .labels))));
+      }
 
   names-walk : (f : reader.Fields) → AllHave s IsWalk name-is-walk f → (k : ℕ) → k < length (namesRead (fieldsAs f)) → IsWalk (getD (namesIn f) k noName)
   names-walk (reader.nt40 f) a k h = absurd (omega arith)

@@ -11,7 +11,6 @@ use Rattle.octets.proofs.Laws.Lists.{cut-after}
 use Rattle.octets.proofs.Laws.Text.{same-self}
 use Rattle.reader.specs.declared.field.FieldRead.{FieldRead}
 use Rattle.reader.specs.declared.field.FieldRead.the-variants as field
-use Rattle.reader.specs.declared.field.Stretch.{Stretch}
 use Rattle.reader.specs.Field.{readOctets, readStretch, readFixed}
 use Rattle.reader.specs.Internal.Field.{fieldIn}
 

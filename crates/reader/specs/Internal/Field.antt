@@ -1,6 +1,5 @@
 -- What the enums say that reading a field returns.
 use mathlib.Core.Path.{_≡_}
-use mathlib.Core.List.{List}
 use Prim.Native.Nat.{ℕ, _+_, _≤_}
 use Rattle.answers.specs.Try.{Try, refused, good}
 use Rattle.reader.specs.Field.{Read}

@@ -21,7 +21,7 @@ use Rattle.reader_forms.specs.declared.reading.ExFields.{ExFields}
 use Rattle.reader_ex.specs.declared.ex.Head.{Head}
 use Rattle.reader_last.specs.declared.last.Last.{Last}
 use Rattle.reader_forms.specs.Reading.{exAs, addressAs, nextSiteAs}
-use Rattle.reader_ex.specs.Internal.Ex.{HeadIs, nameOf, fieldsOf}
+use Rattle.reader_ex.specs.Internal.Ex.{HeadIs, fieldsOf}
 
 -- a refusal of each part, once those before it were read
 module _ {s : List ℕ} (v : ℕ) {h : Head} (i : HeadIs s h) where

@@ -2,34 +2,27 @@
 use mathlib.Core.Path.{_≡_, refl, sym, ap, _∙_, subst}
 use mathlib.Core.List.{List, [], _∷_, map}
 use mathlib.Core.Option.{Option, none, some}
-use Prim.Native.Nat.{ℕ, zero, suc, _+_}
+use Prim.Native.Nat.{ℕ, zero, suc, _+_, _<_}
 use native.Mathlib.Omega.{arith}
-use lib.ListN.{length, take, drop, getD, replicate}
-use lib.Seq.{drop-cons, drop-length, take-append-seam}
+use lib.ListN.{length, drop, getD}
+use lib.Seq.{drop-cons, drop-length}
 use Rattle.answers.specs.declared.Form.{Form}
 use Rattle.answers.specs.Try.{Try, refused, good}
 use Rattle.names.specs.Walk.{WalkedName}
-use Rattle.octets.specs.Buffer.{over}
-use Rattle.octets.specs.NameRule.{dnsNameMost}
+use Rattle.names.proofs.Laws.Walk.{walk-inside, walk-found}
 use Rattle.octets.proofs.Laws.Lists.{Every}
 use Rattle.reader.specs.declared.field.Stretch.{Stretch}
 use Rattle.reader.specs.Field.{Read}
 use Rattle.reader.specs.Name.{readName}
 use Rattle.reader.specs.Reader as reader
+use Rattle.reader.proofs.Laws.Name.{reader-walks}
 use Rattle.reader.specs.Reader.{NameRead, joinedName, readIn, readLength}
-use Rattle.reader_names.specs.declared.NameAt.{NameAt}
 use Rattle.reader_names.specs.Name.{nameAs}
-use Rattle.reader_text.specs.Text.{nameText, nameTextAs, textOctets, textGiven}
+use Rattle.reader_text.specs.Text.{nameText, textOctets, textGiven}
+use Rattle.reader_text.proofs.Laws.Text.{given-text}
 use Rattle.reader_forms.specs.Reading.{noName, addressAs, nextSiteAs, fieldsAs, readingAs, readingLength}
 use Rattle.reader_forms.specs.Settled.{nameFrom, addressFrom, nextSiteFrom, fieldsFrom, readFrom, ReadingSettled}
 use Rattle.reader_forms.proofs.Laws.Names.{SiteHas, AllHave, all-have}
-
--- ---- the octets that the second call gives
-
-given-text : (t : Try (List ℕ)) → textGiven (nameTextAs t) ≡ textOctets t
-unfolding over
-given-text (refused r) = refl
-given-text (good text) = take-append-seam text (drop (length text) (replicate dnsNameMost 0))
 
 -- ---- a list as its elements one by one
 
@@ -43,14 +36,14 @@ spelled-rest (suc n) j l d e = ap (λ (x : List _). getD l j d ∷ x) (spelled-r
 
 -- ---- names
 
-module _ (s : List ℕ) (text : ℕ → List ℕ) (gives : (at : ℕ) → text at ≡ textOctets (nameText s at)) where
+module _ (s : List ℕ) (text : ℕ → List ℕ) (gives : (at : ℕ) → at < length s → text at ≡ textOctets (nameText s at)) where
   -- a name whose text the second call gives from its first offset
   abbrev Told : NameRead → Type 0
   Told n = text (n .start) ≡ n .text
 
   name-told : (at : ℕ) (f : Read WalkedName) → readName s at ≡ good f → Told (joinedName at (f .value))
   unfolding nameText
-  name-told at f e = gives at ∙ rw e
+  name-told at f e = gives at (walk-inside (walk-found s at (f .value) (reader-walks s at f e) .1)) ∙ rw e
 
   -- a name is back with its text
   name-back : (n : NameRead) → Told n → nameFrom text (nameAs n) ≡ n
@@ -111,6 +104,6 @@ module _ (s : List ℕ) (text : ℕ → List ℕ) (gives : (at : ℕ) → text a
 pub reading-settled : ReadingSettled
 reading-settled s form v r texts e gives =
     let text : ℕ → List ℕ = λ at. textGiven (texts at) in
-    let told : (at : ℕ) → text at ≡ textOctets (nameText s at) = λ at. ap textGiven (gives at) ∙ given-text (nameText s at) in
+    let told : (at : ℕ) → at < length s → text at ≡ textOctets (nameText s at) = λ at h. ap textGiven (gives at h) ∙ given-text (nameText s at) in
     let back = reading-back s text told form v (readIn form v s) refl in
     (ap (readFrom text) e ∙ back .0, ap readingLength e ∙ back .1)

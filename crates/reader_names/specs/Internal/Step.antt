@@ -6,7 +6,7 @@ use lib.Dec.{eqb, ltb}
 use lib.ListN.{length}
 use Rattle.answers.specs.declared.Refusal.the-variants.{ReplyText}
 use Rattle.names.specs.Walk.{lookAt, onLook}
-use Rattle.reader.specs.Name.{cutAfter}
+use Rattle.reader.specs.Name.{writtenMost, pointersMost, cutAfter}
 use Rattle.reader_names.specs.declared.step.NameStep.{NameStep}
 use Rattle.reader_names.specs.declared.step.NameStep.the-variants.{Ends, Label, Pointer, Refused}
 
@@ -16,11 +16,11 @@ stepIf false a b = b
 
 -- at a length octet n
 unfoldable pub labelStep : List ℕ → ℕ → ℕ → ℕ → ℕ → NameStep
-labelStep s at spent pointers n = stepIf (ltb 255 (spent + 1 + n + 1)) (Refused ReplyText) (stepIf (ltb (length s) (at + 1 + n)) (Refused (cutAfter pointers)) (Label n))
+labelStep s at spent pointers n = stepIf (ltb writtenMost (spent + 1 + n + 1)) (Refused ReplyText) (stepIf (ltb (length s) (at + 1 + n)) (Refused (cutAfter pointers)) (Label n))
 
 -- at a pointer to t
 unfoldable pub pointerStep : ℕ → ℕ → ℕ → NameStep
-pointerStep run pointers t = stepIf (not (ltb t run) || eqb pointers 16) (Refused ReplyText) (Pointer t)
+pointerStep run pointers t = stepIf (not (ltb t run) || eqb pointers pointersMost) (Refused ReplyText) (Pointer t)
 
 unfoldable pub nameStep : List ℕ → ℕ → ℕ → ℕ → ℕ → NameStep
 nameStep s run at spent pointers = onLook (lookAt s at) Ends (labelStep s at spent pointers) (pointerStep run pointers) (Refused (cutAfter pointers)) (Refused ReplyText)

@@ -1,9 +1,10 @@
 -- The text of a name, put down label by label while the name is read.
-use mathlib.Core.Path.{_≡_, refl, sym, ap, _∙_, subst}
+use mathlib.Core.Path.{_≡_, refl, sym, ap, subst}
 use mathlib.Core.List.{List, [], _∷_, _++_}
-use Prim.Native.Nat.{ℕ, _+_, _-_, _≤_}
+use Prim.Native.Nat.{ℕ, _+_, _-_}
 use native.Mathlib.Omega.{arith}
-use lib.ListN.{length, replicate, length-replicate}
+use lib.ListN.{length, replicate, length-replicate, drop}
+use lib.Seq.{take-append-seam}
 use Rattle.answers.specs.declared.Refusal.{Refusal}
 use Rattle.answers.specs.Try.{Try, refused, good, _>>=_}
 use Rattle.lent.specs.Internal.OverAt.{overAt}
@@ -13,10 +14,9 @@ use Rattle.octets.specs.Buffer.{over}
 use Rattle.octets.specs.Label.{joined}
 use Rattle.octets.proofs.Laws.Lists.{cut-length}
 use Rattle.reader.specs.Field.{Read}
-use Rattle.reader_text.specs.declared.NameText.{NameText}
 use Rattle.reader_text.specs.declared.TextLength.the-variants.{Octets, Refused}
 use Rattle.reader_names.specs.declared.step.NameStep.the-variants as step
-use Rattle.reader_text.specs.Text.{nameText, nameTextAs}
+use Rattle.reader_text.specs.Text.{nameText, textOctets, nameTextAs, textGiven}
 use Rattle.reader_text.specs.Internal.Label.{dotted}
 use Rattle.reader_names.specs.Internal.Step.{nameStep, StepWithin}
 use Rattle.reader_names.proofs.Laws.Label.{joined-length}
@@ -25,6 +25,12 @@ use Rattle.reader_names.proofs.Laws.NameRead.{NameLeft, name-start, name-ends, 
 
 abbrev pub blank : List ℕ
 blank = replicate 253 0
+
+-- the octets that the call gives are the text's
+pub given-text : (t : Try (List ℕ)) → textGiven (nameTextAs t) ≡ textOctets t
+unfolding over
+given-text (refused r) = refl
+given-text (good text) = take-append-seam text (drop (length text) blank)
 
 module _ (s : List ℕ) (start : ℕ) where
   -- the reading goes on at an offset, and the labels read so far stand joined in the room for the text

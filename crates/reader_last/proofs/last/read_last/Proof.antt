@@ -1,5 +1,5 @@
-use mathlib.Core.Path.{_≡_, refl, sym, subst}
-use mathlib.Core.Bool.{Bool, false}
+use mathlib.Core.Path.{refl, sym, subst}
+use mathlib.Core.Bool.{Bool}
 use mathlib.Core.Option.{none}
 use Rattle.answers.specs.Wire.{exVersion}
 use Rattle.octets.specs.Lists.{cut}
@@ -17,7 +17,7 @@ read-next-site-requires c κs = search needs
 returns : tie.Need-returns
 returns c =
     let a = c .before .before .before .args in
-    subst (λ (b : Bool). LastOf (a .reply .now) b (a .version) (a .at) (c .read-next-site .result)) (sym (c .before .if1 .taken)) (c .read-next-site .ensures)
+    subst (λ (b : Bool). LastOf (a .reply .now) b (a .asked) (a .at) (c .read-next-site .result)) (sym (c .before .if1 .taken)) (c .read-next-site .ensures)
 
 fixed-u32-at-requires : tie.Need-fixed-u32-at-requires
 fixed-u32-at-requires c κs = search needs

@@ -1,8 +1,7 @@
-use mathlib.Core.Path.{_≡_, refl, sym, _∙_, subst}
+use mathlib.Core.Path.{_≡_, sym, subst}
 use Prim.Native.Nat.{ℕ}
-use native.Mathlib.Omega.{arith}
 use lib.ListN.{length}
-use Rattle.names.specs.Walk.{lookAt, end, label, pointer, missing, reserved}
+use Rattle.names.specs.Walk.{lookAt, end, label, pointer}
 use Rattle.names.proofs.Laws.Walk.{seen}
 use Rattle.reader.proofs.Laws.Field.{told}
 use Rattle.reader_names.specs.Internal.Look.{lookIn}

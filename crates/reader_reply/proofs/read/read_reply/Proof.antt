@@ -1,7 +1,3 @@
-use mathlib.Core.Path.{sym, ap, _∙_}
-use Rattle.answers.specs.declared.Form.{Form}
-use Rattle.reader.specs.Reader.{readIn}
-use Rattle.reader_forms.specs.Reading.{readingAs}
 use borrow.Author.Needs.{needs}
 use Rattle.reader_reply.proofs.read.read_reply.Statement.{statement}
 use Rattle.reader_reply.proofs.read.read_reply.Tie as tie
