@@ -20,7 +20,7 @@ use filter_read::ping::PingRead;
 use filter_read::ping::read_ping;
 use locator::Answer;
 use locator::ping::answer_ping;
-use reader_forms::reading::Reading;
+use reader_forms::reading::reading_number;
 use reader_reply::read::read_reply;
 use reader_text::text::name_text;
 use table::Caller;
@@ -86,18 +86,6 @@ pub extern "C" fn bench_pass(octets: &[u8]) -> u32
 {
     let check = check_of(octets);
     check.b
-}
-
-fn reading_number(reading: Reading) -> u8
-    ensures { λ r. ⌜ r ≡ readingNumber reading ⌝ }
-{
-    match reading {
-        Reading::Read {
-            length: _,
-            fields: _,
-        } => 0,
-        Reading::Refused(r) => number_of(r),
-    }
 }
 
 // The number that reading a reply in each form gives.

@@ -1,5 +1,8 @@
 // What reading a reply gives, by value: numbers, stretches of the reply, and names by their first offsets.
+ghost use mathlib.Core.Path.{_≡_};
+ghost use Rattle.reader_forms.specs.Reading.{readingNumber};
 use answers::Refusal;
+use answers::number_of;
 use reader::field::Stretch;
 use reader_names::NameAt;
 
@@ -65,4 +68,17 @@ pub enum Fields {
 pub enum Reading {
     Read { length: usize, fields: Fields },
     Refused(Refusal),
+}
+
+// Document 01's number of a reading.
+pub fn reading_number(reading: Reading) -> u8
+    ensures { λ r. ⌜ r ≡ readingNumber reading ⌝ }
+{
+    match reading {
+        Reading::Read {
+            length: _,
+            fields: _,
+        } => 0,
+        Reading::Refused(r) => number_of(r),
+    }
 }

@@ -1,7 +1,7 @@
 // `read` lines: a received reply is read in a form, with version bits.
 ghost use mathlib.Core.Path.{_≡_};
 ghost use Rattle.reader_text.specs.Text.{textLength};
-ghost use Rattle.reader_forms.specs.Reading.{readingNumber, readingLength};
+ghost use Rattle.reader_forms.specs.Reading.{readingLength};
 use crate::parse::decode;
 use crate::parse::is_four_octets;
 use crate::parse::is_octets;
@@ -12,7 +12,6 @@ use crate::say::say_hex;
 use crate::say::say_number;
 use crate::say::say_unknown;
 use answers::Form;
-use answers::number_of;
 use octets::number::wide;
 use octets::part::part;
 use octets::text::same_octets;
@@ -24,6 +23,7 @@ use reader_forms::reading::NextSite;
 use reader_forms::reading::Nt40Fields;
 use reader_forms::reading::Reading;
 use reader_forms::reading::ResponseFields;
+use reader_forms::reading::reading_number;
 use reader_names::NameAt;
 use reader_reply::read::read_reply;
 use reader_text::TextLength;
@@ -52,18 +52,6 @@ fn version_of(text: &[u8]) -> u32 {
     let mut octets = [0u8; 4];
     decode(text, &mut octets);
     wide(octets[0]) * 16777216 + wide(octets[1]) * 65536 + wide(octets[2]) * 256 + wide(octets[3])
-}
-
-fn reading_number(reading: Reading) -> u8
-    ensures { λ r. ⌜ r ≡ readingNumber reading ⌝ }
-{
-    match reading {
-        Reading::Read {
-            length: _,
-            fields: _,
-        } => 0,
-        Reading::Refused(r) => number_of(r),
-    }
 }
 
 fn reading_length(reading: Reading) -> usize

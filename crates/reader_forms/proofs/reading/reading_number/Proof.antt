@@ -1,8 +1,8 @@
 use mathlib.Core.Path.{_∙_, ap, sym}
 use Rattle.reader_forms.specs.Reading.{readingNumber}
 use borrow.Author.Needs.{needs}
-use Rattle.bench.proofs.reading_number.Statement.{statement}
-use Rattle.bench.proofs.reading_number.Tie as tie
+use Rattle.reader_forms.proofs.reading.reading_number.Statement.{statement}
+use Rattle.reader_forms.proofs.reading.reading_number.Tie as tie
 
 enum-told : tie.Need-enum-told
 enum-told c = search needs
