@@ -38,7 +38,7 @@ use table_find::search::Found;
 use table_lookup::lookup::account_by_name;
 
 // The reply's form, by the body of the server block and the version asked.
-pub fn form_of(body: &[u8], version: u32) -> Form
+fn form_of(body: &[u8], version: u32) -> Form
     ensures { λ r. ⌜ r ≡ formOf (serverOf (now (body .entry))) version ⌝ }
 {
     let roles = server::roles(body);
@@ -54,6 +54,15 @@ pub fn form_of(body: &[u8], version: u32) -> Form
         return Form::Response;
     }
     Form::Nt40
+}
+
+// The form of the reply to a ping.
+pub fn form_for(image: &[u8], ping: RawPing) -> Form
+    requires { ⌜ Accepted (now image) ⌝ }
+    ensures { λ r. ⌜ r ≡ formOf (tableFrom (now (image .entry)) .server) (ping .version) ⌝ }
+{
+    let version = ping.version;
+    form_of(server::server_of(image), version)
 }
 
 // Whether document 01's t is 1.

@@ -16,7 +16,7 @@ ghost use Rattle.choose_context.specs.Internal.Used.{heldOr, askedAs, As
 use answers::Refusal;
 use filter::request::Clause;
 use filter_read::ping::RawPing;
-use octets::name_rule::is_sid;
+use name_rules::name_rule::is_sid;
 use octets::part::part;
 use table::context;
 use table_find::context::holds_sid;

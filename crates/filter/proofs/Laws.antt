@@ -1,2 +1,1 @@
 pub mod ClauseNames
-pub mod Position

@@ -1,3 +1,2 @@
 pub mod Gather
-pub mod Turn
 pub mod Value

@@ -1,5 +1,4 @@
 // A filter, read: document 01, "The filter" and "Answer numbers" 5 to 10.
-pub mod gather;
 pub mod ping;
 pub mod read;
 pub mod value;

@@ -1,11 +1,11 @@
 // A filter taken apart.
 ghost use mathlib.Core.Path.{_≡_};
 ghost use Rattle.filter_read.specs.Taken.{requestIn, takenAs};
-use crate::gather::Gathering;
-use crate::gather::whole;
 use answers::Refusal;
-use filter::position::FILTER_LIMIT;
 use filter::request::Request;
+use filter_gather::gather::Gathering;
+use filter_gather::gather::whole;
+use filter_position::position::FILTER_LIMIT;
 
 // What taking a filter apart gives: 0 with the request, or 5 to 8.
 pub enum Taken {

@@ -2,19 +2,36 @@
 ghost use mathlib.Core.Path.{_≡_};
 ghost use lib.ListN.{length};
 ghost use Rattle.octets.specs.Buffer.{over};
+ghost use Rattle.octets.specs.Lists.{any};
+ghost use Rattle.filter.specs.Request.{clauseNames, clause, isPresent};
 ghost use Rattle.filter_write.specs.Write.{filterFor, writtenAs, writtenOctets};
-use crate::put::put_filter;
-use crate::size::contents_size;
-use crate::size::element_size;
-use crate::size::has_clause;
 use answers::Refusal;
-use filter::position::FILTER_LIMIT;
+use filter::request::CLAUSE_COUNT;
 use filter::request::Request;
+use filter::request::clause_name_at;
+use filter_octets::size::contents_size;
+use filter_octets::size::element_size;
+use filter_position::position::FILTER_LIMIT;
+use filter_put::put::put_filter;
 
 // What writing a filter gives: 0 with the length, or 6, 5 or 19.
 pub enum Written {
     Length(usize),
     Refused(Refusal),
+}
+
+// Whether a clause is present.
+fn has_clause(request: Request) -> bool
+    ensures { λ r. ⌜ r ≡ any (λ name. isPresent (clause request name)) clauseNames ⌝ }
+{
+    let mut i = 0;
+    while i < CLAUSE_COUNT {
+        if request.clause(clause_name_at(i)).is_present() {
+            return true;
+        }
+        i += 1;
+    }
+    false
 }
 
 // Writes a filter of the clauses whose octets lie in the source: 6 where none is present, then 5, then 19, and the buffer unchanged.

@@ -16,19 +16,18 @@ ghost use Rattle.locator.specs.Answer.{replyTo, answerOver, answerAs, oc
 use crate::Answer;
 use crate::user::is_wrong_user;
 use answers::Refusal;
-use choose::answer::form_of;
+use choose::answer::form_for;
 use choose_context::context::ContextUsed;
 use choose_context::context::context_used;
 use choose_reply::chosen::reply_for;
 use filter_read::ping::RawPing;
 use octets::part::part;
-use reply_plan::plan::plan_reply;
-use reply_write::put::put_reply;
+use reply_write::fit::Fitted;
+use reply_write::fit::fit_reply;
 use table::Caller;
 use table::context;
-use table::server::server_of;
 
-// 18 and 19, and the reply in the context used: its length is known before its first octet is written.
+// 18 and 19, and the reply in the context used.
 fn reply_to<'a>(
     image: &'a [u8],
     caller: Caller,
@@ -44,23 +43,19 @@ fn reply_to<'a>(
     ensures { λ r. ⌜ r ≡ answerAs (replyTo (tableFrom (now (image .entry))) caller (pingAt (now (source .entry)) ping) (length (now (reply .entry))) (contextOf (cut (now (image .entry)) context (contextFormat .width)))) ⌝ }
     ensures { λ _. ⌜ now (reply .exit) ≡ over (octetsWritten (replyTo (tableFrom (now (image .entry))) caller (pingAt (now (source .entry)) ping) (length (now (reply .entry))) (contextOf (cut (now (image .entry)) context (contextFormat .width))))) (now (reply .entry)) ⌝ }
 {
-    let version = ping.version;
     let user = ping.user;
-    let form = form_of(server_of(image), version);
+    let form = form_for(image, ping);
     if is_wrong_user(form, source, user) {
         return Answer::Refused(Refusal::UserLabelEmpty);
     }
     let raw = reply_for(image, caller, source, ping, context, application, form);
-    let plan = plan_reply(image, source, form, raw);
-    let length = plan.length;
-    if reply.len() < length {
-        return Answer::Refused(Refusal::NoRoom);
-    }
-    put_reply(reply, image, source, form, raw, plan);
-    Answer::Answered {
-        length,
-        context: context::number(part(image, context, context::FORMAT.width)),
-        form,
+    match fit_reply(reply, image, source, form, raw) {
+        Fitted::NoRoom => Answer::Refused(Refusal::NoRoom),
+        Fitted::Length(length) => Answer::Answered {
+            length,
+            context: context::number(part(image, context, context::FORMAT.width)),
+            form,
+        },
     }
 }
 

@@ -11,7 +11,7 @@ ghost use Rattle.filter.specs.Request.{octetsOf};
 ghost use Rattle.locator.specs.Answer.{isEx};
 use answers::Form;
 use filter::request::Clause;
-use octets::name_rule::has_good_labels;
+use name_rules::name_rule::has_good_labels;
 use octets::part::part;
 
 fn is_ex(form: Form) -> bool

@@ -1,6 +1,5 @@
 pub mod Buffer
 pub mod Label
-pub mod LabelStep
 pub mod Lists
 pub mod NameRule
 pub mod Number

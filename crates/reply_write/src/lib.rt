@@ -1,4 +1,3 @@
-// Writes a planned reply in each of the three forms.
-pub mod ex;
-pub mod older;
+// Writes a reply where there is room for it: document 01, answer number 19.
+pub mod fit;
 pub mod put;

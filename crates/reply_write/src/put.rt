@@ -1,4 +1,4 @@
-// Writes a reply that is planned.
+// Writes a reply that is planned, by its form.
 ghost use mathlib.Core.Path.{_≡_};
 ghost use Prim.Native.Nat.{_≤_};
 ghost use lib.ListN.{length};
@@ -6,12 +6,12 @@ ghost use Rattle.octets.specs.Buffer.{over};
 ghost use Rattle.reply.specs.Reply.{octetsIn};
 ghost use Rattle.reply.specs.Internal.RawReply.{replyIn};
 ghost use Rattle.reply.specs.Internal.Plan.{PlanOf};
-use crate::ex::put_ex;
-use crate::older::put_nt40;
-use crate::older::put_response;
 use answers::Form;
 use reply::plan::Plan;
 use reply::raw::RawReply;
+use reply_ex::ex::put_ex;
+use reply_older::older::put_nt40;
+use reply_older::older::put_response;
 
 pub fn put_reply<'a>(
     out: &mut [u8],

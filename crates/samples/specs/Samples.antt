@@ -9,7 +9,7 @@ use Rattle.answers.specs.declared.Form.the-variants.{Nt40, Response, Ex}
 use Rattle.answers.specs.Try.{Try, refused, good}
 use Rattle.filter.specs.declared.request.ClauseName.{ClauseName}
 use Rattle.filter.specs.declared.request.ClauseName.the-variants.{User, Aac, DomainGuid, NtVer}
-use Rattle.filter_write.specs.Write.{element, equalityFor}
+use Rattle.filter_octets.specs.Octets.{element, equalityFor}
 use Rattle.names.specs.Walk.{WalkedName, walk}
 use Rattle.octets.specs.Lists.{cut}
 use Rattle.octets.specs.Number.{little}

@@ -1,4 +1,3 @@
-pub mod Address
 pub mod Field
 pub mod Format
 pub mod Table

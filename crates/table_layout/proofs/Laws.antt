@@ -1,3 +1,2 @@
 pub mod Field
-pub mod Layout
 pub mod Rule

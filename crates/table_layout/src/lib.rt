@@ -1,3 +1,3 @@
-// The layouts of an image's blocks: document 01, "The table image" and answer number 3.
+// The layouts of bodies and records: document 01, "The table image".
 pub mod field;
 pub mod layout;

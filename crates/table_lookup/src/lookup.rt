@@ -13,16 +13,16 @@ use octets::part::part;
 use table::Caller;
 use table::ContextNumber;
 use table::SiteNumber;
-use table::address::caller_number;
 use table::server;
 use table::site;
 use table::site::SiteReference;
 use table::subnet;
+use table_address::address::caller_number;
 use table_find::search::ContextKey;
 use table_find::search::Found;
 use table_find::search::Key;
 use table_find::search::SiteKey;
-use table_find::search::first_record;
+use table_search::search::first_record;
 
 pub fn context_by_number(image: &[u8], number: ContextNumber) -> Found
     requires { ⌜ Accepted (now image) ⌝ }

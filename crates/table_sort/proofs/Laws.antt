@@ -1,4 +1,3 @@
-pub mod Ordering
 pub mod Reordered
 pub mod Neighbours
 pub mod AccountKey

@@ -1,4 +1,2 @@
-pub mod Ordering
-pub mod AccountKey
 pub mod Reordered
 pub mod Neighbours

@@ -1,4 +1,3 @@
 // Records sorted, so that those that are alike stand next to each other: document 01, "As a whole".
-pub mod compare;
 pub mod sort;
 pub mod unique;

@@ -3,11 +3,11 @@ ghost use mathlib.Core.Path.{_≡_};
 ghost use Rattle.octets.specs.Lists.{unique};
 ghost use Rattle.table_records.specs.Internal.Alike.{alikeAt};
 ghost use Rattle.table_sort.specs.Internal.Neighbours.{neighboursBy};
-ghost use Rattle.table_sort.specs.Internal.AccountKey.{compareAt};
+ghost use Rattle.table_compare.specs.Internal.AccountKey.{compareAt};
 ghost use Rattle.table_records.specs.declared.alike.Likeness.the-variants.{Accounts};
-use crate::compare::Ordering;
-use crate::compare::compare_at;
 use crate::sort::sort;
+use table_compare::compare::Ordering;
+use table_compare::compare::compare_at;
 use table_records::alike::Likeness;
 use table_records::alike::all_unique;
 

@@ -7,8 +7,8 @@ use answers::number_of;
 use table::block::BLOCK_SIZE;
 use table::block::IMAGE_LEAST;
 use table::block::IMAGE_MOST;
+use table_blocks::layout::good_layouts;
 use table_check::check::good_checks;
-use table_layout::layout::good_layouts;
 
 // A multiple of 512 from 1,024 to 65,536.
 fn has_good_length(image: &[u8]) -> bool

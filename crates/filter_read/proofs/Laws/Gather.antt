@@ -1,16 +1,18 @@
 -- Laws of gathering: what clauses make, one after the other, is what document 01 says of them as a whole.
 use mathlib.Core.Path.{_≡_, refl, sym, ap, fun-ext, _∙_}
 use mathlib.Core.Bool.{Bool, true, false, cond, not, _||_, _&&_, or-assoc, or-true, or-false}
-use mathlib.Core.List.{List, [], _∷_, _++_}
+use mathlib.Core.List.{List, [], _∷_}
 use mathlib.Core.Option.{Option, none, some}
 use Prim.Native.Nat.{ℕ}
 use native.Mathlib.Omega.{arith}
 use borrow.Author.Tests.{not-false}
+use Rattle.answers.specs.declared.Refusal.the-variants.{UnknownClause, DuplicateClause}
+use Rattle.answers.specs.Try.{Try, good, refusedIf}
 use Rattle.octets.specs.Lists.{any, first, firstOr, unique, isSome}
 use Rattle.octets.proofs.Laws.Lists.{first-any, first-holds, any-ext, any-either, any-never, neither-left, neither-right}
 use Rattle.octets.specs.Text.{sameFolded}
 use Rattle.octets.proofs.Laws.Text.{folded-left, folded-sym}
-use Rattle.filter.specs.declared.position.RawClause.{RawClause}
+use Rattle.filter_position.specs.declared.position.RawClause.{RawClause}
 use Rattle.filter.specs.declared.request.Clause.{Clause}
 use Rattle.filter.specs.declared.request.Clause.the-variants.{Absent, Present}
 use Rattle.filter.specs.declared.request.ClauseName.{ClauseName}
@@ -18,26 +20,14 @@ use Rattle.filter.specs.declared.request.Request.{Request}
 use Rattle.filter.specs.Internal.ClauseNames.{isSameName, stored}
 use Rattle.filter.specs.Request.{clauseNames, spelling, clause, requestBy, isPresent}
 use Rattle.filter.proofs.Laws.ClauseNames.{names-none, same-name, clause-by}
-use Rattle.filter_read.specs.declared.gather.Gathered.{Gathered}
-use Rattle.filter_read.specs.declared.gather.Gathering.the-variants as gathering
-use Rattle.filter_read.specs.declared.gather.SpelledName.the-variants as spelled
+use Rattle.filter_gather.specs.declared.gather.Gathered.{Gathered}
+use Rattle.filter_gather.specs.declared.gather.Gathering.the-variants as gathering
+use Rattle.filter_gather.specs.Internal.Gather.{nameSpelled, addedTo, addedAs, added, allAdded, gatheredFrom, nothing}
 use Rattle.filter_read.specs.Taken.{nameOctets, isNamed, hasUnknown, hasDuplicate, asClause, requestOf, judgedClauses}
-use Rattle.filter_read.specs.Internal.Gather.{spelledAs, nameSpelled, addedTo, addedAs, added, allAdded, gatheredFrom, nothing, answerOf}
 
--- a clause name, or none
-pub spelled-none : (o : Option ClauseName) → spelledAs o ≡ spelled.Unknown → o ≡ none
-spelled-none none e = refl
-spelled-none (some n) e = let z : _≡_ {A = ℕ} 0 1 = cc in absurd (omega arith)
-
-pub spelled-some : (o : Option ClauseName) (n : ClauseName) → spelledAs o ≡ spelled.Known n → o ≡ some n
-spelled-some none n e = let z : _≡_ {A = ℕ} 0 1 = cc in absurd (omega arith)
-spelled-some (some m) n e = cc
-
--- what is gathered from clauses, and then from more
-pub added-append : (s : List ℕ) (g : Gathered) (xs ys : List RawClause) → allAdded s g (xs ++ ys) ≡ allAdded s (allAdded s g xs) ys
-unfolding allAdded
-added-append s g [] ys = refl
-added-append s g (x ∷ xs) ys = added-append s (added s g x) xs ys
+-- the answer that gathered clauses make
+abbrev pub answerOf : Gathered → Try Request
+answerOf g = refusedIf (g .unknown) UnknownClause (refusedIf (g .duplicate) DuplicateClause (good (g .request)))
 
 -- the name that octets spell is the only one
 module _ (x : List ℕ) where

@@ -25,14 +25,15 @@ use Rattle.filter_write.specs.declared.write.Written.the-variants as wri
 use Rattle.filter.specs.Internal.ClauseNames.{isSameName}
 use Rattle.filter.proofs.Laws.ClauseNames.{clause-by, names-any, same-self}
 use Rattle.filter.specs.Request.{clauseNames, clause, isPresent, octetsOf}
-use Rattle.filter.specs.Filter.{andTag, filterLimit, one, andOf, clausesOf}
+use Rattle.filter_position.specs.Filter.{andTag, filterLimit, one, andOf, clausesOf}
 use Rattle.filter_read.specs.Taken.{isNamed, asClause, requestOf, requestIn, takenAs}
-use Rattle.filter_write.specs.Write.{element, equalityFor, filterOctets, filterFor, writtenAs, writtenOctets}
+use Rattle.filter_octets.specs.Octets.{element, equalityFor, filterOctets}
+use Rattle.filter_write.specs.Write.{filterFor, writtenAs, writtenOctets}
 use Rattle.filter_write.specs.RoundTrip.{SameClauses, RoundTrip, CallsRoundTrip}
 use Rattle.filter_write.proofs.Laws.RoundTrip.Elements.{element-back, contents-back}
 use Rattle.filter_write.proofs.Laws.RoundTrip.Clauses.{AllAgain, siblings-back, distinct, none-unknown, none-duplicate, octets-back, some-length}
-use Rattle.filter_write.specs.Internal.Size.{headSize, elementSize, contents}
-use Rattle.filter_write.proofs.Laws.Size.{head-bounds, element-length}
+use Rattle.filter_octets.specs.Internal.Size.{headSize, elementSize, contents}
+use Rattle.filter_octets.proofs.Laws.Size.{head-bounds, element-length}
 
 module _ (source : List ℕ) (r : Request) where
   abbrev value : ClauseName → Option (List ℕ)

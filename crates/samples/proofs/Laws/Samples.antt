@@ -2,11 +2,11 @@
 use mathlib.Core.Path.{refl}
 use mathlib.Core.List.{flatMap}
 use mathlib.Core.Option.{bind}
-use Rattle.filter.specs.Filter.{elementAt, equality, one, siblings, andOf, clausesOf}
+use Rattle.filter_position.specs.Filter.{elementAt, equality, one, siblings, andOf, clausesOf}
 use Rattle.filter_read.specs.Taken.{isNamed, requestOf, requestIn}
 use Rattle.filter_read.specs.Taken.{hasUnknown, hasDuplicate}
 use Rattle.filter_read.specs.Value.{wrongValue, versionAsked, pingIn, pingFrom}
-use Rattle.filter_write.specs.Write.{lengthOctets, element}
+use Rattle.filter_octets.specs.Octets.{lengthOctets, element}
 use Rattle.names.specs.Name.{pointerTo, literalLabel, writeLabels, writeName, writeNames}
 use Rattle.names.specs.Walk.{lookAt, walkFrom, walk}
 use Rattle.octets.specs.Label.{parts, labels, joined}

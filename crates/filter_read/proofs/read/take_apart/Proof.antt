@@ -2,10 +2,9 @@ use mathlib.Core.Path.{_≡_, sym, _∙_}
 use borrow.Author.Tests.{lt-ltb, le-ltb}
 use borrow.Author.Needs.{needs}
 use lib.ListN.{length}
-use Rattle.filter.specs.Filter.{clausesOf}
+use Rattle.filter_position.specs.Filter.{clausesOf}
 use Rattle.filter_read.specs.Taken.{requestIn}
-use Rattle.filter_read.specs.Internal.Gather.{answerOf}
-use Rattle.filter_read.proofs.Laws.Gather.{gathered-none, gathered-some}
+use Rattle.filter_read.proofs.Laws.Gather.{answerOf, gathered-none, gathered-some}
 use Rattle.filter_read.proofs.read.take_apart.Statement.{statement}
 use Rattle.filter_read.proofs.read.take_apart.Tie as tie
 

@@ -13,15 +13,15 @@ use Rattle.octets.specs.Lists.{any, first, firstOr, unique, isSome, cut}
 use Rattle.octets.proofs.Laws.Lists.{first-any, any-ext, both-left, both-right, neither-left, neither-right}
 use Rattle.octets.specs.Text.{sameFolded}
 use Rattle.octets.proofs.Laws.Text.{folded-sym}
-use Rattle.filter.specs.declared.position.RawClause.{RawClause}
+use Rattle.filter_position.specs.declared.position.RawClause.{RawClause}
 use Rattle.filter.specs.declared.request.ClauseName.{ClauseName}
 use Rattle.filter.specs.Internal.ClauseNames.{isSameName}
 use Rattle.filter.proofs.Laws.ClauseNames.{same-self, same-name, names-any}
 use Rattle.filter.specs.Request.{clauseNames, spelling, octetsOf}
-use Rattle.filter.specs.Filter.{equalityTag, one, siblings, andOf}
+use Rattle.filter_position.specs.Filter.{equalityTag, one, siblings, andOf}
 use Rattle.filter_read.specs.Taken.{nameOctets, isNamed, hasUnknown, hasDuplicate, asClause}
-use Rattle.filter_write.specs.Write.{equalityFor}
-use Rattle.filter_write.proofs.Laws.Size.{equality-length, head-bounds}
+use Rattle.filter_octets.specs.Octets.{equalityFor}
+use Rattle.filter_octets.proofs.Laws.Size.{equality-length, head-bounds}
 use Rattle.filter_write.proofs.Laws.RoundTrip.Elements.{Again, equality-back, after}
 
 module _ (s : List ℕ) (value : ClauseName → Option (List ℕ)) where

@@ -7,8 +7,9 @@ use Rattle.octets.proofs.Laws.Buffer.{over-none}
 use Rattle.octets.specs.Lists.{any}
 use Rattle.filter_write.specs.declared.write.Written.the-variants.{Length}
 use Rattle.filter.specs.Request.{clauseNames, clause, isPresent}
-use Rattle.filter_write.specs.Internal.Size.{elementSize, contents}
-use Rattle.filter_write.proofs.Laws.Size.{capped-long, capped-short, filter-length, answer-none, answer-long, answer-room, answer-good}
+use Rattle.filter_octets.specs.Internal.Size.{elementSize, contents}
+use Rattle.filter_octets.proofs.Laws.Size.{filter-length}
+use Rattle.filter_write.proofs.Laws.Write.{capped-long, capped-short, answer-none, answer-long, answer-room, answer-good}
 use Rattle.filter_write.proofs.write.write_filter.Statement.{statement}
 use Rattle.filter_write.proofs.write.write_filter.Tie as tie
 
@@ -58,7 +59,7 @@ returns-4 c =
     let p = c .before .before .before .before .before .before .before .before .before .before .before .before .args in
     let x = exact (c .before .before .before .before .before) in
     rw (answer-good (p .source .now) (p .request) (length (p .out .now)) (some-clause (c .before .before .before .before .before)) (rw x at (c .before .before .before .before .before .if2 .left)) (rw x at (c .before .before .before .before .if3 .left)))
-    (ap Length (x ∙ sym (filter-length (p .source .now) (p .request) (length (p .out .now)))), c .before .before .put-filter .ensures)
+    (ap Length (x ∙ sym (filter-length (p .source .now) (p .request))), c .before .before .put-filter .ensures)
 
 pub write-filter-spec : {M : Type 1} → statement M
 write-filter-spec =

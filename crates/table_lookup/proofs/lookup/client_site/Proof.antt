@@ -14,7 +14,7 @@ use Rattle.table_find.specs.declared.search.SiteKey.the-variants.{Any, OtherTha
 use Rattle.table_find.specs.Find.{clientSite}
 use Rattle.table_find.specs.Internal.Found.{LiesIn, siteAt}
 use Rattle.table_find.specs.Internal.Key.{isSite}
-use Rattle.table_find.proofs.Laws.Find.{no-site, lone-site, several-sites}
+use Rattle.table_lookup.proofs.Laws.ClientSite.{no-site, lone-site, several-sites}
 use Rattle.table_lookup.proofs.lookup.client_site.Statement.{statement}
 use Rattle.table_lookup.proofs.lookup.client_site.Tie as tie
 

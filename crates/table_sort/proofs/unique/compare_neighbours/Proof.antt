@@ -3,10 +3,10 @@ use Prim.Native.Nat.{ℕ, _-_, _≤_, _+_}
 use native.Mathlib.Omega.{arith}
 use lib.ListN.{length, drop}
 use borrow.Author.Needs.{needs}
-use Rattle.table_sort.specs.declared.compare.Ordering.{Ordering}
-use Rattle.table_sort.specs.declared.compare.Ordering.the-variants.{Less, Equal, Greater}
+use Rattle.table_compare.specs.declared.compare.Ordering.{Ordering}
+use Rattle.table_compare.specs.declared.compare.Ordering.the-variants.{Less, Equal, Greater}
 use Rattle.table_sort.specs.Internal.Neighbours.{risingThen, neighboursBy}
-use Rattle.table_sort.specs.Internal.AccountKey.{compareAt}
+use Rattle.table_compare.specs.Internal.AccountKey.{compareAt}
 use Rattle.table_sort.proofs.Laws.Neighbours.{neighbours-as, neighbours-end}
 use Rattle.table_sort.proofs.unique.compare_neighbours.Statement.{statement}
 use Rattle.table_sort.proofs.unique.compare_neighbours.Tie as tie

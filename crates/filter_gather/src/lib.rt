@@ -1,0 +1,2 @@
+// The clauses of a filter, gathered: document 01, "The filter".
+pub mod gather;

@@ -1,0 +1,2 @@
+// The elements of a filter: document 01, "The filter".
+pub mod position;

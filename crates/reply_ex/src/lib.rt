@@ -1,0 +1,2 @@
+// Writes a planned reply of the form EX.
+pub mod ex;

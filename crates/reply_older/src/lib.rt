@@ -1,0 +1,2 @@
+// Writes a planned reply of the two older forms.
+pub mod older;

@@ -1,0 +1,2 @@
+// The order of records: document 01, "As a whole".
+pub mod compare;

@@ -1,0 +1,2 @@
+// The search for a record in an accepted image: document 01, "Choosing the answer".
+pub mod search;
