@@ -13,6 +13,11 @@ extern "C" {
         reply: *mut u8,
         reply_length: usize,
     ) -> usize;
+    fn bench_pass(octets: *const u8, length: usize) -> u32;
+    fn bench_nt40(reply: *const u8, length: usize) -> u8;
+    fn bench_response(reply: *const u8, length: usize) -> u8;
+    fn bench_ex(reply: *const u8, length: usize, version: u32) -> u8;
+    fn bench_text(reply: *const u8, length: usize, start: usize, place: usize) -> u8;
 }
 
 /// The client whose pings `ping` answers.
@@ -36,4 +41,32 @@ pub fn read(filter: &[u8]) -> u8 {
 /// The length of the reply to a ping, 0 where it is refused.
 pub fn ping(image: &[u8], filter: &[u8], reply: &mut [u8]) -> usize {
     unsafe { bench_ping(image.as_ptr(), image.len(), filter.as_ptr(), filter.len(), reply.as_mut_ptr(), reply.len()) }
+}
+
+/// One pass over the octets: the second sum of their check.
+pub fn pass(octets: &[u8]) -> u32 {
+    unsafe { bench_pass(octets.as_ptr(), octets.len()) }
+}
+
+/// The form in which a reply is read, and the version bits of an EX.
+#[derive(Clone, Copy)]
+pub enum Form {
+    Nt40,
+    Response,
+    Ex(u32),
+}
+
+/// The number that reading a reply gives.
+pub fn read_reply(reply: &[u8], form: Form) -> u8 {
+    let (octets, length) = (reply.as_ptr(), reply.len());
+    match form {
+        Form::Nt40 => unsafe { bench_nt40(octets, length) },
+        Form::Response => unsafe { bench_response(octets, length) },
+        Form::Ex(version) => unsafe { bench_ex(octets, length, version) },
+    }
+}
+
+/// The octet at a place of the text of the name that starts at an offset; 0 past the text's end.
+pub fn name_text(reply: &[u8], start: usize, place: usize) -> u8 {
+    unsafe { bench_text(reply.as_ptr(), reply.len(), start, place) }
 }

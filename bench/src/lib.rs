@@ -1,4 +1,5 @@
-//! What the timing programs share: the proved calls, table images, and how calls are measured.
+//! What the timing programs share: the proved calls, table images, pings, and how calls are measured.
 pub mod calls;
 pub mod image;
 pub mod measure;
+pub mod pings;

@@ -72,7 +72,8 @@ mod tests {
     fn requests() -> String {
         let table = format!("table {}", word_of_octets(&Image::base().octets()));
         let ping = "ping 00000000 a00fa30d04054e74566572040406000000 72";
-        format!("filter -\n# note\n\n{table}\n{ping}\ntable 0\nping 00000000 - 1\nwhat")
+        let reply = "read nt40 00000000 1300410000000000000001000000ffffffff\nwalk 3 016100c000";
+        format!("filter -\n# note\n\n{table}\n{ping}\ntable 0\nping 00000000 - 1\n{reply}\nwhat")
     }
 
     fn compared(requests: &str, change: impl Fn(String) -> String) -> Result<Agreed, Difference> {
@@ -86,7 +87,7 @@ mod tests {
     fn the_same_answers_agree() {
         let agreed = compared(&requests(), |answers| answers).unwrap();
         let counts: Vec<(&str, usize)> = agreed.iter().map(|(kind, count)| (kind.as_str(), *count)).collect();
-        assert_eq!(counts, [("?", 2), ("filter", 1), ("ping", 2), ("table", 1)]);
+        assert_eq!(counts, [("?", 2), ("filter", 1), ("ping", 2), ("read", 1), ("table", 1), ("walk", 1)]);
     }
 
     #[test]
@@ -111,9 +112,17 @@ mod tests {
     }
 
     #[test]
+    fn reads_and_walks_are_compared() {
+        for (from, to, line) in [("=4100", "=4200", 8), ("walk 1 1", "walk 0 1", 9)] {
+            let difference = compared(&requests(), |answers| answers.replace(from, to)).unwrap_err();
+            assert_eq!((difference.line, difference.table), (Some(line), None));
+        }
+    }
+
+    #[test]
     fn a_line_too_few_or_too_many_differs() {
         let cut = compared(&requests(), |answers| answers.strip_suffix("?\n").unwrap().to_string()).unwrap_err();
-        assert_eq!((cut.line, cut.second.as_deref(), cut.other), (Some(8), Some("?"), None));
+        assert_eq!((cut.line, cut.second.as_deref(), cut.other), (Some(10), Some("?"), None));
         let longer = compared(&requests(), |answers| answers + "?\n").unwrap_err();
         assert_eq!((longer.line, longer.second, longer.other.as_deref()), (None, None, Some(&b"?"[..])));
         assert!(compared("filter -\n", |_| String::new()).is_err());

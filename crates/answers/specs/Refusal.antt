@@ -1,4 +1,5 @@
 -- Document 01, "Answer numbers" and "Reading a reply": the number that each refusal has.
+use mathlib.Core.Path.{_≡_}
 use Prim.Native.Nat.{ℕ}
 use Rattle.answers.specs.declared.Refusal.{Refusal}
 use Rattle.answers.specs.declared.Refusal.the-variants.{ImageLength, BlockCheck, BlockLayout, TableWhole}
@@ -32,3 +33,7 @@ number ReplyOpcode = 32
 number ReplyText = 33
 number ReplyFixed = 34
 number ReplyLeftOver = 35
+
+-- what `number_of` promises
+abbrev pub NumberOfPromise : Refusal → ℕ → Type 0
+NumberOfPromise refusal r = r ≡ number refusal

@@ -1,8 +1,7 @@
 // The answers of document 01, "Answer numbers" and "Reading a reply": why a call refuses, and the three forms of a reply.
 pub mod wire;
 
-ghost use mathlib.Core.Path.{_≡_};
-ghost use Rattle.answers.specs.Refusal.{number};
+ghost use Rattle.answers.specs.Refusal.{number, NumberOfPromise};
 
 // A refusal.
 pub enum Refusal {
@@ -34,7 +33,7 @@ pub enum Refusal {
 
 // The number that document 01 gives a refusal.
 pub fn number_of(r: Refusal) -> u8
-    ensures { λ n. ⌜ n ≡ number r ⌝ }
+    ensures { λ n. ⌜ NumberOfPromise r n ⌝ }
 {
     match r {
         Refusal::ImageLength => 1,

@@ -79,6 +79,9 @@ pub const LM_NT_TOKEN: u16 = 0xFFFF;
 
 pub const LM20_TOKEN: u16 = 0xFFFF;
 
+// The octets of the version and the two tokens.
+pub const ENDING_SIZE: usize = 8;
+
 // Before and after the four octets of the EX form's address.
 pub const DC_SOCK_ADDR_SIZE: u8 = 0x10;
 

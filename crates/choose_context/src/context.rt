@@ -18,6 +18,7 @@ use filter::request::Clause;
 use filter_read::ping::RawPing;
 use name_rules::name_rule::is_sid;
 use octets::part::part;
+use octets::size::GUID_SIZE;
 use table::context;
 use table_find::context::holds_sid;
 use table_find::search::Found;
@@ -58,7 +59,7 @@ fn guid_asked(image: &[u8], source: &[u8], clause: Clause) -> Asked
         return Asked::Absent;
     };
     let guid = part(source, start, len);
-    if guid.len() != context::GUID_SIZE {
+    if guid.len() != GUID_SIZE {
         return Asked::Refused(Refusal::GuidLength);
     }
     held_or(context_by_guid(image, guid), Refusal::GuidNotHeld)

@@ -32,10 +32,11 @@ use filter_read::ping::RawPing;
 use lent::stretch::Lender;
 use lent::stretch::Stretch;
 use octets::number::has_bits;
+use octets::size::GUID_SIZE;
+use octets::size::IPV4_SIZE;
 use reply::raw::RawReply;
 use reply::raw::SLOTS;
 use table::Caller;
-use table::address::ADDRESS_SIZE;
 use table::block::BLOCK_SIZE;
 use table::block::BODY;
 use table::block::BODY_SIZE;
@@ -132,12 +133,12 @@ pub fn reply_for(
     let guid = Stretch {
         lender: Lender::Table,
         start: context + context::GUID,
-        len: context::GUID_SIZE,
+        len: GUID_SIZE,
     };
     let ipv4 = Stretch {
         lender: Lender::Table,
         start: SERVER_BODY + server::ADDRESS,
-        len: ADDRESS_SIZE,
+        len: IPV4_SIZE,
     };
     RawReply {
         opcode,

@@ -1,7 +1,15 @@
+pub mod Only
+pub mod Reading
+pub mod Demand1
 pub mod Derivation
 pub mod Sound
 pub mod Forms
 pub mod ReplyLaw
+pub mod Demand2Calls
+pub mod Places
 pub mod Demand3
+pub mod Demand3Calls
+pub mod ReadingWalks
+pub mod WriterPlaces
 pub mod Length
 pub mod Pointers

@@ -1,20 +1,26 @@
--- What an answer was made from, what its reply says, and of which answers the demands speak: of those over a table, and of the whole's.
+-- What an answer was made from, what its reply says, and of which answers the demands speak: of those over a table, of the whole's, and of the answering call's.
 use mathlib.Core.Path.{_≡_}
 use mathlib.Core.Bool.{false, not}
 use mathlib.Core.List.{List}
 use Prim.Native.Nat.{ℕ}
+use lib.ListN.{length, take}
+use Rattle.answers.specs.declared.Form.{Form}
 use Rattle.answers.specs.Try.{good}
 use Rattle.filter_read.specs.Value.{Ping, pingFrom}
 use Rattle.unicode.specs.UserName.{isUserName}
+use Rattle.locator.specs.declared.Answer.{Answer}
+use Rattle.locator.specs.declared.Answer.the-variants as answer
 use Rattle.locator.specs.Answer.{Outcome, replyTo, answerOver, answerTo}
 use Rattle.choose.specs.Choose.{replyFor}
 use Rattle.choose.specs.Judge.{contextIn}
 use Rattle.octets.specs.Lists.{holds}
 use Rattle.reply.specs.Reply.{Reply}
 use Rattle.table.specs.declared.Caller.{Caller}
+use Rattle.table.specs.declared.ContextNumber.{ContextNumber}
 use Rattle.table.specs.Context.{Context}
 use Rattle.table.specs.Table.{Table}
 use Rattle.table_whole.specs.Judgement.{tableIn}
+use Rattle.demands.specs.Calls.{AnswerPingPromise}
 
 -- a table that passed 1 to 4: that of some image
 pub record AcceptedTable (t : Table) : Type 0 where
@@ -35,6 +41,10 @@ pub record Derivation (t : Table) (caller : Caller) (p : Ping) (room : ℕ) (a :
 abbrev pub said : {t : Table} {caller : Caller} {p : Ping} {room : ℕ} {a : Outcome} → Derivation t caller p room a → Reply
 said {t} {caller} {p} {a = a} d = replyFor t caller p (d .context) (a .form)
 
+-- an answer whose reply is so: by its form, the version bits asked, what it says and its octets
+abbrev pub ReplyIs : (Form → ℕ → Reply → List ℕ → Type 0) → Table → Caller → Ping → ℕ → Outcome → Type 0
+ReplyIs P t caller p room a = (d : Derivation t caller p room a) × P (a .form) (p .version) (said d) (a .octets)
+
 -- this holds of every answer over a table that passed, to a ping that came in any way and whose user 9 lets pass
 abbrev pub EveryAnswerOver : (Table → Caller → Ping → ℕ → Outcome → Type 0) → Type 0
 EveryAnswerOver P =
@@ -53,3 +63,12 @@ abbrev pub EveryAnswer : (Table → Caller → Ping → ℕ → Outcome → Type
 EveryAnswer P =
     (image : List ℕ) (caller : Caller) (filter : List ℕ) (room : ℕ) (a : Outcome)
     → answerTo image caller filter room ≡ good a → (parts : Parts image filter) × P (parts .table) caller (parts .ping) room a
+
+-- this holds of every reply that the answering call leaves in the buffer lent to it: of its form, the version bits asked, what it says, its octets and its length
+abbrev pub EveryReply : (Form → ℕ → Reply → List ℕ → ℕ → Type 0) → Type 0
+EveryReply P =
+    (image : List ℕ) (caller : Caller) (filter before after : List ℕ) (a : Answer) (len : ℕ) (context : ContextNumber) (form : Form)
+    → AnswerPingPromise image caller filter before after a → a ≡ answer.Answered len context form
+    → (parts : Parts image filter)
+    × (d : Derivation (parts .table) caller (parts .ping) (length before) (record { context = context; form = form; octets = take len after }))
+    × P form (parts .ping .version) (said d) (take len after) len

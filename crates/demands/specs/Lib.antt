@@ -1,5 +1,12 @@
+pub mod Calls
+pub mod Demand1
 pub mod Derivation
 pub mod ReplyLaw
+pub mod Demand2Calls
+pub mod Places
 pub mod Demand3
+pub mod Demand3Calls
+pub mod ReadingWalks
+pub mod WriterPlaces
 pub mod Length
 pub mod Pointers

@@ -8,18 +8,14 @@ use Prim.Native.Nat.{ℕ}
 use lib.ListN.{length}
 use Rattle.answers.specs.declared.Form.{Form}
 use Rattle.answers.specs.declared.Form.the-variants.{Nt40, Response, Ex}
-use Rattle.answers.specs.Try.{good}
+use Rattle.answers.specs.Try.{Try, good}
 use Rattle.answers.specs.Wire.{nt40Version, responseVersion, exVersion, exVersionWithNextSite}
-use Rattle.filter_read.specs.Value.{Ping}
-use Rattle.locator.specs.Answer.{Outcome}
 use Rattle.octets.specs.Lists.{cut}
 use Rattle.unicode.specs.Utf16.{utf16}
-use Rattle.reader.specs.Reader.{NameRead, Nt40Fields, ResponseFields, ExFields, nt40, response, ex, readIn, readLength}
-use Rattle.reader.specs.Text.{Stretch}
+use Rattle.reader.specs.declared.field.Stretch.{Stretch}
+use Rattle.reader.specs.Reader.{NameRead, Nt40Fields, ResponseFields, ExFields, Fields, nt40, response, ex, readIn, readLength}
 use Rattle.reply.specs.Reply.{Reply, responseNames, exNames}
-use Rattle.table.specs.declared.Caller.{Caller}
-use Rattle.table.specs.Table.{Table}
-use Rattle.demands.specs.Derivation.{Derivation, said, EveryAnswerOver, EveryAnswer}
+use Rattle.demands.specs.Derivation.{ReplyIs, EveryAnswerOver, EveryAnswer}
 
 -- the octets of a stretch
 abbrev pub stretchOf : List ℕ → Stretch → List ℕ
@@ -50,36 +46,33 @@ pub record ResponseBack (r : Reply) (s : List ℕ) (f : ResponseFields) : Type 0
   pub server : stretchOf s (f .server) ≡ utf16 (r .server)
   pub user : stretchOf s (f .user) ≡ utf16 (r .user)
   pub domain : stretchOf s (f .domain) ≡ utf16 (r .netbios)
-  pub guid : f .guid ≡ r .guid
+  pub guid : stretchOf s (f .guid) ≡ r .guid
   pub names : map textOf (f .names) ≡ responseNames r
-  pub ipv4 : f .ipv4 ≡ r .ipv4
+  pub ipv4 : stretchOf s (f .ipv4) ≡ r .ipv4
   pub flags : f .flags ≡ r .flags
   pub version : f .version ≡ responseVersion
 
-pub record ExBack (r : Reply) (f : ExFields) : Type 0 where
+pub record ExBack (r : Reply) (s : List ℕ) (f : ExFields) : Type 0 where
   pub opcode : f .opcode ≡ r .opcode
   pub flags : f .flags ≡ r .flags
-  pub guid : f .guid ≡ r .guid
+  pub guid : stretchOf s (f .guid) ≡ r .guid
   pub names : map textOf (f .names) ≡ exNames r
-  pub ipv4 : f .ipv4 ≡ addressWritten r (r .withAddress)
+  pub ipv4 : Option·map (stretchOf s) (f .ipv4) ≡ addressWritten r (r .withAddress)
   pub nextSite : Option·map textOf (f .nextSite) ≡ r .nextSite
   pub version : f .version ≡ versionWritten (r .nextSite)
 
--- what the reader gives back of a reply r in its form, whose octets are s
-abbrev pub GivenBack : Form → ℕ → Reply → List ℕ → Type 0
-GivenBack Nt40 v r s = (f : Nt40Fields) × (readIn Nt40 v s ≡ good (nt40 f)) × Nt40Back r s f
-GivenBack Response v r s = (f : ResponseFields) × (readIn Response v s ≡ good (response f)) × ResponseBack r s f
-GivenBack Ex v r s = (f : ExFields) × (readIn Ex v s ≡ good (ex f)) × ExBack r f
+-- what is read of a reply r in its form, whose octets are s, gives back what went in
+abbrev pub GivenBack : Form → Reply → List ℕ → Try Fields → Type 0
+GivenBack Nt40 r s read = (f : Nt40Fields) × (read ≡ good (nt40 f)) × Nt40Back r s f
+GivenBack Response r s read = (f : ResponseFields) × (read ≡ good (response f)) × ResponseBack r s f
+GivenBack Ex r s read = (f : ExFields) × (read ≡ good (ex f)) × ExBack r s f
 
--- an answer's reply, read back
-abbrev pub ReadBack : Table → Caller → Ping → ℕ → Outcome → Type 0
-ReadBack t caller p room a =
-    (d : Derivation t caller p room a)
-    × GivenBack (a .form) (p .version) (said d) (a .octets)
-    × (readLength (readIn (a .form) (p .version) (a .octets)) (a .octets) ≡ length (a .octets))
+-- a reply r in its form, whose octets are s, read back
+abbrev pub ReadBack : Form → ℕ → Reply → List ℕ → Type 0
+ReadBack form v r s = GivenBack form r s (readIn form v s) × (readLength (readIn form v s) s ≡ length s)
 
 abbrev pub ReplyLawOver : Type 0
-ReplyLawOver = EveryAnswerOver ReadBack
+ReplyLawOver = EveryAnswerOver (ReplyIs ReadBack)
 
 abbrev pub ReplyLaw : Type 0
-ReplyLaw = EveryAnswer ReadBack
+ReplyLaw = EveryAnswer (ReplyIs ReadBack)

@@ -1,4 +1,5 @@
 -- Document 01, "The filter" and "Answer numbers": taking a filter apart, with 5 to 8, each judged over the whole filter.
+use mathlib.Core.Path.{_≡_}
 use mathlib.Core.Bool.{Bool, not}
 use mathlib.Core.List.{List}
 use mathlib.Core.Option.{Option, none, some}
@@ -60,3 +61,7 @@ takenAs (good q) = taken.Request q
 abbrev pub takenNumber : Taken → ℕ
 takenNumber (taken.Request q) = 0
 takenNumber (taken.Refused r) = number r
+
+-- what `take_apart` promises
+abbrev pub TakeApartPromise : List ℕ → Taken → Type 0
+TakeApartPromise filter r = r ≡ takenAs (requestIn filter)

@@ -1,4 +1,5 @@
 -- Document 01, "Answer numbers" 9 and 10: the values of a request's clauses, judged over the whole filter.
+use mathlib.Core.Path.{_≡_}
 use mathlib.Core.Bool.{Bool, not, _||_}
 use mathlib.Core.List.{List}
 use mathlib.Core.Option.{Option, none, some, Option·map, Option·getD}
@@ -75,3 +76,7 @@ judgedValues (good p) = judged.Version (p .version)
 abbrev pub judgedNumber : Judged → ℕ
 judgedNumber (judged.Version v) = 0
 judgedNumber (judged.Refused r) = number r
+
+-- what `judge_values` promises
+abbrev pub JudgeValuesPromise : List ℕ → Request → Judged → Type 0
+JudgeValuesPromise filter request r = r ≡ judgedValues (pingIn filter request)

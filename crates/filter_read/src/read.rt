@@ -1,6 +1,5 @@
 // A filter taken apart.
-ghost use mathlib.Core.Path.{_≡_};
-ghost use Rattle.filter_read.specs.Taken.{requestIn, takenAs};
+ghost use Rattle.filter_read.specs.Taken.{TakeApartPromise};
 use answers::Refusal;
 use filter::request::Request;
 use filter_gather::gather::Gathering;
@@ -15,7 +14,7 @@ pub enum Taken {
 
 // A filter taken apart: 5 by its length alone, then 6, 7 and 8, each judged over the whole filter.
 pub fn take_apart(s: &[u8]) -> Taken
-    ensures { λ r. ⌜ r ≡ takenAs (requestIn (now (s .entry))) ⌝ }
+    ensures { λ r. ⌜ TakeApartPromise (now (s .entry)) r ⌝ }
 {
     if FILTER_LIMIT < s.len() {
         return Taken::Refused(Refusal::FilterLength);

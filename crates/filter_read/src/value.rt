@@ -5,7 +5,7 @@ ghost use Rattle.octets.specs.Lists.{holds, cut};
 ghost use Rattle.octets.specs.Number.{little};
 ghost use Rattle.unicode.specs.UserName.{isUserName};
 ghost use Rattle.filter.specs.Request.{octetsOf};
-ghost use Rattle.filter_read.specs.Value.{isNumber, pingIn, judgedValues};
+ghost use Rattle.filter_read.specs.Value.{isNumber, JudgeValuesPromise};
 use answers::Refusal;
 use filter::request::Clause;
 use filter::request::Request;
@@ -54,7 +54,7 @@ fn is_wrong_user(s: &[u8], clause: Clause) -> bool
 
 // The values of a request: 9 over the whole filter, then 10, else the version asked for.
 pub fn judge_values(s: &[u8], request: Request) -> Judged
-    ensures { λ r. ⌜ r ≡ judgedValues (pingIn (now (s .entry)) request) ⌝ }
+    ensures { λ r. ⌜ JudgeValuesPromise (now (s .entry)) request r ⌝ }
 {
     let nt_ver = request.nt_ver;
     if is_wrong_number(s, nt_ver) {

@@ -2,9 +2,8 @@
 use mathlib.Core.Path.{_≡_}
 use mathlib.Core.List.{List}
 use Prim.Native.Nat.{ℕ}
-use lib.ListN.{length, take}
+use lib.ListN.{take}
 use Rattle.answers.specs.Try.{good}
-use Rattle.octets.specs.Buffer.{over}
 use Rattle.filter.specs.declared.request.ClauseName.{ClauseName}
 use Rattle.filter.specs.declared.request.Request.{Request}
 use Rattle.filter_read.specs.declared.read.Taken.{Taken}
@@ -12,8 +11,8 @@ use Rattle.filter_read.specs.declared.read.Taken.the-variants as taken
 use Rattle.filter_write.specs.declared.write.Written.{Written}
 use Rattle.filter_write.specs.declared.write.Written.the-variants as written
 use Rattle.filter.specs.Request.{clause, octetsOf}
-use Rattle.filter_read.specs.Taken.{requestIn, takenAs}
-use Rattle.filter_write.specs.Write.{filterFor, writtenAs, writtenOctets}
+use Rattle.filter_read.specs.Taken.{requestIn, TakeApartPromise}
+use Rattle.filter_write.specs.Write.{filterFor, WriteFilterReturns, WriteFilterLeaves}
 
 -- the same clauses: for each name both are absent, or both are present with the same octets
 abbrev pub SameClauses : List ℕ → Request → List ℕ → Request → Type 0
@@ -29,8 +28,8 @@ RoundTrip =
 abbrev pub CallsRoundTrip : Type 0
 CallsRoundTrip =
     (source : List ℕ) (r : Request) (before after : List ℕ) (w : Written) (n : ℕ) (t : Taken)
-    → w ≡ writtenAs (filterFor source r (length before))
-    → after ≡ over (writtenOctets (filterFor source r (length before))) before
+    → WriteFilterReturns source r before w
+    → WriteFilterLeaves source r before after
     → w ≡ written.Length n
-    → t ≡ takenAs (requestIn (take n after))
+    → TakeApartPromise (take n after) t
     → (q : Request) × (t ≡ taken.Request q) × SameClauses (take n after) q source r

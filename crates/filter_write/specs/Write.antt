@@ -1,4 +1,6 @@
 -- Document 01, "The filter": the writer, with 6, 5 and 19.
+use Rattle.octets.specs.Buffer.{over}
+use mathlib.Core.Path.{_≡_}
 use mathlib.Core.Bool.{not}
 use mathlib.Core.List.{List, []}
 use Prim.Native.Nat.{ℕ}
@@ -40,3 +42,10 @@ writtenNumber (written.Refused r) = number r
 abbrev pub writtenLength : Written → ℕ
 writtenLength (written.Length n) = n
 writtenLength (written.Refused r) = 0
+
+-- what `write_filter` promises to return, and to leave in the buffer
+abbrev pub WriteFilterReturns : List ℕ → Request → List ℕ → Written → Type 0
+WriteFilterReturns source request before r = r ≡ writtenAs (filterFor source request (length before))
+
+abbrev pub WriteFilterLeaves : List ℕ → Request → List ℕ → List ℕ → Type 0
+WriteFilterLeaves source request before after = after ≡ over (writtenOctets (filterFor source request (length before))) before

@@ -1,10 +1,9 @@
 // Writes a filter of a request's clauses.
 ghost use mathlib.Core.Path.{_≡_};
 ghost use lib.ListN.{length};
-ghost use Rattle.octets.specs.Buffer.{over};
 ghost use Rattle.octets.specs.Lists.{any};
 ghost use Rattle.filter.specs.Request.{clauseNames, clause, isPresent};
-ghost use Rattle.filter_write.specs.Write.{filterFor, writtenAs, writtenOctets};
+ghost use Rattle.filter_write.specs.Write.{WriteFilterReturns, WriteFilterLeaves};
 use answers::Refusal;
 use filter::request::CLAUSE_COUNT;
 use filter::request::Request;
@@ -37,8 +36,8 @@ fn has_clause(request: Request) -> bool
 // Writes a filter of the clauses whose octets lie in the source: 6 where none is present, then 5, then 19, and the buffer unchanged.
 // Its length is known before the first octet is written.
 pub fn write_filter(source: &[u8], request: Request, out: &mut [u8]) -> Written
-    ensures { λ r. ⌜ r ≡ writtenAs (filterFor (now (source .entry)) request (length (now (out .entry)))) ⌝ }
-    ensures { λ _. ⌜ now (out .exit) ≡ over (writtenOctets (filterFor (now (source .entry)) request (length (now (out .entry))))) (now (out .entry)) ⌝ }
+    ensures { λ r. ⌜ WriteFilterReturns (now (source .entry)) request (now (out .entry)) r ⌝ }
+    ensures { λ _. ⌜ WriteFilterLeaves (now (source .entry)) request (now (out .entry)) (now (out .exit)) ⌝ }
 {
     if !has_clause(request) {
         return Written::Refused(Refusal::FilterShape);

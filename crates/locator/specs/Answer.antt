@@ -1,5 +1,7 @@
 -- Document 01, "Answer numbers": the answer in three layers, and the whole as one function of table image, caller, filter and room. The first layer, the
 -- table of an image (1 to 4), is `tableIn`, the second, the ping of a filter (5 to 10), is `pingFrom`.
+use Rattle.octets.specs.Buffer.{over}
+use mathlib.Core.Path.{_≡_}
 use mathlib.Core.Bool.{Bool, true, false, _&&_}
 use mathlib.Core.List.{List, []}
 use mathlib.Core.Option.{Option, none, some}
@@ -86,3 +88,10 @@ answerContext (answer.Refused r) = 0
 abbrev pub answerForm : Answer → Option Form
 answerForm (answer.Answered length context form) = some form
 answerForm (answer.Refused r) = none
+
+-- what `answer_ping` promises to return, and to leave in the buffer
+abbrev pub AnswerPingReturns : List ℕ → Caller → List ℕ → List ℕ → Answer → Type 0
+AnswerPingReturns image caller filter before r = r ≡ answerAs (answerTo image caller filter (length before))
+
+abbrev pub AnswerPingLeaves : List ℕ → Caller → List ℕ → List ℕ → List ℕ → Type 0
+AnswerPingLeaves image caller filter before after = after ≡ over (octetsWritten (answerTo image caller filter (length before))) before

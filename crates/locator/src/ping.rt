@@ -1,8 +1,5 @@
 // The answer to a ping: document 01, "What the locator takes and gives".
-ghost use mathlib.Core.Path.{_≡_};
-ghost use lib.ListN.{length};
-ghost use Rattle.octets.specs.Buffer.{over};
-ghost use Rattle.locator.specs.Answer.{answerTo, answerAs, octetsWritten};
+ghost use Rattle.locator.specs.Answer.{AnswerPingReturns, AnswerPingLeaves};
 use crate::Answer;
 use crate::over::answer_over;
 use filter_read::ping::PingRead;
@@ -19,8 +16,8 @@ pub fn answer_ping<'a>(
     filter: &'a [u8],
     reply: &mut [u8],
 ) -> Answer
-    ensures { λ r. ⌜ r ≡ answerAs (answerTo (now (image .entry)) caller (now (filter .entry)) (length (now (reply .entry)))) ⌝ }
-    ensures { λ _. ⌜ now (reply .exit) ≡ over (octetsWritten (answerTo (now (image .entry)) caller (now (filter .entry)) (length (now (reply .entry))))) (now (reply .entry)) ⌝ }
+    ensures { λ r. ⌜ AnswerPingReturns (now (image .entry)) caller (now (filter .entry)) (now (reply .entry)) r ⌝ }
+    ensures { λ _. ⌜ AnswerPingLeaves (now (image .entry)) caller (now (filter .entry)) (now (reply .entry)) (now (reply .exit)) ⌝ }
 {
     match judge(image) {
         Judgement::Refused(refusal) => Answer::Refused(refusal),

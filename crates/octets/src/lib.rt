@@ -2,4 +2,5 @@
 pub mod name_rule;
 pub mod number;
 pub mod part;
+pub mod size;
 pub mod text;

@@ -8,6 +8,7 @@ use Rattle.answers.specs.declared.Refusal.the-variants.{ReplyCut, ReplyFixed}
 use Rattle.answers.specs.Try.{Try, good, refusedIf, _>>=_}
 use Rattle.octets.specs.Lists.{cut}
 use Rattle.octets.specs.Text.{same}
+use Rattle.reader.specs.declared.field.Stretch.{Stretch}
 
 pub record Read (A : Type 0) : Type 0 where
   pub value : A
@@ -16,6 +17,12 @@ pub record Read (A : Type 0) : Type 0 where
 -- n octets from `at`; 31 if they are not all there
 unfoldable pub readOctets : List ℕ → ℕ → ℕ → Try (Read (List ℕ))
 readOctets s at n = refusedIf (ltb (length s) (at + n)) ReplyCut (good (record { value = cut s at n; next = at + n }))
+
+-- the same as a stretch of the reply
+unfoldable pub readStretch : List ℕ → ℕ → ℕ → Try (Read Stretch)
+readStretch s at n = do
+  f ← readOctets s at n
+  good (record { value = record { start = at; len = n }; next = f .next })
 
 -- a fixed field: 31 if it is not all there, 34 if it is another
 unfoldable pub readFixed : List ℕ → ℕ → List ℕ → Try (Read (List ℕ))

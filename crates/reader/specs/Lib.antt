@@ -3,3 +3,4 @@ pub mod Text
 pub mod Name
 pub mod Reader
 pub mod ReaderWalks
+pub mod Internal

@@ -14,12 +14,14 @@ use Rattle.names.specs.Walk.{WalkedName}
 use Rattle.octets.specs.Label.{joined}
 use Rattle.octets.specs.Sid.{guidSize, ipv4Size}
 use Rattle.octets.specs.Number.{little, littleOctets, u32At, has}
-use Rattle.reader.specs.Field.{Read, readOctets, readFixed}
+use Rattle.reader.specs.declared.field.Stretch.{Stretch}
+use Rattle.reader.specs.Field.{Read, readOctets, readStretch, readFixed}
 use Rattle.reader.specs.Name.{readName}
-use Rattle.reader.specs.Text.{Stretch, readText}
+use Rattle.reader.specs.Text.{readText}
 
--- a name as it is given back: its labels joined by dots, with its pointer count
+-- a name as it is given back: its labels joined by dots, with its pointer count; and its first offset
 pub record NameRead : Type 0 where
+  pub start : ℕ
   pub text : List ℕ
   pub pointers : ℕ
 
@@ -35,18 +37,18 @@ pub record ResponseFields : Type 0 where
   pub server : Stretch
   pub user : Stretch
   pub domain : Stretch
-  pub guid : List ℕ
+  pub guid : Stretch
   pub names : List NameRead
-  pub ipv4 : List ℕ
+  pub ipv4 : Stretch
   pub flags : ℕ
   pub version : ℕ
 
 pub record ExFields : Type 0 where
   pub opcode : ℕ
   pub flags : ℕ
-  pub guid : List ℕ
+  pub guid : Stretch
   pub names : List NameRead
-  pub ipv4 : Option (List ℕ)
+  pub ipv4 : Option Stretch
   pub nextSite : Option NameRead
   pub version : ℕ
 
@@ -66,8 +68,8 @@ readNumber s at = do
   f ← readOctets s at 4
   good (record { value = little (f .value); next = f .next })
 
-abbrev pub joinedName : WalkedName → NameRead
-joinedName n = record { text = joined (n .labels); pointers = n .pointers }
+abbrev pub joinedName : ℕ → WalkedName → NameRead
+joinedName at n = record { start = at; text = joined (n .labels); pointers = n .pointers }
 
 -- n names, one after the other
 unfoldable pub readNames : ℕ → List ℕ → ℕ → Try (Read (List NameRead))
@@ -75,7 +77,7 @@ readNames zero s at = good (record { value = []; next = at })
 readNames (suc n) s at = do
   f ← readName s at
   rest ← readNames n s (f .next)
-  good (record { value = joinedName (f .value) ∷ rest .value; next = rest .next })
+  good (record { value = joinedName at (f .value) ∷ rest .value; next = rest .next })
 
 -- a fixed number of w octets
 abbrev pub readConstant : ℕ → ℕ → List ℕ → ℕ → Try (Read (List ℕ))
@@ -113,10 +115,10 @@ readNt40 s = do
 unfoldable pub readResponse : List ℕ → Try Fields
 readResponse s = do
   o ← readOpening s
-  g ← readOctets s (o .next) guidSize
+  g ← readStretch s (o .next) guidSize
   z ← readFixed s (g .next) NullGuid
   n ← readNames 3 s (z .next)
-  i ← readOctets s (n .next) ipv4Size
+  i ← readStretch s (n .next) ipv4Size
   f ← readNumber s (i .next)
   e ← readConstant 4 responseVersion s (f .next)
   let w = o .value in
@@ -125,12 +127,12 @@ readResponse s = do
       (record { opcode = w .opcode; server = w .server; user = w .user; domain = w .domain; guid = g .value; names = n .value; ipv4 = i .value; flags = f .value; version = responseVersion }))
 
 -- the address, where v asks for it
-unfoldable pub readAddress : Bool → List ℕ → ℕ → Try (Read (Option (List ℕ)))
+unfoldable pub readAddress : Bool → List ℕ → ℕ → Try (Read (Option Stretch))
 readAddress false s at = good (record { value = none; next = at })
 readAddress true s at = do
   a ← readFixed s at (DcSockAddrSize ∷ [])
   b ← readConstant 4 sin-family s (a .next)
-  i ← readOctets s (b .next) ipv4Size
+  i ← readStretch s (b .next) ipv4Size
   z ← readFixed s (i .next) sin-zero
   good (record { value = some (i .value); next = z .next })
 
@@ -150,14 +152,14 @@ readLast false v s at = do
 readLast true v s at = do
   n ← readName s at
   e ← readConstant 4 exVersionWithNextSite s (n .next)
-  refusedIf (not (has v NETLOGON-NT-VERSION-WITH-CLOSEST-SITE)) ReplyFixed (good (record { value = record { nextSite = some (joinedName (n .value)); version = exVersionWithNextSite }; next = e .next }))
+  refusedIf (not (has v NETLOGON-NT-VERSION-WITH-CLOSEST-SITE)) ReplyFixed (good (record { value = record { nextSite = some (joinedName at (n .value)); version = exVersionWithNextSite }; next = e .next }))
 
 unfoldable pub readEx : ℕ → List ℕ → Try Fields
 readEx v s = do
   o ← readOpcode exOpcodes s
   z ← readConstant 2 Sbz s (o .next)
   f ← readNumber s (z .next)
-  g ← readOctets s (f .next) guidSize
+  g ← readStretch s (f .next) guidSize
   n ← readNames 8 s (g .next)
   i ← readAddress (has v NETLOGON-NT-VERSION-5EX-WITH-IP) s (n .next)
   l ← readLast (hasNextSite s) v s (i .next)

@@ -8,43 +8,31 @@ use Rattle.answers.specs.declared.Refusal.the-variants.{ReplyCut, ReplyText}
 use Rattle.answers.specs.Try.{Try, refused, good, _>>=_}
 use Rattle.octets.specs.Number.{little}
 use Rattle.unicode.specs.Utf16.{isHigh, isLow}
+use Rattle.reader.specs.declared.field.Stretch.{Stretch}
+use Rattle.reader.specs.declared.text.Unit16.{Unit16}
+use Rattle.reader.specs.declared.text.Unit16.the-variants.{Ends, Plain, High, Low}
+use Rattle.reader.specs.declared.text.Turn.{Turn}
+use Rattle.reader.specs.declared.text.Turn.the-variants.{Stop, Go, Wrong}
 use Rattle.reader.specs.Field.{Read, readOctets}
 
--- a stretch of the reply: where it starts, and how many octets it has
-pub record Stretch : Type 0 where
-  pub start : ℕ
-  pub len : ℕ
-
--- a unit: the zero unit that ends a text, a unit of its own, the first or the second half of a pair
-pub data Unit16 : Type 0 where
-  ends : Unit16
-  plain : Unit16
-  high : Unit16
-  low : Unit16
-
 unfoldable pub unitOf : ℕ → Unit16
-unitOf u = cond (eqb u 0) ends (cond (isHigh u) high (cond (isLow u) low plain))
+unitOf u = cond (eqb u 0) Ends (cond (isHigh u) High (cond (isLow u) Low Plain))
 
 -- what a unit leads to, after a high surrogate or not: the text ends, it goes on, or 33
-pub data Turn : Type 0 where
-  stop : Turn
-  go : Bool → Turn
-  wrong : Turn
-
 abbrev pub turn : Bool → Unit16 → Turn
-turn true ends = wrong
-turn true plain = wrong
-turn true high = wrong
-turn true low = go false
-turn false ends = stop
-turn false plain = go false
-turn false high = go true
-turn false low = wrong
+turn true Ends = Wrong
+turn true Plain = Wrong
+turn true High = Wrong
+turn true Low = Go false
+turn false Ends = Stop
+turn false Plain = Go false
+turn false High = Go true
+turn false Low = Wrong
 
 abbrev pub onTurn : Turn → Try (Read Stretch) → (Bool → Try (Read Stretch)) → Try (Read Stretch)
-onTurn stop end next = end
-onTurn (go afterHigh) end next = next afterHigh
-onTurn wrong end next = refused ReplyText
+onTurn Stop end next = end
+onTurn (Go afterHigh) end next = next afterHigh
+onTurn Wrong end next = refused ReplyText
 
 -- k units at most from `at`, in the text that starts at `start`
 unfoldable pub readTextFrom : ℕ → List ℕ → ℕ → ℕ → Bool → Try (Read Stretch)

@@ -1,1 +1,3 @@
-// Reading a received reply: document 01, "Reading a reply".
+// The fields and texts of a received reply: document 01, "Reading a reply".
+pub mod field;
+pub mod text;

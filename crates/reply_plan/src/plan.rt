@@ -11,26 +11,23 @@ use crate::size::address_size;
 use crate::size::opening_size;
 use crate::size::stretch_size;
 use answers::Form;
+use answers::wire::ENDING_SIZE;
 use lent::stretch::Stretch;
 use names::plan::NAMES_MOST;
 use names::plan::PlannedName;
 use names::plan::name_size;
 use names::plan::plan_name;
 use names::plan::plan_names;
+use octets::size::GUID_SIZE;
 use reply::plan::Plan;
 use reply::raw::CONTEXT_NETBIOS;
 use reply::raw::NEXT_SITE;
 use reply::raw::RawReply;
 
-// The version and the two tokens that end every reply.
-const ENDING_SIZE: usize = 8;
-
 // The opcode, the second number and the flags of an EX.
 const EX_NUMBERS_SIZE: usize = 8;
 
 const FLAGS_SIZE: usize = 4;
-
-const NULL_GUID_SIZE: usize = 16;
 
 fn plan_nt40<'a>(table: &'a [u8], request: &'a [u8], raw: RawReply) -> Plan
     requires { ⌜ Short raw ⌝ }
@@ -53,9 +50,7 @@ fn plan_response<'a>(table: &'a [u8], request: &'a [u8], raw: RawReply) -> Plan
     let slots = raw.slots;
     let guid = raw.guid;
     let ipv4 = raw.ipv4;
-    let head = opening_size(table, request, raw)
-        + stretch_size(table, request, guid)
-        + NULL_GUID_SIZE;
+    let head = opening_size(table, request, raw) + stretch_size(table, request, guid) + GUID_SIZE;
     let planned = plan_names(table, request, slots, CONTEXT_NETBIOS, head);
     let names = planned.names;
     Plan {

@@ -1,4 +1,2 @@
-// How many bits and octets an address has.
+// How many bits an address has.
 pub const ADDRESS_BITS: u8 = 32;
-
-pub const ADDRESS_SIZE: usize = 4;

@@ -13,6 +13,7 @@ use octets::name_rule::DNS_NAME_MOST;
 use octets::name_rule::NETBIOS_NAME_MOST;
 use octets::number::wide;
 use octets::part::part;
+use octets::size::GUID_SIZE;
 
 pub const FORMAT: RecordFormat = RecordFormat {
     kind: 3,
@@ -27,8 +28,6 @@ const APPLICATION: usize = 2;
 const HAS_SID: usize = 3;
 
 pub const GUID: usize = 4;
-
-pub const GUID_SIZE: usize = 16;
 
 pub const SID: usize = 20;
 

@@ -8,7 +8,6 @@ ghost use Rattle.table.specs.Table.{tableFrom};
 use crate::BlockPlace;
 use crate::ContextNumber;
 use crate::SiteNumber;
-use crate::address::ADDRESS_SIZE;
 use crate::block::block_at;
 use crate::block::body_of;
 use crate::field::TextField;
@@ -18,6 +17,7 @@ use crate::field::u32_in;
 use octets::name_rule::DNS_NAME_MOST;
 use octets::name_rule::NETBIOS_NAME_MOST;
 use octets::part::part;
+use octets::size::IPV4_SIZE;
 
 pub const KIND: u8 = 1;
 
@@ -63,7 +63,7 @@ pub fn state(octets: &[u8]) -> u32
 pub fn address(octets: &[u8]) -> &[u8]
     ensures { λ r. ⌜ now r ≡ serverOf (now (octets .entry)) .address ⌝ }
 {
-    part(octets, ADDRESS, ADDRESS_SIZE)
+    part(octets, ADDRESS, IPV4_SIZE)
 }
 
 pub fn own_site(octets: &[u8]) -> SiteNumber

@@ -2,12 +2,12 @@
 ghost use mathlib.Core.Path.{_≡_};
 ghost use Rattle.table.specs.Subnet.{inUseOctet, subnetOf};
 ghost use Rattle.table.specs.Internal.Reference.{referred};
-use crate::address::ADDRESS_SIZE;
 use crate::field::octet_in;
 use crate::record::RecordFormat;
 use crate::site::SiteReference;
 use crate::site::reference_in;
 use octets::part::part;
+use octets::size::IPV4_SIZE;
 
 pub const FORMAT: RecordFormat = RecordFormat {
     kind: 6,
@@ -26,7 +26,7 @@ pub const SITE: usize = 6;
 pub fn address(octets: &[u8]) -> &[u8]
     ensures { λ r. ⌜ now r ≡ subnetOf (now (octets .entry)) .address ⌝ }
 {
-    part(octets, ADDRESS, ADDRESS_SIZE)
+    part(octets, ADDRESS, IPV4_SIZE)
 }
 
 pub fn prefix(octets: &[u8]) -> u8

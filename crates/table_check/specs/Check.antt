@@ -1,4 +1,5 @@
 -- Document 01, "The table image": the block check.
+use mathlib.Core.Path.{_≡_}
 use mathlib.Core.Bool.{Bool, _&&_}
 use mathlib.Core.List.{List, [], _∷_}
 use Prim.Native.Nat.{ℕ, _+_, _%_}
@@ -25,3 +26,7 @@ unfoldable pub goodCheck : List ℕ → Bool
 goodCheck block =
     let c = checkOf (take checkOffset block) in
     eqb (u16At block checkOffset) (c .a) && eqb (u16At block (checkOffset + 2)) (c .b)
+
+-- what `check_of` promises
+abbrev pub CheckOfPromise : List ℕ → Check → Type 0
+CheckOfPromise octets r = r ≡ checkOf octets

@@ -4,7 +4,7 @@ ghost use Prim.Native.Nat.{_≤_};
 ghost use lib.ListN.{length};
 ghost use Rattle.octets.specs.Lists.{all};
 ghost use Rattle.table.specs.Block.{imageMost, blocksOf};
-ghost use Rattle.table_check.specs.Check.{checkOf, goodCheck};
+ghost use Rattle.table_check.specs.Check.{goodCheck, CheckOfPromise};
 use octets::number::wide;
 use octets::part::part;
 use table::BlockPlace;
@@ -20,7 +20,7 @@ pub struct Check {
 }
 
 pub fn check_of(octets: &[u8]) -> Check
-    ensures { λ r. ⌜ r ≡ checkOf (now (octets .entry)) ⌝ }
+    ensures { λ r. ⌜ CheckOfPromise (now (octets .entry)) r ⌝ }
 {
     let mut a: u32 = 1;
     let mut b: u32 = 0;

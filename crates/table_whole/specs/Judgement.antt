@@ -45,3 +45,7 @@ judgedAs (good t) = Passed
 abbrev pub judgementNumber : Judgement → ℕ
 judgementNumber Passed = 0
 judgementNumber (Refused r) = number r
+
+-- what `judge` promises
+abbrev pub JudgePromise : List ℕ → Judgement → Type 0
+JudgePromise image r = r ≡ judgedAs (tableIn image)

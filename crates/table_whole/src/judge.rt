@@ -1,6 +1,6 @@
 // An image judged: 1 to 4 in order, each over the whole image once the earlier ones passed.
 ghost use mathlib.Core.Path.{_≡_};
-ghost use Rattle.table_whole.specs.Judgement.{goodLength, tableIn, judgedAs, judgementNumber};
+ghost use Rattle.table_whole.specs.Judgement.{goodLength, judgementNumber, JudgePromise};
 use crate::whole::good_whole;
 use answers::Refusal;
 use answers::number_of;
@@ -40,7 +40,7 @@ pub fn judgement_number(judgement: Judgement) -> u8
 }
 
 pub fn judge(image: &[u8]) -> Judgement
-    ensures { λ r. ⌜ r ≡ judgedAs (tableIn (now (image .entry))) ⌝ }
+    ensures { λ r. ⌜ JudgePromise (now (image .entry)) r ⌝ }
 {
     if !has_good_length(image) {
         return Judgement::Refused(Refusal::ImageLength);

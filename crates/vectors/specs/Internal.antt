@@ -1,2 +1,3 @@
 pub mod AnswerForm
 pub mod Bounds
+pub mod Walk

@@ -6,9 +6,11 @@ use crate::parse::is_octets;
 use crate::parse::space_count;
 use crate::parse::word;
 use crate::ping_lines::answer_ping_line;
+use crate::read_lines::answer_read;
 use crate::say::say;
 use crate::say::say_number;
 use crate::say::say_unknown;
+use crate::walk_lines::answer_walk;
 use crate::write::answer_write;
 use octets::part::part;
 use octets::text::same_octets;
@@ -62,10 +64,23 @@ fn answer_octets(kind: &[u8], text: &[u8], space: &mut [u8]) {
     say_unknown();
 }
 
+// A line of three words.
+fn answer_three(kind: &[u8], line: &[u8], space: &mut [u8]) {
+    if same_octets(kind, b"walk") {
+        answer_walk(line, space);
+        return;
+    }
+    say_unknown();
+}
+
 // A line of four words.
 fn answer_four(kind: &[u8], line: &[u8], image: &[u8], space: &mut [u8]) {
     if same_octets(kind, b"ping") {
         answer_ping_line(line, image, space);
+        return;
+    }
+    if same_octets(kind, b"read") {
+        answer_read(line, space);
         return;
     }
     say_unknown();
@@ -85,6 +100,10 @@ fn answer_words(line: &[u8], image: &[u8], space: &mut [u8]) {
     let spaces = space_count(line);
     if spaces == 1 {
         answer_octets(kind, word(line, 1), space);
+        return;
+    }
+    if spaces == 2 {
+        answer_three(kind, line, space);
         return;
     }
     if spaces == 3 {

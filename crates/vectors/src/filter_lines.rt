@@ -4,6 +4,7 @@ ghost use Rattle.filter_read.specs.Taken.{takenNumber};
 ghost use Rattle.filter_read.specs.Value.{judgedNumber};
 use crate::parse::decode;
 use crate::say::say;
+use crate::say::say_bits;
 use crate::say::say_hex;
 use crate::say::say_number;
 use answers::number_of;
@@ -86,23 +87,12 @@ fn judged_version(judged: Judged) -> u32 {
     }
 }
 
-// Version bits as 8 hex digits.
-fn say_version(version: u32) {
-    let octets = [
-        (version / 16777216) as u8,
-        (version / 65536 % 256) as u8,
-        (version / 256 % 256) as u8,
-        (version % 256) as u8,
-    ];
-    say_hex(&octets);
-}
-
 pub fn answer_values(text: &[u8], space: &mut [u8]) {
     let n = decode(text, space);
     let answer = judged(part(space, 0, n));
     say(b"values ");
     say_number(judged_number(answer) as u64);
     say(b" ");
-    say_version(judged_version(answer));
+    say_bits(judged_version(answer));
     say(b"\n");
 }

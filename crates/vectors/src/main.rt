@@ -5,7 +5,9 @@ mod filter_lines;
 mod input;
 mod parse;
 mod ping_lines;
+mod read_lines;
 mod say;
+mod walk_lines;
 mod write;
 
 fn main() {

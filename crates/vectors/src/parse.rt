@@ -81,6 +81,14 @@ pub fn decode(text: &[u8], out: &mut [u8]) -> usize
     i
 }
 
+// Whether a word stands for four octets: a client's address, or version bits.
+pub fn is_four_octets(text: &[u8]) -> bool {
+    if text.len() != 8 {
+        return false;
+    }
+    is_octets(text)
+}
+
 // Where the word that starts at from ends: at a space, or at the end of the line.
 pub fn word_end(line: &[u8], from: usize) -> usize
     requires { ⌜ from ≤ length (now line) ⌝ }

@@ -6,6 +6,7 @@ use crate::buffer::Room;
 use crate::buffer::filled;
 use crate::buffer::room_of;
 use crate::parse::decode;
+use crate::parse::is_four_octets;
 use crate::parse::is_octets;
 use crate::parse::word;
 use crate::say::say;
@@ -18,9 +19,6 @@ use locator::Answer;
 use locator::ping::answer_ping;
 use octets::part::part;
 use table::Caller;
-
-// A client's address, as a word.
-const CALLER_DIGITS: usize = 8;
 
 // The form of an answer, which a refusal lacks.
 enum AnswerForm {
@@ -121,10 +119,7 @@ fn caller_of(text: &[u8]) -> Caller {
 
 // Whether the words before the room are a client's address and a filter.
 fn asks(client: &[u8], filter: &[u8]) -> bool {
-    if client.len() != CALLER_DIGITS {
-        return false;
-    }
-    if !is_octets(client) {
+    if !is_four_octets(client) {
         return false;
     }
     is_octets(filter)

@@ -69,3 +69,14 @@ pub fn say_octets(octets: &[u8]) {
     }
     say_hex(octets);
 }
+
+// Version bits or flags: 8 hex digits, the most significant first.
+pub fn say_bits(bits: u32) {
+    let octets = [
+        (bits / 16777216) as u8,
+        (bits / 65536 % 256) as u8,
+        (bits / 256 % 256) as u8,
+        (bits % 256) as u8,
+    ];
+    say_hex(&octets);
+}

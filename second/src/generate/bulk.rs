@@ -7,10 +7,9 @@ use super::chance::Chance;
 use super::elements::{and, equality, nested};
 use super::filters::random_filter;
 use super::pings::reply_to;
-use super::replies::name_like;
+use super::replies::{name_like, offset_in, received, Received};
 use super::requests::{Asked, Requests};
 use super::sample::{fill_up, random_asked, random_case, random_value, sample, version_bits, Sample, Size};
-use crate::choose::Form;
 use crate::filter::{judge_values, ClauseName};
 use crate::image::{put_checks, Image};
 use crate::lines::{octets_of_hex, word_of_clause, word_of_octets};
@@ -127,12 +126,20 @@ impl Lines<'_> {
         self.add_sometimes(8, |requests, chance| requests.filter(&random_filter(chance, 3)));
         self.add_sometimes(6, |requests, _| requests.values(&filter));
         self.add_sometimes(6, |requests, chance| requests.write(room(chance, asked.filter().len()), &asked));
-        let names = [&[23, 0, 0, 0][..], &name_like(self.chance, 60)].concat();
-        let (form, octets) = reply.unwrap_or((Form::Ex, names.clone()));
         let version = judge_values(&asked.clauses()).unwrap_or(4);
-        self.add_sometimes(6, |requests, _| requests.read(form, version, &octets));
-        self.add_sometimes(6, |requests, chance| requests.walk(chance.below(octets.len()), &octets));
-        self.add_sometimes(8, |requests, chance| requests.walk(chance.below(names.len()), &names));
+        let reply = || reply.clone().map(|(form, octets)| Received { form, version, octets });
+        self.add_sometimes(3, |requests, chance| {
+            let Received { form, version, octets } = received(chance, reply());
+            requests.read(form, version, &octets);
+        });
+        self.add_sometimes(5, |requests, chance| {
+            let octets = received(chance, reply()).octets;
+            requests.walk(offset_in(chance, &octets), &octets);
+        });
+        self.add_sometimes(10, |requests, chance| {
+            let octets = name_like(chance, 60);
+            requests.walk(offset_in(chance, &octets), &octets);
+        });
     }
 }
 
@@ -155,13 +162,15 @@ fn asked(chance: &mut Chance, table: &Sample) -> Asked {
 }
 
 /// Values that are refused with 9 to 18, on most tables.
-const WRONG: [(ClauseName, &[u8]); 8] = [
+const WRONG: [(ClauseName, &[u8]); 10] = [
     (ClauseName::NtVer, b""),
     (ClauseName::DomainGuid, b"short"),
     (ClauseName::DomainGuid, &[9; 16]),
     (ClauseName::DnsDomain, b""),
     (ClauseName::DnsDomain, b"none"),
+    (ClauseName::DomainSid, b""),
     (ClauseName::DomainSid, b"short"),
+    (ClauseName::DomainSid, &[1, 16, 0, 0, 0, 0, 0, 5]),
     (ClauseName::DomainSid, &[1, 0, 9, 9, 9, 9, 9, 9]),
     (ClauseName::User, b"a..b"),
 ];
@@ -259,7 +268,8 @@ pub fn changed_octets(chance: &mut Chance, mut octets: Vec<u8>, is_table: bool) 
 mod tests {
     use super::super::coverage::{required_numbers, required_of_pings, Coverage};
     use super::*;
-    use crate::lines::answer_all;
+    use crate::choose::Form;
+    use crate::lines::{answer_all, word_of_form};
 
     fn lines(count: usize, seed: u64) -> Vec<u8> {
         let mut output = Vec::new();
@@ -275,22 +285,37 @@ mod tests {
         assert_eq!(lines(0, 1), b"");
     }
 
-    #[test]
-    fn each_line_has_an_answer_and_pings_meet_their_cases() {
-        let made = lines(40_000, 1);
+    /// What so many lines meet, each of which has an answer.
+    fn observed(count: usize) -> Coverage {
+        let made = lines(count, 1);
         let mut output = Vec::new();
         answer_all(&mut &made[..], &mut output).unwrap();
         let answers = String::from_utf8(output).unwrap();
-        assert_eq!(answers.lines().count(), 40_000);
+        assert_eq!(answers.lines().count(), count);
         let mut coverage = Coverage::default();
         for (request, answer) in made.split(|&octet| octet == b'\n').zip(answers.lines()) {
             coverage.observe(request, answer);
         }
+        coverage
+    }
+
+    #[test]
+    fn pings_meet_their_cases_and_replies_every_number() {
+        let coverage = observed(60_000);
         let missing: Vec<String> = required_numbers()
             .into_iter()
             .chain(required_of_pings())
             .filter(|case| coverage.count(case) == 0)
             .collect();
         assert_eq!(missing, Vec::<String>::new());
+        for form in Form::ALL.map(word_of_form) {
+            for number in [0, 31, 32, 33, 34, 35] {
+                assert!(coverage.count(&format!("read {form}: {number}")) >= 30, "{form} {number}");
+            }
+        }
+        let reads: usize = [0, 31, 32, 33, 34, 35].iter().map(|number| coverage.count(&format!("read {number}"))).sum();
+        let walks = coverage.count("walk: none") + coverage.count("walk: a name");
+        assert!(reads >= 6_000 && walks >= 3_000, "{reads} {walks}");
+        assert!(coverage.count("walk: a name") >= 1_000);
     }
 }

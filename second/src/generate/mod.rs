@@ -33,37 +33,20 @@ struct Kind {
     fill: fn(&mut Requests, &mut Chance),
 }
 
-/// Two stored files, of request lines and of their answers, and the kinds of line in them.
-struct Files {
-    requests: &'static str,
-    answers: &'static str,
-    kinds: &'static [Kind],
-}
+/// The stored files, of request lines and of their answers.
+const REQUESTS: &str = "crates/vectors/stdin";
+const ANSWERS: &str = "crates/vectors/stdout";
 
-const FILES: [Files; 3] = [
-    Files {
-        requests: "crates/vectors/stdin",
-        answers: "crates/vectors/stdout",
-        // Pings are first, since some of them stand before any table.
-        kinds: &[
-            Kind { name: "ping", fill: pings::add_all },
-            Kind { name: "table", fill: tables::add_all },
-            Kind { name: "check", fill: checks::add_all },
-            Kind { name: "filter", fill: filters::add_all },
-            Kind { name: "write", fill: filters::add_writes },
-            Kind { name: "values", fill: values::add_all },
-        ],
-    },
-    Files {
-        requests: "vectors/read.requests",
-        answers: "vectors/read.answers",
-        kinds: &[Kind { name: "read", fill: replies::add_reads }],
-    },
-    Files {
-        requests: "vectors/walk.requests",
-        answers: "vectors/walk.answers",
-        kinds: &[Kind { name: "walk", fill: replies::add_walks }],
-    },
+/// Pings are first, since some of them stand before any table.
+const KINDS: [Kind; 8] = [
+    Kind { name: "ping", fill: pings::add_all },
+    Kind { name: "table", fill: tables::add_all },
+    Kind { name: "check", fill: checks::add_all },
+    Kind { name: "filter", fill: filters::add_all },
+    Kind { name: "write", fill: filters::add_writes },
+    Kind { name: "values", fill: values::add_all },
+    Kind { name: "read", fill: replies::add_reads },
+    Kind { name: "walk", fill: replies::add_walks },
 ];
 
 /// Each kind has a seed of its own, so that a change to one leaves the lines of the others as they are.
@@ -81,10 +64,10 @@ struct Stored {
     answers: Vec<u8>,
 }
 
-fn store(files: &Files, coverage: &mut Coverage) -> Stored {
+fn store(coverage: &mut Coverage) -> Stored {
     let mut stored = Stored { requests: Vec::new(), answers: Vec::new() };
     let mut answerer = Answerer::default();
-    for line in files.kinds.iter().flat_map(lines_of) {
+    for line in KINDS.iter().flat_map(lines_of) {
         if let Some(answer) = answerer.answer(&line) {
             coverage.observe(&line, &answer);
             stored.answers.extend(answer.into_bytes());
@@ -99,12 +82,10 @@ fn store(files: &Files, coverage: &mut Coverage) -> Stored {
 /// Makes all stored lines, and writes them below a folder where one is given.
 pub fn generate(folder: Option<&Path>) -> io::Result<Coverage> {
     let mut coverage = Coverage::default();
-    for files in &FILES {
-        let stored = store(files, &mut coverage);
-        if let Some(folder) = folder {
-            write_below(folder, files.requests, &stored.requests)?;
-            write_below(folder, files.answers, &stored.answers)?;
-        }
+    let stored = store(&mut coverage);
+    if let Some(folder) = folder {
+        write_below(folder, REQUESTS, &stored.requests)?;
+        write_below(folder, ANSWERS, &stored.answers)?;
     }
     Ok(coverage)
 }
@@ -120,8 +101,8 @@ mod tests {
     use super::*;
     use crate::lines::answer_all;
 
-    fn stored() -> Vec<Stored> {
-        FILES.iter().map(|files| store(files, &mut Coverage::default())).collect()
+    fn stored() -> Stored {
+        store(&mut Coverage::default())
     }
 
     #[test]
@@ -136,21 +117,18 @@ mod tests {
 
     #[test]
     fn the_same_lines_every_time_and_not_too_many_octets() {
-        let mut octets = 0;
-        for (one, again) in stored().iter().zip(stored()) {
-            assert!(one.requests == again.requests && one.answers == again.answers);
-            octets += one.requests.len() + one.answers.len();
-        }
+        let (one, again) = (stored(), stored());
+        assert!(one.requests == again.requests && one.answers == again.answers);
+        let octets = one.requests.len() + one.answers.len();
         assert!(octets <= 4_000_000, "{octets}");
     }
 
     /// The answers stored are those of the lines as they would come in on standard input.
     #[test]
     fn the_answers_are_those_of_the_request_file() {
-        for (files, stored) in FILES.iter().zip(stored()) {
-            let mut output = Vec::new();
-            answer_all(&mut &stored.requests[..], &mut output).unwrap();
-            assert!(output == stored.answers, "{}", files.requests);
-        }
+        let stored = stored();
+        let mut output = Vec::new();
+        answer_all(&mut &stored.requests[..], &mut output).unwrap();
+        assert!(output == stored.answers);
     }
 }

@@ -1,37 +1,51 @@
--- Demand 3 is proved: each name was written after the names before it, and what is appended changes no walk.
-use mathlib.Core.Path.{_≡_, refl, sym, subst}
-use mathlib.Core.List.{List}
+-- Demand 3 is proved: the names stand in a row from where the layout starts them, and reader and walk find each at its place.
+use mathlib.Core.Path.{_≡_, refl}
+use mathlib.Core.List.{List, []}
 use mathlib.Core.Option.{Option, none, some}
-use Prim.Native.Nat.{ℕ, _+_}
+use Prim.Native.Nat.{ℕ, _+_, _<_}
 use native.Mathlib.Omega.{arith}
-use lib.ListN.{length}
+use lib.ListN.{length, getD}
 use Rattle.answers.specs.declared.Form.{Form}
 use Rattle.answers.specs.declared.Form.the-variants.{Nt40, Response, Ex}
-use Rattle.names.proofs.Laws.Name.{Spot, row-lengths}
+use Rattle.names.proofs.Laws.Name.{Spot, row-spot}
 use Rattle.names.proofs.Laws.Walk.{finds}
 use Rattle.octets.specs.Label.{labels}
 use Rattle.octets.proofs.Laws.Label.{joined-labels}
-use Rattle.reader.specs.Reader.{NameRead}
-use Rattle.reader.proofs.Laws.Reader.{read-nt40, given-at, given-length, lastGiven}
-use Rattle.reply.specs.Reply.{Reply, nt40Octets, responseNames, responseOctets, exNames, exOctets, octetsIn}
-use Rattle.demands.specs.Demand3.{NameWalked, LastWalked, lastStart, noName, NamesWalked, ReplyWalked, Demand3Over, Demand3}
-use Rattle.demands.specs.Derivation.{said}
-use Rattle.demands.proofs.Laws.Derivation.{derived, every-answer}
-use Rattle.demands.proofs.Laws.Forms.Ex.{ex-row, ex-spot, ex-read, LastSpot, last-there}
+use Rattle.reader.proofs.Laws.Reader.{NamesRow, givenBack, read-nt40, given-at, given-length, lastGiven}
+use Rattle.reader_forms.specs.Reading.{noName}
+use Rattle.reply.specs.Reply.{Reply, nt40Octets, responseOctets, exOctets, octetsIn}
+use Rattle.demands.specs.Demand3.{NameGiven, WhereWritten, NamesWalked, Demand3Over, Demand3}
+use Rattle.demands.specs.Derivation.{ReplyIs}
+use Rattle.demands.specs.Places.{namesStart, nameStart}
+use Rattle.demands.specs.WriterPlaces.{lastWrittenAt}
+use Rattle.demands.proofs.Laws.Derivation.{every-answer}
+use Rattle.demands.proofs.Laws.Forms.Ex.{ex-row, ex-start, ex-last-start, ex-read, LastSpot, last-there}
 use Rattle.demands.proofs.Laws.Forms.Nt40.{nt40-opened}
-use Rattle.demands.proofs.Laws.Forms.Response.{response-row, response-spot, response-read}
-use Rattle.demands.proofs.Laws.Sound.{said-octets, said-sound, Sound}
+use Rattle.demands.proofs.Laws.Forms.Response.{response-row, response-start, response-read}
+use Rattle.demands.proofs.Laws.Places.{name-placed}
+use Rattle.demands.proofs.Laws.Sound.{Sound, every-sound}
 
-walked : {s : List ℕ} {at count : ℕ} {text : List ℕ} (k : ℕ) (given : NameRead) → Spot s at (0 + k) text count → given .pointers ≡ count → NameWalked s at k text given
-walked {count = count} {text = text} k given spot e =
+-- a name where the walk finds it, and where the reader found it
+given : {s : List ℕ} {start : ℕ} {text : List ℕ} {count : ℕ} (k : ℕ) → Spot s start (0 + k) text count → NameGiven s start k text (record { start = start; text = text; pointers = count })
+given {text = text} {count = count} k spot =
     record {
-      name = record { labels = labels text; pointers = count };
-      found = finds (spot .walks);
-      reads = refl;
-      joins = joined-labels text;
-      few = omega (arith, spot .byPlace, spot .byLabels);
-      counted = e;
+      walked =
+          record {
+            name = record { labels = labels text; pointers = count };
+            found = finds (spot .walks);
+            reads = refl;
+            joins = joined-labels text;
+            few = omega (arith, spot .byPlace, spot .byLabels);
+          };
+      placed = refl;
+      told = refl;
+      counted = refl;
     }
+
+-- the names of a row, from where the layout places them
+row-given : (form : Form) {s : List ℕ} {at : ℕ} {texts : List (List ℕ)} {octets : List ℕ} (row : NamesRow s at texts octets) → namesStart form s ≡ at → (i : ℕ) → i < length texts
+    → NameGiven s (nameStart form s i) i (getD texts i []) (getD (givenBack (row .starts) texts (row .counts)) i noName)
+row-given form {texts = texts} row first i h = rw (name-placed form row first i h, given-at (row .row) noName i h) (given i (row-spot (row .row) i h))
 
 nt40-walked : (v : ℕ) (r : Reply) → Sound Nt40 v r → NamesWalked Nt40 v r (nt40Octets r)
 nt40-walked v r k =
@@ -39,44 +53,36 @@ nt40-walked v r k =
       fields = _;
       accepted = read-nt40 (nt40Octets r) (r .opcode) (r .server) (r .user) (r .netbios) (nt40-opened v r k);
       many = refl;
-      names = λ k h. absurd (omega arith);
+      names = λ i h. absurd (omega arith);
       last = tt;
     }
 
 response-walked : (v : ℕ) (r : Reply) → Sound Response v r → NamesWalked Response v r (responseOctets r)
 response-walked v r k =
     let row = response-row v r k in
-    let counts : List ℕ = row .counts in
-    let same : length (responseNames r) ≡ length counts = row-lengths (row .row) in
     record {
       fields = _;
       accepted = response-read v r k;
-      many = given-length (responseNames r) counts same;
-      names =
-          λ i h.
-          walked i _ (response-spot v r k i h) (given-at (responseNames r) counts noName i same h);
+      many = given-length (row .row);
+      names = row-given Response row (response-start v r k);
       last = tt;
     }
 
-last-walked : (v : ℕ) (r : Reply) (k : Sound Ex v r) (site : Option (List ℕ)) (count : ℕ) → LastSpot v r k site count
-    → LastWalked (exOctets r) (lastStart r) site (lastGiven site count .nextSite)
-last-walked v r k none count spot = tt
-last-walked v r k (some text) count spot = walked 8 _ spot refl
+last-given : (v : ℕ) (r : Reply) (k : Sound Ex v r) (site : Option (List ℕ)) (count : ℕ) → LastSpot v r k site count
+    → WhereWritten (NameGiven (exOctets r) (lastWrittenAt r) 8) site (lastGiven site (lastWrittenAt r) count .nextSite)
+last-given v r k none count spot = tt
+last-given v r k (some text) count spot = given 8 spot
 
 ex-walked : (v : ℕ) (r : Reply) → Sound Ex v r → NamesWalked Ex v r (exOctets r)
 ex-walked v r k =
     let row = ex-row v r k in
-    let counts : List ℕ = row .counts in
-    let same : length (exNames r) ≡ length counts = row-lengths (row .row) in
     let last = last-there v r k (r .nextSite) refl in
     record {
       fields = _;
       accepted = ex-read v r k;
-      many = given-length (exNames r) counts same;
-      names =
-          λ i h.
-          walked i _ (ex-spot v r k i h) (given-at (exNames r) counts noName i same h);
-      last = last-walked v r k (r .nextSite) (last .0) (last .2);
+      many = given-length (row .row);
+      names = row-given Ex row (ex-start v r k);
+      last = rw (ex-last-start v r k) (last-given v r k (r .nextSite) (last .0) (last .2));
     }
 
 names-walked : (form : Form) (v : ℕ) (r : Reply) → Sound form v r → NamesWalked form v r (octetsIn form r)
@@ -85,10 +91,7 @@ names-walked Response v r k = response-walked v r k
 names-walked Ex v r k = ex-walked v r k
 
 pub demand-3-over : Demand3Over
-demand-3-over t caller p room a passed user e =
-    let d = derived t caller p room a e in
-    let v : ℕ = p .version in
-    (d, subst (NamesWalked (a .form) v (said d)) (sym (said-octets d)) (names-walked (a .form) v (said d) (said-sound d passed user)))
+demand-3-over = every-sound NamesWalked names-walked
 
 pub demand-3 : Demand3
-demand-3 = every-answer ReplyWalked demand-3-over
+demand-3 = every-answer (ReplyIs NamesWalked) demand-3-over

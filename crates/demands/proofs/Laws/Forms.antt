@@ -1,5 +1,5 @@
 -- A reply's octets, bracketed as the reader takes them, and how long its parts are.
-use mathlib.Core.Path.{_≡_, refl}
+use mathlib.Core.Path.{_≡_, refl, subst}
 use mathlib.Core.Bool.{Bool, true, false}
 use mathlib.Core.List.{List, _++_, append-assoc}
 use Prim.Native.Nat.{ℕ, _+_, _≤_}
@@ -11,6 +11,8 @@ use Rattle.octets.specs.Label.{labels}
 use Rattle.octets.proofs.Laws.Label.{size, size-labels}
 use Rattle.octets.proofs.Laws.NameRule.{Writable}
 use Rattle.octets.proofs.Laws.Number.{length-little}
+use Rattle.octets.specs.Lists.{cut}
+use Rattle.reader.proofs.Laws.Field.{Left, left-cut}
 use Rattle.reader.proofs.Laws.Reader as reading
 use Rattle.reply.specs.Reply.{Reply, text16, ending, opening, addressIf}
 use Rattle.demands.proofs.Laws.Sound.{Sound}
@@ -32,6 +34,10 @@ opening-same r rest = simp append-assoc
 pub address-same : (b : Bool) (ipv4 : List ℕ) → addressIf b ipv4 ≡ reading.address b ipv4
 address-same true ipv4 = simp append-assoc
 address-same false ipv4 = refl
+
+-- a field of n octets that stands at an offset is the stretch there
+pub stretch-is : {s : List ℕ} {at : ℕ} (x rest : List ℕ) (n : ℕ) → length x ≡ n → Left s at (x ++ rest) → cut s at n ≡ x
+stretch-is {s} {at} x rest n e l = subst (λ (m : ℕ). cut s at m ≡ x) e (left-cut x rest l)
 
 -- ---- how long names are, by their rules
 

@@ -19,13 +19,13 @@ use Rattle.octets.specs.Lists.{all, first}
 use Rattle.octets.proofs.Laws.Lists.{Every, Unique, all-every, unique-tested, every-take, every-weaken}
 use Rattle.octets.specs.Text.{same}
 use Rattle.reply.specs.Reply.{Reply, responseHead, responseNames, exHead, exNames}
-use Rattle.demands.specs.Derivation.{said}
-use Rattle.demands.specs.Pointers.{tailsBefore, Fit, ReplyFits, PointersFitOver, PointersFit}
-use Rattle.demands.proofs.Laws.Derivation.{derived, every-answer}
+use Rattle.demands.specs.Derivation.{ReplyIs}
+use Rattle.demands.specs.Pointers.{tailsBefore, Fit, PointersFitIn, PointersFitOver, PointersFit}
+use Rattle.demands.proofs.Laws.Derivation.{every-answer}
 use Rattle.demands.proofs.Laws.Forms.Ex.{ex-plain, ex-short, ex-room}
 use Rattle.demands.proofs.Laws.Forms.Names.{tails-low}
 use Rattle.demands.proofs.Laws.Forms.Response.{response-plain, response-short, response-room}
-use Rattle.demands.proofs.Laws.Sound.{said-sound, Sound}
+use Rattle.demands.proofs.Laws.Sound.{Sound, every-sound}
 
 -- tails that start low and of which no two are alike
 fit : (tails : List Tail) → Every (λ t. ltb (t .offset) 0x4000 ≡ true) tails → Unique alike tails → Fit tails
@@ -58,7 +58,7 @@ fits Response v r s k = fit-before (responseHead r) (responseNames r) (response-
 fits Ex v r s k = fit-before (exHead r) (exNames r) (ex-plain v r s) (ex-short v r s) (ex-room v r s) k
 
 pub pointers-fit-over : PointersFitOver
-pointers-fit-over t caller p room a passed user e = let d = derived t caller p room a e in (d, fits (a .form) (p .version) (said d) (said-sound d passed user))
+pointers-fit-over = every-sound PointersFitIn fits
 
 pub pointers-fit : PointersFit
-pointers-fit = every-answer ReplyFits pointers-fit-over
+pointers-fit = every-answer (ReplyIs PointersFitIn) pointers-fit-over

@@ -1,25 +1,31 @@
 -- The reply law is proved: each form's octets stand in the order of the reader's fields.
-use mathlib.Core.Path.{_≡_, refl, sym, ap, _∙_, subst}
+use mathlib.Core.Path.{_≡_, refl, sym, ap, _∙_}
 use mathlib.Core.Bool.{Bool, true, false}
-use mathlib.Core.List.{List}
+use mathlib.Core.List.{List, [], _∷_, _++_, append-assoc}
 use mathlib.Core.Option.{Option, none, some, Option·map}
-use Prim.Native.Nat.{ℕ}
+use Prim.Native.Nat.{ℕ, _+_}
 use lib.ListN.{length}
 use Rattle.answers.specs.declared.Form.{Form}
 use Rattle.answers.specs.declared.Form.the-variants.{Nt40, Response, Ex}
-use Rattle.names.proofs.Laws.Name.{row-lengths}
+use Rattle.answers.specs.Wire.{NETLOGON-NT-VERSION-5EX-WITH-IP, DcSockAddrSize, sin-family, sin-zero}
+use Rattle.octets.specs.Number.{littleOctets, has}
+use Rattle.octets.proofs.Laws.Number.{length-little}
+use Rattle.octets.specs.Sid.{ipv4Size}
 use Rattle.reader.specs.Reader.{readIn, readLength}
+use Rattle.reader.proofs.Laws.Field.{Left, left-next}
+use Rattle.reader.proofs.Laws.Reader as reading
 use Rattle.reader.proofs.Laws.Reader.{read-nt40, texts-given, addressGiven, lastGiven}
-use Rattle.reply.specs.Reply.{Reply, nt40Octets, responseNames, responseOctets, exNames, exOctets, octetsIn}
-use Rattle.demands.specs.Derivation.{said}
-use Rattle.demands.specs.ReplyLaw.{GivenBack, ReadBack, ReplyLawOver, ReplyLaw, addressWritten, textOf, versionWritten}
-use Rattle.demands.proofs.Laws.Derivation.{derived, every-answer}
-use Rattle.demands.proofs.Laws.Forms.Ex.{ex-row, ex-read, last-there}
+use Rattle.reply.specs.Reply.{Reply, nt40Octets, responseOctets, exOctets, octetsIn}
+use Rattle.demands.specs.Derivation.{ReplyIs}
+use Rattle.demands.specs.ReplyLaw.{stretchOf, GivenBack, ReadBack, ReplyLawOver, ReplyLaw, addressWritten, textOf, versionWritten}
+use Rattle.demands.proofs.Laws.Derivation.{every-answer}
+use Rattle.demands.proofs.Laws.Forms.Ex.{ex-row, ex-rest, ex-guid, ex-read, last-there}
+use Rattle.demands.proofs.Laws.Forms.{stretch-is}
 use Rattle.demands.proofs.Laws.Forms.Nt40.{nt40-opened}
-use Rattle.demands.proofs.Laws.Forms.Response.{response-opened, response-row, response-read}
-use Rattle.demands.proofs.Laws.Sound.{said-octets, said-sound, Sound}
+use Rattle.demands.proofs.Laws.Forms.Response.{response-opened, response-row, response-read, response-guid, response-ipv4}
+use Rattle.demands.proofs.Laws.Sound.{Sound, every-sound}
 
-nt40-back : (v : ℕ) (r : Reply) → Sound Nt40 v r → GivenBack Nt40 v r (nt40Octets r)
+nt40-back : (v : ℕ) (r : Reply) → Sound Nt40 v r → GivenBack Nt40 r (nt40Octets r) (readIn Nt40 v (nt40Octets r))
 nt40-back v r k =
     let o = nt40-opened v r k in (
       _,
@@ -27,7 +33,7 @@ nt40-back v r k =
       record { opcode = refl; server = o .serverIs; user = o .userIs; domain = o .domainIs; version = refl },
     )
 
-response-back : (v : ℕ) (r : Reply) → Sound Response v r → GivenBack Response v r (responseOctets r)
+response-back : (v : ℕ) (r : Reply) → Sound Response v r → GivenBack Response r (responseOctets r) (readIn Response v (responseOctets r))
 response-back v r k =
     let o = response-opened v r k in
     let row = response-row v r k in (
@@ -38,28 +44,33 @@ response-back v r k =
         server = o .serverIs;
         user = o .userIs;
         domain = o .domainIs;
-        guid = refl;
-        names = texts-given (responseNames r) (row .counts) (row-lengths (row .row));
-        ipv4 = refl;
+        guid = response-guid v r k;
+        names = texts-given (row .row);
+        ipv4 = response-ipv4 v r k;
         flags = refl;
         version = refl;
       },
     )
 
 -- the address and name 8 are given back where they were written
-address-back : (r : Reply) (b : Bool) → addressGiven b (r .ipv4) ≡ addressWritten r b
-address-back r true = refl
-address-back r false = refl
+address-back : {s : List ℕ} {at : ℕ} (r : Reply) (b : Bool) (rest : List ℕ) → length (r .ipv4) ≡ ipv4Size → Left s at (reading.address b (r .ipv4) ++ rest)
+    → Option·map (stretchOf s) (addressGiven b at) ≡ addressWritten r b
+address-back {s} {at} r true rest i l =
+    let after : List ℕ = r .ipv4 ++ (sin-zero ++ rest) in
+    let sized : Left s at ((DcSockAddrSize ∷ []) ++ (littleOctets 4 sin-family ++ after)) = simp append-assoc at l in
+    let family : Left s (at + 1) (littleOctets 4 sin-family ++ after) = left-next (DcSockAddrSize ∷ []) (littleOctets 4 sin-family ++ after) 1 refl sized in
+    ap some (stretch-is (r .ipv4) (sin-zero ++ rest) ipv4Size i (left-next (littleOctets 4 sin-family) after 4 (length-little 4 sin-family) family))
+address-back r false rest i l = refl
 
-last-back : (site : Option (List ℕ)) (count : ℕ) → Option·map textOf (lastGiven site count .nextSite) ≡ site
-last-back none count = refl
-last-back (some text) count = refl
+last-back : (site : Option (List ℕ)) (at count : ℕ) → Option·map textOf (lastGiven site at count .nextSite) ≡ site
+last-back none at count = refl
+last-back (some text) at count = refl
 
-version-back : (site : Option (List ℕ)) (count : ℕ) → lastGiven site count .version ≡ versionWritten site
-version-back none count = refl
-version-back (some text) count = refl
+version-back : (site : Option (List ℕ)) (at count : ℕ) → lastGiven site at count .version ≡ versionWritten site
+version-back none at count = refl
+version-back (some text) at count = refl
 
-ex-back : (v : ℕ) (r : Reply) → Sound Ex v r → GivenBack Ex v r (exOctets r)
+ex-back : (v : ℕ) (r : Reply) → Sound Ex v r → GivenBack Ex r (exOctets r) (readIn Ex v (exOctets r))
 ex-back v r k =
     let row = ex-row v r k in
     let count : ℕ = last-there v r k (r .nextSite) refl .0 in (
@@ -68,31 +79,30 @@ ex-back v r k =
       record {
         opcode = refl;
         flags = refl;
-        guid = refl;
-        names = texts-given (exNames r) (row .counts) (row-lengths (row .row));
-        ipv4 = ap (λ (b : Bool). addressGiven b (r .ipv4)) (sym (k .address)) ∙ address-back r (r .withAddress);
-        nextSite = last-back (r .nextSite) count;
-        version = version-back (r .nextSite) count;
+        guid = ex-guid v r k;
+        names = texts-given (row .row);
+        ipv4 = address-back r (has v NETLOGON-NT-VERSION-5EX-WITH-IP) _ (k .ipv4) (ex-rest v r k) ∙ ap (addressWritten r) (sym (k .address));
+        nextSite = last-back (r .nextSite) _ count;
+        version = version-back (r .nextSite) _ count;
       },
     )
 
-given-back : (form : Form) (v : ℕ) (r : Reply) → Sound form v r → GivenBack form v r (octetsIn form r)
+given-back : (form : Form) (v : ℕ) (r : Reply) → Sound form v r → GivenBack form r (octetsIn form r) (readIn form v (octetsIn form r))
 given-back Nt40 v r k = nt40-back v r k
 given-back Response v r k = response-back v r k
 given-back Ex v r k = ex-back v r k
 
 -- a reply that the reader accepts is read with its length
-read-whole : (form : Form) (v : ℕ) (r : Reply) (s : List ℕ) → GivenBack form v r s → readLength (readIn form v s) s ≡ length s
+read-whole : (form : Form) (v : ℕ) (r : Reply) (s : List ℕ) → GivenBack form r s (readIn form v s) → readLength (readIn form v s) s ≡ length s
 read-whole Nt40 v r s g = rw (g .1)
 read-whole Response v r s g = rw (g .1)
 read-whole Ex v r s g = rw (g .1)
 
+read-back : (form : Form) (v : ℕ) (r : Reply) → Sound form v r → ReadBack form v r (octetsIn form r)
+read-back form v r k = let g = given-back form v r k in (g, read-whole form v r (octetsIn form r) g)
+
 pub reply-law-over : ReplyLawOver
-reply-law-over t caller p room a passed user e =
-    let d = derived t caller p room a e in
-    let v : ℕ = p .version in
-    let g : GivenBack (a .form) v (said d) (a .octets) = subst (GivenBack (a .form) v (said d)) (sym (said-octets d)) (given-back (a .form) v (said d) (said-sound d passed user)) in
-    (d, g, read-whole (a .form) v (said d) (a .octets) g)
+reply-law-over = every-sound ReadBack read-back
 
 pub reply-law : ReplyLaw
-reply-law = every-answer ReadBack reply-law-over
+reply-law = every-answer (ReplyIs ReadBack) reply-law-over

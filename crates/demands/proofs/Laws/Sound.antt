@@ -1,5 +1,5 @@
 -- A good answer was made from good parts, so that its reply can be written and read.
-use mathlib.Core.Path.{_≡_, refl, ap, subst}
+use mathlib.Core.Path.{_≡_, refl, sym, ap, subst}
 use mathlib.Core.Bool.{Bool, true, false, cond, not, _&&_}
 use mathlib.Core.List.{List, [], _∷_}
 use mathlib.Core.Option.{Option, none, some, Option·map, Option·getD, bind}
@@ -41,7 +41,8 @@ use Rattle.table.specs.Countings.{sameSite}
 use Rattle.table.specs.Table.{Table}
 use Rattle.table_find.specs.Find.{contextsSearched, contextByGuid, contextByDnsName, contextBySid, holdsSid, contextByNumber, defaultContext, siteByNumber, siteIfAny, siteOfSubnet, siteFor, clientSite, subnetFor}
 use Rattle.table_whole.proofs.Laws.Judgement.{GoodContext, GoodSite, GoodTable, judged-good}
-use Rattle.demands.specs.Derivation.{AcceptedTable, GoodPing, Derivation, said}
+use Rattle.demands.specs.Derivation.{AcceptedTable, GoodPing, Derivation, said, ReplyIs, EveryAnswerOver}
+use Rattle.demands.proofs.Laws.Derivation.{derived}
 
 -- ---- the context used is one of the table's
 
@@ -230,10 +231,16 @@ replied t caller p room c a e =
     same x y q = cc
 
 module _ {t : Table} {caller : Caller} {p : Ping} {room : ℕ} {a : Outcome} (d : Derivation t caller p room a) where
-  pub said-octets : a .octets ≡ octetsIn (a .form) (said d)
+  said-octets : a .octets ≡ octetsIn (a .form) (said d)
   said-octets = replied t caller p room (d .context) a (d .replied) .octets
 
-  pub said-sound : AcceptedTable t → GoodPing p → Sound (a .form) (p .version) (said d)
+  said-sound : AcceptedTable t → GoodPing p → Sound (a .form) (p .version) (said d)
   said-sound passed user =
       let g : GoodTable t = judged-good (passed .image) t (passed .judged) in
       reply-sound t caller p (d .context) (a .form) g (context-good t p (d .context) g (d .used)) (user-good p user) (replied t caller p room (d .context) a (d .replied) .user)
+
+-- what holds of every reply that can be written and read holds of every answer's
+pub every-sound : (P : Form → ℕ → Reply → List ℕ → Type 0) → ((form : Form) (v : ℕ) (r : Reply) → Sound form v r → P form v r (octetsIn form r)) → EveryAnswerOver (ReplyIs P)
+every-sound P law t caller p room a passed user e =
+    let d = derived t caller p room a e in
+    (d, subst (P (a .form) (p .version) (said d)) (sym (said-octets d)) (law (a .form) (p .version) (said d) (said-sound d passed user)))

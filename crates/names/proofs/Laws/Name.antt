@@ -179,7 +179,7 @@ starts earlier at [] = []
 starts earlier at (text ∷ texts) = let one = writeName earlier at text in at ∷ starts (earlier ++ one .tails) (at + length (one .octets)) texts
 
 -- a name starts after the names before it
-start-after : (texts : List (List ℕ)) (earlier : List Tail) (at i : ℕ) → i < length texts → getD (starts earlier at texts) i 0 ≡ at + length (writeNames earlier at (take i texts) .octets)
+pub start-after : (texts : List (List ℕ)) (earlier : List Tail) (at i : ℕ) → i < length texts → getD (starts earlier at texts) i 0 ≡ at + length (writeNames earlier at (take i texts) .octets)
 unfolding writeNames
 start-after [] earlier at i h = absurd (omega arith)
 start-after (text ∷ texts) earlier at zero h = omega arith
@@ -198,10 +198,6 @@ pub row-longer : {s : List ℕ} {k at end : ℕ} {ats cs : List ℕ} {texts : Li
 row-longer q stops = stops
 row-longer q (goes a b w r) = goes a b (longer q w) (row-longer q r)
 
-pub row-lengths : {s : List ℕ} {k at end : ℕ} {ats cs : List ℕ} {texts : List (List ℕ)} → Row s k at ats texts cs end → length texts ≡ length cs
-row-lengths stops = refl
-row-lengths (goes a b w r) = ap suc (row-lengths r)
-
 -- the name at one place of a row
 pub record Spot (s : List ℕ) (at k : ℕ) (text : List ℕ) (count : ℕ) : Type 0 where
   pub next : ℕ
@@ -209,7 +205,7 @@ pub record Spot (s : List ℕ) (at k : ℕ) (text : List ℕ) (count : ℕ) : Ty
   pub byLabels : count ≤ length (labels text)
   pub walks : Walks s at at (labels text) count next
 
-row-spot : {s : List ℕ} {k at end : ℕ} {ats cs : List ℕ} {texts : List (List ℕ)} → Row s k at ats texts cs end → (i : ℕ) → i < length texts
+pub row-spot : {s : List ℕ} {k at end : ℕ} {ats cs : List ℕ} {texts : List (List ℕ)} → Row s k at ats texts cs end → (i : ℕ) → i < length texts
     → Spot s (getD ats i 0) (k + i) (getD texts i []) (getD cs i 0)
 row-spot stops i h = absurd (omega arith)
 row-spot {k = k} (goes {c = c} {next = n} a b w r) zero h = record { next = n; byPlace = omega arith; byLabels = b; walks = w }
@@ -278,10 +274,3 @@ names-more (first ∷ texts) earlier at text =
     ∙ (let one : Writing = writeName (earlier ++ (a .tails ++ w .tails)) (at + length (a .octets ++ w .octets)) text in
     ap₂ (λ (x : List ℕ) (y : List Tail). record { octets = x; tails = y })
     (sym (append-assoc (a .octets) (w .octets) (one .octets))) (sym (append-assoc (a .tails) (w .tails) (one .tails))))
-
--- the name at place i of names written after p, with anything after them
-pub name-at-place : (texts : List (List ℕ)) (k : ℕ) (p q : List ℕ) (chain : Chain k (length p) [] texts (p ++ writeNames [] (length p) texts .octets)) (i : ℕ) → i < length texts
-    → Spot (p ++ writeNames [] (length p) texts .octets ++ q) (length p + length (writeNames [] (length p) (take i texts) .octets)) (k + i) (getD texts i []) (getD (chain .counts) i 0)
-name-at-place texts k p q chain i h =
-    let d = row-spot (row-longer q (chain .row)) i h in
-    rw (start-after texts [] (length p) i h) at d

@@ -174,6 +174,11 @@ module _ {A : Type 0} where
   every-append P [] ys h k = k
   every-append P (x ∷ xs) ys h k = (h .0, every-append P xs ys (h .1) k)
 
+  pub every-at : (P : A → Type 0) (xs : List A) (k : ℕ) (d : A) → Every P xs → k < length xs → P (getD xs k d)
+  every-at P [] k d e h = absurd (omega arith)
+  every-at P (x ∷ xs) zero d e h = e .0
+  every-at P (x ∷ xs) (suc k) d e h = every-at P xs k d (e .1) (omega arith)
+
   pub every-take : (P : A → Type 0) (n : ℕ) (xs : List A) → Every P xs → Every P (take n xs)
   every-take P zero xs h = tt
   every-take P (suc n) [] h = tt

@@ -9,7 +9,20 @@ use Rattle.answers.specs.Try.{good}
 use Rattle.octets.specs.Lists.{cut}
 use Rattle.octets.proofs.Laws.Lists.{cut-after}
 use Rattle.octets.proofs.Laws.Text.{same-self}
-use Rattle.reader.specs.Field.{readOctets, readFixed}
+use Rattle.reader.specs.declared.field.FieldRead.{FieldRead}
+use Rattle.reader.specs.declared.field.FieldRead.the-variants as field
+use Rattle.reader.specs.Field.{readOctets, readStretch, readFixed}
+use Rattle.reader.specs.Internal.Field.{fieldIn}
+
+-- what an enum says, once it is known which of its cases it is
+pub told : {A B : Type 0} (f : A → B) {x y : A} {t : B} → x ≡ y → f x ≡ t → t ≡ f y
+told f g e = sym e ∙ ap f g
+
+-- a stretch is read where its octets are
+pub stretch-told : (s : List ℕ) (at n : ℕ) (r : FieldRead) → fieldIn (cut s at n) r ≡ readOctets s at n → fieldIn (record { start = at; len = n }) r ≡ readStretch s at n
+unfolding readStretch
+stretch-told s at n (field.Next next) e = rw (← e)
+stretch-told s at n (field.Refused r) e = rw (← e)
 
 -- from `at` on, s holds these octets and no others
 pub record Left (s : List ℕ) (at : ℕ) (rest : List ℕ) : Type 0 where
@@ -40,6 +53,10 @@ module _ {s : List ℕ} {at : ℕ} where
       let k : at + n ≤ length s = omega (arith, simp length-append at h) in
       let c : cut s at n ≡ x = subst (λ (m : ℕ). cut s at m ≡ x) e (left-cut x rest l) in
       rw (le-ltb (length s) (at + n) k, c)
+
+  pub stretch-here : (x rest : List ℕ) (n : ℕ) → length x ≡ n → Left s at (x ++ rest) → readStretch s at n ≡ good (record { value = record { start = at; len = n }; next = at + n })
+  unfolding readStretch
+  stretch-here x rest n e l = rw (octets-here x rest n e l)
 
   pub fixed-here : (x rest : List ℕ) (n : ℕ) → length x ≡ n → Left s at (x ++ rest) → readFixed s at x ≡ good (record { value = x; next = at + n })
   unfolding readFixed

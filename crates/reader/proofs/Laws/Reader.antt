@@ -20,10 +20,11 @@ use Rattle.octets.specs.Number.{littleOctets, has}
 use Rattle.octets.proofs.Laws.Number.{length-little, little-back}
 use Rattle.unicode.specs.Utf16.{utf16, pointsOctets}
 use Rattle.unicode.proofs.Laws.Utf16.{Spoken}
-use Rattle.reader.proofs.Laws.Field.{Left, left-start, left-after, left-next, left-length, left-cut, left-same, octets-here, fixed-here}
+use Rattle.reader.proofs.Laws.Field.{Left, left-start, left-after, left-next, left-length, left-cut, left-same, octets-here, stretch-here, fixed-here}
 use Rattle.reader.specs.Name.{readName}
 use Rattle.reader.proofs.Laws.Name.{name-here}
-use Rattle.reader.specs.Text.{Stretch, readText}
+use Rattle.reader.specs.declared.field.Stretch.{Stretch}
+use Rattle.reader.specs.Text.{readText}
 use Rattle.reader.proofs.Laws.Text.{text-here, text-after}
 use Rattle.reader.specs.Reader.{NameRead, ExFields, Fields, nt40, response, ex, readOpcode, readNumber, readNames, readConstant, readTokens, readOpening, readNt40, readResponse, readAddress, hasNextSite, Last, readLast, readEx}
 
@@ -127,34 +128,33 @@ opened s opcode server user domain rest e code a b c =
 -- ---- names
 
 -- names as they are given back
-abbrev pub givenBack : List (List ℕ) → List ℕ → List NameRead
-givenBack [] counts = []
-givenBack (text ∷ texts) [] = []
-givenBack (text ∷ texts) (c ∷ counts) = record { text = text; pointers = c } ∷ givenBack texts counts
+abbrev pub givenBack : List ℕ → List (List ℕ) → List ℕ → List NameRead
+givenBack (at ∷ ats) (text ∷ texts) (c ∷ counts) = record { start = at; text = text; pointers = c } ∷ givenBack ats texts counts
+givenBack [] texts counts = []
+givenBack (at ∷ ats) [] counts = []
+givenBack (at ∷ ats) (text ∷ texts) [] = []
 
--- their texts are those that went in, and the count at each place is that of the name there
-pub texts-given : (texts : List (List ℕ)) (counts : List ℕ) → length texts ≡ length counts → map (λ n. n .text) (givenBack texts counts) ≡ texts
-texts-given [] counts e = refl
-texts-given (text ∷ texts) [] e = absurd (omega arith)
-texts-given (text ∷ texts) (c ∷ counts) e = ap (λ (x : List (List ℕ)). text ∷ x) (texts-given texts counts (omega arith))
+-- their texts are those that went in, and at each place stand the offset and the count of the name there
+pub texts-given : {s : List ℕ} {k at end : ℕ} {ats counts : List ℕ} {texts : List (List ℕ)} → Row s k at ats texts counts end → map (λ n. n .text) (givenBack ats texts counts) ≡ texts
+texts-given stops = refl
+texts-given (goes {text = text} a b w r) = ap (λ (x : List (List ℕ)). text ∷ x) (texts-given r)
 
-pub given-length : (texts : List (List ℕ)) (counts : List ℕ) → length texts ≡ length counts → length (givenBack texts counts) ≡ length texts
-given-length [] counts e = refl
-given-length (text ∷ texts) [] e = absurd (omega arith)
-given-length (text ∷ texts) (c ∷ counts) e = ap suc (given-length texts counts (omega arith))
+pub given-length : {s : List ℕ} {k at end : ℕ} {ats counts : List ℕ} {texts : List (List ℕ)} → Row s k at ats texts counts end → length (givenBack ats texts counts) ≡ length texts
+given-length stops = refl
+given-length (goes a b w r) = ap suc (given-length r)
 
-pub given-at : (texts : List (List ℕ)) (counts : List ℕ) (other : NameRead) (i : ℕ) → length texts ≡ length counts → i < length texts → getD (givenBack texts counts) i other .pointers ≡ getD counts i 0
-given-at [] counts other i e h = absurd (omega arith)
-given-at (text ∷ texts) [] other i e h = absurd (omega arith)
-given-at (text ∷ texts) (c ∷ counts) other zero e h = refl
-given-at (text ∷ texts) (c ∷ counts) other (suc i) e h = given-at texts counts other i (omega arith) (omega arith)
+pub given-at : {s : List ℕ} {k at end : ℕ} {ats counts : List ℕ} {texts : List (List ℕ)} → Row s k at ats texts counts end → (other : NameRead) (i : ℕ) → i < length texts
+    → getD (givenBack ats texts counts) i other ≡ record { start = getD ats i 0; text = getD texts i []; pointers = getD counts i 0 }
+given-at stops other i h = absurd (omega arith)
+given-at (goes a b w r) other zero h = refl
+given-at (goes a b w r) other (suc i) h = given-at r other i (omega arith)
 
 name-given : {s : List ℕ} {at c next : ℕ} (text : List ℕ) → Walks s at at (labels text) c next → size (labels text) ≤ 255 → c ≤ 16
     → readName s at ≡ good (record { value = record { labels = labels text; pointers = c }; next = next })
 name-given text w room few = name-here w room few
 
 names-here : {s : List ℕ} {k at end : ℕ} {ats counts : List ℕ} {texts : List (List ℕ)} → Row s k at ats texts counts end → k + length texts ≤ 17 → Every (λ text. size (labels text) ≤ 255) texts
-    → readNames (length texts) s at ≡ good (record { value = givenBack texts counts; next = end })
+    → readNames (length texts) s at ≡ good (record { value = givenBack ats texts counts; next = end })
 unfolding readNames
 names-here stops few room = refl
 names-here {s} {k} (goes {c = c} {end = end} {text = text} {cs = cs} {texts = texts} a b w r) few room =
@@ -177,9 +177,9 @@ pub record NamesRow (s : List ℕ) (at : ℕ) (texts : List (List ℕ)) (octets 
   pub short : Every (λ text. size (labels text) ≤ 255) texts
 
 row-here : {s : List ℕ} {at : ℕ} {texts : List (List ℕ)} {octets : List ℕ} (n : ℕ) → length texts ≡ n → n ≤ 17 → (r : NamesRow s at texts octets)
-    → readNames n s at ≡ good (record { value = givenBack texts (r .counts); next = at + length octets })
+    → readNames n s at ≡ good (record { value = givenBack (r .starts) texts (r .counts); next = at + length octets })
 row-here {s} {at} {texts} {octets} n e h r =
-    subst (λ (m : ℕ). readNames m s at ≡ good (record { value = givenBack texts (r .counts); next = at + length octets })) e (names-here (r .row) (omega arith) (r .short))
+    subst (λ (m : ℕ). readNames m s at ≡ good (record { value = givenBack (r .starts) texts (r .counts); next = at + length octets })) e (names-here (r .row) (omega arith) (r .short))
 
 module _ (s : List ℕ) (opcode : ℕ) (server user domain guid : List ℕ) (texts : List (List ℕ)) (octets ipv4 : List ℕ) (flags : ℕ) where
   abbrev pub afterHead : List ℕ
@@ -195,9 +195,9 @@ module _ (s : List ℕ) (opcode : ℕ) (server user domain guid : List ℕ) (tex
         server = o .serverAt;
         user = o .userAt;
         domain = o .domainAt;
-        guid = guid;
-        names = givenBack texts (r .counts);
-        ipv4 = ipv4;
+        guid = record { start = o .next; len = 16 };
+        names = givenBack (r .starts) texts (r .counts);
+        ipv4 = record { start = at + length octets; len = 4 };
         flags = flags;
         version = responseVersion;
       }))
@@ -206,18 +206,18 @@ module _ (s : List ℕ) (opcode : ℕ) (server user domain guid : List ℕ) (tex
       let l1 : Left s (o .next + 16) (NullGuid ++ afterHead) = left-next guid (NullGuid ++ afterHead) 16 g (o .left) in
       let l2 : Left s (o .next + 16 + 16) afterHead = left-next NullGuid afterHead 16 refl l1 in
       let same-offset : at ≡ o .next + 16 + 16 = left-same afterHead here l2 in
-      let names : readNames 3 s (o .next + 16 + 16) ≡ good (record { value = givenBack texts (r .counts); next = at + length octets }) =
-      subst (λ (x : ℕ). readNames 3 s x ≡ good (record { value = givenBack texts (r .counts); next = at + length octets })) same-offset (row-here 3 three (omega arith) r) in
+      let names : readNames 3 s (o .next + 16 + 16) ≡ good (record { value = givenBack (r .starts) texts (r .counts); next = at + length octets }) =
+      subst (λ (x : ℕ). readNames 3 s x ≡ good (record { value = givenBack (r .starts) texts (r .counts); next = at + length octets })) same-offset (row-here 3 three (omega arith) r) in
       let l3 : Left s (at + length octets) (ipv4 ++ (littleOctets 4 flags ++ ending responseVersion)) = left-after octets (ipv4 ++ (littleOctets 4 flags ++ ending responseVersion)) here in
       let l4 : Left s (at + length octets + 4) (littleOctets 4 flags ++ ending responseVersion) = left-next ipv4 (littleOctets 4 flags ++ ending responseVersion) 4 i l3 in
       let l5 : Left s (at + length octets + 4 + 4) (littleOctets 4 responseVersion ++ tokens) = number-after (ending responseVersion) 4 flags l4 in
       let l6 : Left s (at + length octets + 4 + 4 + 4) tokens = number-after tokens 4 responseVersion l5 in
       rw (
         o .reads,
-        octets-here guid (NullGuid ++ afterHead) 16 g (o .left),
+        stretch-here guid (NullGuid ++ afterHead) 16 g (o .left),
         fixed-here NullGuid afterHead 16 refl l1,
         names,
-        octets-here ipv4 (littleOctets 4 flags ++ ending responseVersion) 4 i l3,
+        stretch-here ipv4 (littleOctets 4 flags ++ ending responseVersion) 4 i l3,
         number-here (ending responseVersion) flags f l4,
         constant-here tokens 4 responseVersion l5,
         tokens-here _ l6,
@@ -229,12 +229,13 @@ abbrev pub address : Bool → List ℕ → List ℕ
 address true ipv4 = (DcSockAddrSize ∷ []) ++ (littleOctets 4 sin-family ++ (ipv4 ++ sin-zero))
 address false ipv4 = []
 
-abbrev pub addressGiven : Bool → List ℕ → Option (List ℕ)
-addressGiven true ipv4 = some ipv4
-addressGiven false ipv4 = none
+-- its four octets, where it starts at an offset
+abbrev pub addressGiven : Bool → ℕ → Option Stretch
+addressGiven true at = some (record { start = at + 1 + 4; len = 4 })
+addressGiven false at = none
 
 address-here : {s : List ℕ} {at : ℕ} (b : Bool) (ipv4 rest : List ℕ) → length ipv4 ≡ 4 → Left s at (address b ipv4 ++ rest)
-    → readAddress b s at ≡ good (record { value = addressGiven b ipv4; next = at + length (address b ipv4) })
+    → readAddress b s at ≡ good (record { value = addressGiven b at; next = at + length (address b ipv4) })
 unfolding readAddress
 address-here {s} {at} false ipv4 rest i l =
     let e : at ≡ at + 0 = omega arith in
@@ -250,10 +251,10 @@ address-here {s} {at} true ipv4 rest i l =
     rw (
       fixed-here (DcSockAddrSize ∷ []) (littleOctets 4 sin-family ++ (ipv4 ++ zeros)) 1 refl m,
       constant-here (ipv4 ++ zeros) 4 sin-family l1,
-      octets-here ipv4 zeros 4 i l2,
+      stretch-here ipv4 zeros 4 i l2,
       fixed-here sin-zero rest 8 refl l3,
     )
-    (ap (λ (x : ℕ). good (record { value = some ipv4; next = x })) e)
+    (ap (λ (x : ℕ). good (record { value = addressGiven true at; next = x })) e)
 
 -- whether name 8 is there shows in the version 8 octets from the end
 next-site-shown : {s : List ℕ} {at : ℕ} (version : ℕ) → version < 256 ^ 4 → Left s at (ending version) → hasNextSite s ≡ eqb version exVersionWithNextSite
@@ -275,12 +276,12 @@ abbrev pub LastAt : List ℕ → ℕ → ℕ → Option (List ℕ) → List ℕ 
 LastAt s v at none octets count = Unit {0}
 LastAt s v at (some text) octets count = Walks s at at (labels text) count (at + length octets) × (size (labels text) ≤ 255) × (count ≤ 16) × (has v NETLOGON-NT-VERSION-WITH-CLOSEST-SITE ≡ true)
 
-abbrev pub lastGiven : Option (List ℕ) → ℕ → Last
-lastGiven none count = record { nextSite = none; version = exVersion }
-lastGiven (some text) count = record { nextSite = some (record { text = text; pointers = count }); version = exVersionWithNextSite }
+abbrev pub lastGiven : Option (List ℕ) → ℕ → ℕ → Last
+lastGiven none at count = record { nextSite = none; version = exVersion }
+lastGiven (some text) at count = record { nextSite = some (record { start = at; text = text; pointers = count }); version = exVersionWithNextSite }
 
 last-here : {s : List ℕ} {at : ℕ} (v : ℕ) (site : Option (List ℕ)) (octets : List ℕ) (count : ℕ) (fields : Fields) → Left s at (last site octets) → LastAt s v at site octets count
-    → (next : ℕ) × (readLast (hasNextSite s) v s at ≡ good (record { value = lastGiven site count; next = next })) × (readTokens s next fields ≡ good fields)
+    → (next : ℕ) × (readLast (hasNextSite s) v s at ≡ good (record { value = lastGiven site at count; next = next })) × (readTokens s next fields ≡ good fields)
 unfolding readLast
 last-here {s} {at} v none octets count fields l k =
     (at + 4, rw (next-site-shown exVersion (omega arith) l, constant-here tokens 4 exVersion l), tokens-here fields (number-after tokens 4 exVersion l))
@@ -291,17 +292,17 @@ last-here {s} {at} v (some text) octets count fields l k =
       tokens-here fields (number-after tokens 4 exVersionWithNextSite m),
     )
 
--- what the reader then gives back
-abbrev pub exGiven : ℕ → ℕ → ℕ → List ℕ → List (List ℕ) → List ℕ → List ℕ → Option (List ℕ) → ℕ → ExFields
-exGiven v opcode flags guid texts counts ipv4 site lastCount =
+-- what the reader then gives back, with the names' end at an offset
+abbrev pub exGiven : ℕ → ℕ → ℕ → List NameRead → ℕ → Last → ExFields
+exGiven v opcode flags names end given =
     record {
       opcode = opcode;
       flags = flags;
-      guid = guid;
-      names = givenBack texts counts;
-      ipv4 = addressGiven (has v NETLOGON-NT-VERSION-5EX-WITH-IP) ipv4;
-      nextSite = lastGiven site lastCount .nextSite;
-      version = lastGiven site lastCount .version;
+      guid = record { start = 0 + 2 + 2 + 4; len = 16 };
+      names = names;
+      ipv4 = addressGiven (has v NETLOGON-NT-VERSION-5EX-WITH-IP) end;
+      nextSite = given .nextSite;
+      version = given .version;
     }
 
 module _ (s : List ℕ) (v opcode flags : ℕ) (guid : List ℕ) (texts : List (List ℕ)) (octets ipv4 : List ℕ) (site : Option (List ℕ)) (lastOctets : List ℕ) (lastCount : ℕ) where
@@ -311,7 +312,11 @@ module _ (s : List ℕ) (v opcode flags : ℕ) (guid : List ℕ) (texts : List (
   pub read-ex : (at : ℕ) → s ≡ littleOctets 2 opcode ++ (littleOctets 2 Sbz ++ (littleOctets 4 flags ++ (guid ++ (octets ++ afterNames))))
       → GoodOpcode exOpcodes opcode → flags < 256 ^ 4 → length guid ≡ 16 → length ipv4 ≡ 4 → length texts ≡ 8
       → Left s at (octets ++ afterNames) → (r : NamesRow s at texts octets) → LastAt s v (at + length octets + length (address (has v NETLOGON-NT-VERSION-5EX-WITH-IP) ipv4)) site lastOctets lastCount
-      → readEx v s ≡ good (ex (exGiven v opcode flags guid texts (r .counts) ipv4 site lastCount))
+      → readEx v s
+      ≡ good
+      (ex
+      (exGiven v opcode flags (givenBack (r .starts) texts (r .counts)) (at + length octets)
+      (lastGiven site (at + length octets + length (address (has v NETLOGON-NT-VERSION-5EX-WITH-IP) ipv4)) lastCount)))
   unfolding readEx
   read-ex at e code f g i eight here r k =
       let l0 : Left s 0 (littleOctets 2 opcode ++ (littleOctets 2 Sbz ++ (littleOctets 4 flags ++ (guid ++ (octets ++ afterNames))))) = subst (Left s 0) e (left-start s) in
@@ -320,17 +325,20 @@ module _ (s : List ℕ) (v opcode flags : ℕ) (guid : List ℕ) (texts : List (
       let l3 : Left s (0 + 2 + 2 + 4) (guid ++ (octets ++ afterNames)) = number-after _ 4 flags l2 in
       let l4 : Left s (0 + 2 + 2 + 4 + 16) (octets ++ afterNames) = left-next guid (octets ++ afterNames) 16 g l3 in
       let same-offset : at ≡ 0 + 2 + 2 + 4 + 16 = left-same (octets ++ afterNames) here l4 in
-      let names : readNames 8 s (0 + 2 + 2 + 4 + 16) ≡ good (record { value = givenBack texts (r .counts); next = at + length octets }) =
-      subst (λ (x : ℕ). readNames 8 s x ≡ good (record { value = givenBack texts (r .counts); next = at + length octets })) same-offset (row-here 8 eight (omega arith) r) in
+      let names : readNames 8 s (0 + 2 + 2 + 4 + 16) ≡ good (record { value = givenBack (r .starts) texts (r .counts); next = at + length octets }) =
+      subst (λ (x : ℕ). readNames 8 s x ≡ good (record { value = givenBack (r .starts) texts (r .counts); next = at + length octets })) same-offset (row-here 8 eight (omega arith) r) in
       let l5 : Left s (at + length octets) (address (has v NETLOGON-NT-VERSION-5EX-WITH-IP) ipv4 ++ last site lastOctets) = left-after octets afterNames here in
       let l6 : Left s (at + length octets + length (address (has v NETLOGON-NT-VERSION-5EX-WITH-IP) ipv4)) (last site lastOctets) = left-after (address (has v NETLOGON-NT-VERSION-5EX-WITH-IP) ipv4) (last site lastOctets) l5 in
-      let fields : Fields = ex (exGiven v opcode flags guid texts (r .counts) ipv4 site lastCount) in
+      let fields : Fields =
+      ex
+      (exGiven v opcode flags (givenBack (r .starts) texts (r .counts)) (at + length octets)
+      (lastGiven site (at + length octets + length (address (has v NETLOGON-NT-VERSION-5EX-WITH-IP) ipv4)) lastCount)) in
       let end = last-here v site lastOctets lastCount fields l6 k in
       rw (
         opcode-here _ exOpcodes opcode code l0,
         constant-here _ 2 Sbz l1,
         number-here _ flags f l2,
-        octets-here guid (octets ++ afterNames) 16 g l3,
+        stretch-here guid (octets ++ afterNames) 16 g l3,
         names,
         address-here (has v NETLOGON-NT-VERSION-5EX-WITH-IP) ipv4 (last site lastOctets) i l5,
         end .1,

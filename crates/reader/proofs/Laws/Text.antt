@@ -1,47 +1,59 @@
 -- A text of UTF-16 units that ends in a zero unit is read as its stretch.
-use mathlib.Core.Path.{_≡_, refl, ap, _∙_}
+use mathlib.Core.Path.{_≡_, refl, sym, ap, _∙_}
 use mathlib.Core.Bool.{Bool, true, false, cond}
 use mathlib.Core.List.{List, [], _∷_, _++_, append-assoc}
 use Prim.Native.Nat.{ℕ, zero, suc, _+_, _-_, _<_, _≤_}
 use native.Mathlib.Omega.{arith}
 use lib.Dec.{eqb, ltb}
 use lib.ListN.{length, length-append}
-use borrow.Author.Tests.{ne-eqb, le-leb, lt-leb, ltb-true, ltb-false}
-use Rattle.answers.specs.Try.{Try, good}
+use borrow.Author.Tests.{eq-eqb, ne-eqb, le-leb, lt-leb, ltb-true, ltb-false}
+use Rattle.answers.specs.declared.Refusal.{Refusal}
+use Rattle.answers.specs.Try.{Try, refused, good, _>>=_}
 use Rattle.octets.proofs.Laws.Lists.{Every}
 use Rattle.octets.specs.Number.{little, littleOctets}
 use Rattle.unicode.proofs.Laws.Utf8.{Scalar}
 use Rattle.unicode.specs.Utf16.{pointOctets, pointsOctets, isHigh, isLow}
 use Rattle.unicode.proofs.Laws.Utf16.{highUnit, lowUnit, one-unit, two-units}
-use Rattle.reader.specs.Field.{Read}
+use Rattle.reader.specs.Field.{Read, readOctets}
 use Rattle.reader.proofs.Laws.Field.{Left, octets-here, left-after, left-next, left-length}
-use Rattle.reader.specs.Text.{Stretch, ends, plain, high, low, unitOf, go, turn, readTextFrom, readText}
+use Rattle.reader.specs.declared.field.Stretch.{Stretch}
+use Rattle.reader.specs.declared.text.Unit16.the-variants.{Ends, Plain, High, Low}
+use Rattle.reader.specs.declared.text.Turn.{Turn}
+use Rattle.reader.specs.declared.text.Turn.the-variants.{Stop, Go, Wrong}
+use Rattle.reader.specs.declared.text.UnitStep.{UnitStep}
+use Rattle.reader.specs.declared.text.UnitStep.the-variants as step
+use Rattle.reader.specs.Text.{unitOf, turn, onTurn, readTextFrom, readText}
+use Rattle.reader.specs.Internal.Text.{stepTo, onUnit, unitStep}
 
 -- ---- units
 
-plain-unit : (c : ℕ) → Scalar c → unitOf c ≡ plain
+pub zero-unit : (u : ℕ) → u ≡ 0 → unitOf u ≡ Ends
 unfolding unitOf
-plain-unit c f = split (ltb c 0xD800) refl
+zero-unit u e = rw (eq-eqb u 0 e)
+
+pub plain-unit : (c : ℕ) → 1 ≤ c → (0xD800 ≤ c → 0xE000 ≤ c) → unitOf c ≡ Plain
+unfolding unitOf
+plain-unit c some unique = split (ltb c 0xD800) refl
   where
     nonzero : c ≡ 0 → ⊥
-    nonzero q = omega (arith, f .some)
+    nonzero q = omega arith
 
-    split : (b : Bool) → ltb c 0xD800 ≡ b → cond (eqb c 0) ends (cond (isHigh c) high (cond (isLow c) low plain)) ≡ plain
+    split : (b : Bool) → ltb c 0xD800 ≡ b → cond (eqb c 0) Ends (cond (isHigh c) High (cond (isLow c) Low Plain)) ≡ Plain
     split true e =
         let h : c < 0xD800 = ltb-true c 0xD800 e in
         rw (ne-eqb c 0 nonzero, lt-leb 0xD800 c h, lt-leb 0xDC00 c (omega arith))
     split false e =
         let h : 0xD800 ≤ c = ltb-false c 0xD800 e in
-        let g : 0xE000 ≤ c = f .unique h in
+        let g : 0xE000 ≤ c = unique h in
         rw (ne-eqb c 0 nonzero, le-leb 0xD800 c h, lt-leb c 0xDBFF (omega arith), le-leb 0xDC00 c (omega arith), lt-leb c 0xDFFF (omega arith))
 
-high-unit : (u : ℕ) → 0xD800 ≤ u → u ≤ 0xDBFF → unitOf u ≡ high
+pub high-unit : (u : ℕ) → 0xD800 ≤ u → u ≤ 0xDBFF → unitOf u ≡ High
 unfolding unitOf
 high-unit u a b =
     let n : u ≡ 0 → ⊥ = λ q. omega arith in
     rw (ne-eqb u 0 n, le-leb 0xD800 u a, le-leb u 0xDBFF b)
 
-low-unit : (u : ℕ) → 0xDC00 ≤ u → u ≤ 0xDFFF → unitOf u ≡ low
+pub low-unit : (u : ℕ) → 0xDC00 ≤ u → u ≤ 0xDFFF → unitOf u ≡ Low
 unfolding unitOf
 low-unit u a b =
     let n : u ≡ 0 → ⊥ = λ q. omega arith in
@@ -54,7 +66,7 @@ abbrev Got : ℕ → ℕ → ℕ → Try (Read Stretch)
 Got start at n = good (record { value = record { start = start; len = at + n - start }; next = at + n + 2 })
 
 module _ {s : List ℕ} (start : ℕ) where
-  unit-step : (k at a b u : ℕ) (rest : List ℕ) (h g : Bool) → Left s at ((a ∷ b ∷ []) ++ rest) → little (a ∷ b ∷ []) ≡ u → turn h (unitOf u) ≡ go g
+  unit-step : (k at a b u : ℕ) (rest : List ℕ) (h g : Bool) → Left s at ((a ∷ b ∷ []) ++ rest) → little (a ∷ b ∷ []) ≡ u → turn h (unitOf u) ≡ Go g
       → readTextFrom (suc k) s start at h ≡ readTextFrom k s start (at + 2) g
   unfolding readTextFrom
   unit-step k at a b u rest h g l e t = rw (octets-here (a ∷ b ∷ []) rest 2 refl l, e, t)
@@ -95,7 +107,7 @@ module _ {s : List ℕ} (start : ℕ) where
       one h d =
           let u = one-unit c h in
           let m : Left s at ((u .0 ∷ u .1 ∷ []) ++ after) = rw (u .2) at here in
-          let t : turn false (unitOf c) ≡ go false = rw (plain-unit c (ok .0)) in
+          let t : turn false (unitOf c) ≡ Go false = rw (plain-unit c (ok .0 .some) (ok .0 .unique)) in
           let n : length (pointOctets c) ≡ 2 = ap length (u .2) in
           let fewer : length (pointsOctets cs) < k = omega (arith, length-append (pointOctets c) (pointsOctets cs)) in
           unit-step k at (u .0) (u .1) c after false false m (u .3) t ∙ d k (at + 2) fewer (left-next (u .0 ∷ u .1 ∷ []) after 2 refl m) ∙ moved 2 n
@@ -108,8 +120,8 @@ module _ {s : List ℕ} (start : ℕ) where
           let m2 : Left s (at + 2) ((u .2 ∷ u .3 ∷ []) ++ after) = left-next (u .0 ∷ u .1 ∷ []) ((u .2 ∷ u .3 ∷ []) ++ after) 2 refl m in
           let m3 : Left s (at + 2 + 2) after = left-next (u .2 ∷ u .3 ∷ []) after 2 refl m2 in
           let below : c < 0x110000 = ok .0 .below in
-          let hi : turn false (unitOf (highUnit c)) ≡ go true = rw (high-unit (highUnit c) (omega arith) (omega arith)) in
-          let lo : turn true (unitOf (lowUnit c)) ≡ go false = rw (low-unit (lowUnit c) (omega arith) (omega arith)) in
+          let hi : turn false (unitOf (highUnit c)) ≡ Go true = rw (high-unit (highUnit c) (omega arith) (omega arith)) in
+          let lo : turn true (unitOf (lowUnit c)) ≡ Go false = rw (low-unit (lowUnit c) (omega arith) (omega arith)) in
           let n : length (pointOctets c) ≡ 4 = ap length (u .4) in
           let fewer : length (pointsOctets cs) < k = omega (arith, length-append (pointOctets c) (pointsOctets cs)) in
           let four : at + 2 + 2 ≡ at + 4 = omega arith in
@@ -136,3 +148,65 @@ text-here {s} {at} cs rest ok l =
 pub text-after : {s : List ℕ} {at : ℕ} (x rest : List ℕ) → Left s at (x ++ (littleOctets 2 0 ++ rest)) → Left s (at + length x + 2) rest
 unfolding littleOctets
 text-after x rest l = left-next (littleOctets 2 0) rest 2 refl (left-after x (littleOctets 2 0 ++ rest) l)
+
+-- ---- unit by unit, as the code reads it
+
+module _ (s : List ℕ) (start : ℕ) where
+  -- what is left of the reading after a unit at an offset
+  abbrev after : ℕ → ℕ → UnitStep → Try (Read Stretch)
+  after k at (step.Stop next) = good (record { value = record { start = start; len = at - start }; next = next })
+  after k at (step.Go afterHigh next) = readTextFrom k s start next afterHigh
+  after k at (step.Refused r) = refused r
+
+  one-turn : (k at : ℕ) (h : Bool) → readTextFrom (suc k) s start at h ≡ after k at (unitStep s at h)
+  unfolding readTextFrom unitStep
+  one-turn k at h = go (readOctets s at 2)
+    where
+      turned : (next : ℕ) (t : Turn) → onTurn t (good (record { value = record { start = start; len = at - start }; next = next })) (λ g. readTextFrom k s start next g) ≡ after k at (stepTo next t)
+      turned next Stop = refl
+      turned next (Go g) = refl
+      turned next Wrong = refl
+
+      go : (u : Try (Read (List ℕ)))
+          → (u >>= λ x. onTurn (turn h (unitOf (little (x .value)))) (good (record { value = record { start = start; len = at - start }; next = x .next })) (λ g. readTextFrom k s start (x .next) g))
+          ≡ after k at (onUnit h u)
+      go (refused r) = refl
+      go (good x) = turned (x .next) (turn h (unitOf (little (x .value))))
+
+  -- the reading goes on at an offset, with units enough
+  pub record TextLeft (at : ℕ) (afterHigh : Bool) : Type 0 where
+    pub turns : ℕ
+    pub enough : length s + start < turns + at
+    pub from : start ≤ at
+    pub to : at ≤ length s + start
+    pub left : readTextFrom turns s start at afterHigh ≡ readText s start
+
+  pub text-start : TextLeft start false
+  unfolding readText
+  text-start = record { turns = suc (length s); enough = omega arith; from = omega arith; to = omega arith; left = refl }
+
+  -- some unit leads to what the reading gives
+  leads : (at : ℕ) (h : Bool) (t : TextLeft at h) → (k : ℕ) × (t .turns ≡ suc k) × (after k at (unitStep s at h) ≡ readText s start)
+  leads at h t = go (t .turns) refl
+    where
+      go : (n : ℕ) → t .turns ≡ n → (k : ℕ) × (t .turns ≡ suc k) × (after k at (unitStep s at h) ≡ readText s start)
+      go zero e = absurd (omega (arith, t .enough, t .to))
+      go (suc k) e = (k, e, sym (one-turn k at h) ∙ sym (ap (λ (n : ℕ). readTextFrom n s start at h) e) ∙ t .left)
+
+  module _ {at : ℕ} {h : Bool} (t : TextLeft at h) where
+    pub text-stop : (next : ℕ) → unitStep s at h ≡ step.Stop next → readText s start ≡ good (record { value = record { start = start; len = at - start }; next = next })
+    text-stop next e = let l = leads at h t in sym (l .2) ∙ ap (after (l .0) at) e
+
+    pub text-refused : (r : Refusal) → unitStep s at h ≡ step.Refused r → readText s start ≡ refused r
+    text-refused r e = let l = leads at h t in sym (l .2) ∙ ap (after (l .0) at) e
+
+    pub text-go : (g : Bool) (next : ℕ) → unitStep s at h ≡ step.Go g next → next ≡ at + 2 → next ≤ length s → TextLeft next g
+    text-go g next e two within =
+        let l = leads at h t in
+        record {
+          turns = l .0;
+          enough = omega (arith, t .enough, l .1);
+          from = omega (arith, t .from);
+          to = omega arith;
+          left = sym (ap (after (l .0) at) e) ∙ l .2;
+        }

@@ -79,7 +79,8 @@ fn path(filter: &[u8]) -> Vec<(u8, usize)> {
         found.push((tag, octets));
         at += 1 + octets;
         match (tag, found.iter().filter(|(tag, _)| *tag == STRING).count()) {
-            (STRING, 1) => at += usize::from(filter[at - 1]),
+            // Of a filter cut inside this length nothing is left.
+            (STRING, 1) => at += filter.get(at - 1).map_or(0, |length| usize::from(*length)),
             (STRING, _) => break,
             _ => {}
         }

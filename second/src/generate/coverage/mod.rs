@@ -4,10 +4,15 @@
 mod filters;
 mod pings;
 pub mod places;
-mod replies;
+mod reads;
 pub mod rules;
 pub mod samples;
 mod tables;
+#[cfg(test)]
+mod tests;
+mod trace;
+mod trail;
+mod walks;
 
 use std::collections::BTreeMap;
 
@@ -55,7 +60,7 @@ impl Coverage {
         let (kind, number) = (*answer.first()?, *answer.get(1)?);
         match kind {
             "check" => met.add("check given"),
-            "walk" => replies::add_walk(&request, &answer, met)?,
+            "walk" => walks::add_cases(&request, &answer, met)?,
             _ => met.add(format!("{kind} {number}")),
         }
         match kind {
@@ -66,7 +71,7 @@ impl Coverage {
             "ping" => pings::add_cases(&self.image, &request, &answer, met)?,
             "filter" | "values" => filters::add_cases(&octets_of_word(request.get(1)?)?, &answer, met),
             "write" => filters::add_write(&request, &answer, met)?,
-            "read" => replies::add_read(&request, &answer, met)?,
+            "read" => reads::add_cases(&request, &answer, met)?,
             _ => {}
         }
         Some(())
@@ -108,7 +113,8 @@ pub fn required() -> Vec<String> {
     cases.extend(samples::required());
     cases.extend(required_of_pings());
     cases.extend(filters::required());
-    cases.extend(replies::required());
+    cases.extend(reads::required());
+    cases.extend(walks::required());
     cases
 }
 

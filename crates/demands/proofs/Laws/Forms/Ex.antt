@@ -1,14 +1,14 @@
 -- The octets of an EX reply in the order of the reader's fields, with its names at their places.
 use mathlib.Core.Path.{_≡_, refl, sym, ap, _∙_, subst}
-use mathlib.Core.Bool.{Bool, true, false}
+use mathlib.Core.Bool.{Bool, true, false, cond}
 use mathlib.Core.List.{List, [], _++_, append-assoc}
 use mathlib.Core.Option.{Option, none, some}
 use Prim.Native.Nat.{ℕ, _+_, _<_, _≤_}
 use native.Mathlib.Omega.{arith}
-use lib.ListN.{length, getD, take, length-append}
+use lib.ListN.{length, getD, length-append}
 use Rattle.answers.specs.declared.Form.the-variants.{Ex}
 use Rattle.answers.specs.Try.{good}
-use Rattle.answers.specs.Wire.{NETLOGON-NT-VERSION-5EX-WITH-IP, NETLOGON-NT-VERSION-WITH-CLOSEST-SITE, exVersion, exVersionWithNextSite, Sbz, sin-family}
+use Rattle.answers.specs.Wire.{NETLOGON-NT-VERSION-5EX-WITH-IP, NETLOGON-NT-VERSION-WITH-CLOSEST-SITE, exVersion, exVersionWithNextSite, Sbz, DcSockAddrSize, sin-family}
 use Rattle.names.specs.Name.{Tail, Writing, writeName, writeNames}
 use Rattle.names.specs.WalkRelation.{Walks}
 use Rattle.names.proofs.Laws.Name.{Ready, ready-later, Written, labels-written, labels-short, sizes, names-short, Spot}
@@ -17,16 +17,22 @@ use Rattle.octets.specs.Label.{labels}
 use Rattle.octets.proofs.Laws.Label.{Plain, size}
 use Rattle.octets.proofs.Laws.Lists.{Every}
 use Rattle.octets.proofs.Laws.NameRule.{Writable}
+use Rattle.octets.specs.Lists.{cut}
 use Rattle.octets.specs.Number.{littleOctets, has}
 use Rattle.octets.proofs.Laws.Number.{length-little}
+use Rattle.octets.specs.Sid.{guidSize}
 use Rattle.reader.specs.Reader as reader
+use Rattle.reader.proofs.Laws.Field.{Left, left-start, left-after, left-next}
 use Rattle.reader.proofs.Laws.Reader as reading
-use Rattle.reader.proofs.Laws.Reader.{NamesRow, LastAt}
+use Rattle.reader.proofs.Laws.Reader.{NamesRow, givenBack, LastAt}
 use Rattle.reply.specs.Reply.{Reply, exHead, exNames, addressIf, exLast, exOctets}
 use Rattle.demands.specs.Length.{longest}
+use Rattle.demands.specs.Places.{namesStart, lastStart}
+use Rattle.demands.specs.WriterPlaces.{writtenAt}
 use Rattle.demands.proofs.Laws.Sound.{Sound}
-use Rattle.demands.proofs.Laws.Forms.{ending-same, address-same, size-most, ending-length}
-use Rattle.demands.proofs.Laws.Forms.Names.{chain, named-row, named-spot}
+use Rattle.demands.proofs.Laws.Forms.{ending-same, address-same, stretch-is, size-most, ending-length}
+use Rattle.demands.proofs.Laws.Forms.Names.{chain, named-row, named-at}
+use Rattle.demands.proofs.Laws.Places.{names-end}
 
 -- the octets of name 8, if there is one
 abbrev pub lastName : Option (List ℕ) → List Tail → ℕ → List ℕ
@@ -95,17 +101,27 @@ module _ (v : ℕ) (r : Reply) (k : Sound Ex v r) where
   pub ex-row : NamesRow (exOctets r) (length (exHead r)) (exNames r) (exNamed .octets)
   ex-row = named-row (exHead r) (exNames r) ex-plain ex-short ex-room exRest (exOctets r) ex-names
 
-  pub ex-spot : (i : ℕ) → i < length (exNames r)
-      → Spot (exOctets r) (length (exHead r) + length (writeNames [] (length (exHead r)) (take i (exNames r)) .octets)) (0 + i) (getD (exNames r) i []) (getD (ex-row .counts) i 0)
-  unfolding ex-row named-row
-  ex-spot = named-spot (exHead r) (exNames r) ex-plain ex-short ex-room exRest (exOctets r) ex-names
+  pub ex-at : (i : ℕ) → i < length (exNames r) → getD (ex-row .starts) i 0 ≡ writtenAt Ex r i
+  unfolding ex-row
+  ex-at = named-at (exHead r) (exNames r) ex-plain ex-short ex-room exRest (exOctets r) ex-names
 
   front-length : length exFront ≡ length (exHead r) + length (exNamed .octets) + length (reading.address (has v NETLOGON-NT-VERSION-5EX-WITH-IP) (r .ipv4))
   front-length = rw address-is (simp length-append)
 
+  address-length : (b : Bool) → length (reading.address b (r .ipv4)) ≡ cond b (1 + DcSockAddrSize) 0
+  address-length true = simp length-append (omega (arith, length-little 4 sin-family, k .ipv4))
+  address-length false = refl
+
   address-short : (b : Bool) → length (reading.address b (r .ipv4)) ≤ 17
-  address-short true = simp length-append (omega (arith, length-little 4 sin-family, k .ipv4))
+  address-short true = omega (arith, address-length true)
   address-short false = omega arith
+
+  -- the names start where the layout says, and so does name 8
+  pub ex-start : namesStart Ex (exOctets r) ≡ length (exHead r)
+  ex-start = sym ex-head
+
+  pub ex-last-start : lastStart v (exOctets r) ≡ length exFront
+  ex-last-start = omega (arith, names-end Ex ex-row ex-start, address-length (has v NETLOGON-NT-VERSION-5EX-WITH-IP), front-length)
 
   pub front-short : length exFront ≤ 1035
   front-short = omega (arith, front-length, ex-head, ex-sizes, names-short (exNames r) [] (length (exHead r)), address-short (has v NETLOGON-NT-VERSION-5EX-WITH-IP))
@@ -156,15 +172,38 @@ module _ (v : ℕ) (r : Reply) (k : Sound Ex v r) where
       head : exHead r ++ exNamed .octets ++ exRest ≡ littleOctets 2 (r .opcode) ++ (littleOctets 2 Sbz ++ (littleOctets 4 (r .flags) ++ (r .guid ++ (exNamed .octets ++ exRest))))
       head = unfold exHead in simp append-assoc
 
+  ex-left : Left (exOctets r) (length (exHead r)) (exNamed .octets ++ exRest)
+  ex-left = record { front = exHead r; whole = ex-names ∙ append-assoc (exHead r) (exNamed .octets) exRest; offset = refl }
+
+  -- the address and what follows stand after the names
+  pub ex-rest : Left (exOctets r) (length (exHead r) + length (exNamed .octets)) exRest
+  ex-rest = left-after (exNamed .octets) exRest ex-left
+
+  pub ex-guid : cut (exOctets r) (2 + 2 + 4) guidSize ≡ r .guid
+  ex-guid =
+      let numbers : List ℕ = littleOctets 2 (r .opcode) ++ (littleOctets 2 Sbz ++ littleOctets 4 (r .flags)) in
+      let n : length numbers ≡ 2 + 2 + 4 = simp length-append (omega (arith, length-little 2 (r .opcode), length-little 2 Sbz, length-little 4 (r .flags))) in
+      let whole : Left (exOctets r) 0 (numbers ++ (r .guid ++ (exNamed .octets ++ exRest))) = subst (Left (exOctets r) 0) (ex-shape ∙ simp append-assoc) (left-start (exOctets r)) in
+      stretch-is (r .guid) (exNamed .octets ++ exRest) guidSize (k .guid) (left-next numbers (r .guid ++ (exNamed .octets ++ exRest)) (2 + 2 + 4) n whole)
+
   pub ex-read : reader.readEx v (exOctets r)
-      ≡ good (reader.ex (reading.exGiven v (r .opcode) (r .flags) (r .guid) (exNames r) (ex-row .counts) (r .ipv4) (r .nextSite) lastCount))
+      ≡ good
+      (reader.ex
+      (reading.exGiven v (r .opcode) (r .flags) (givenBack (ex-row .starts) (exNames r) (ex-row .counts)) (length (exHead r) + length (exNamed .octets))
+      (reading.lastGiven (r .nextSite) (length exFront) lastCount)))
   ex-read =
       let last : LastAt (exOctets r) v (length (exHead r) + length (exNamed .octets) + length (reading.address (has v NETLOGON-NT-VERSION-5EX-WITH-IP) (r .ipv4))) (r .nextSite) exEnd lastCount =
       subst (λ (x : ℕ). LastAt (exOctets r) v x (r .nextSite) exEnd lastCount) front-length (last-there (r .nextSite) refl .1) in
-      reading.read-ex (exOctets r) v (r .opcode) (r .flags) (r .guid) (exNames r) (exNamed .octets) (r .ipv4) (r .nextSite) exEnd lastCount
+      subst (λ (x : ℕ).
+      reader.readEx v (exOctets r)
+      ≡ good
+      (reader.ex
+      (reading.exGiven v (r .opcode) (r .flags) (givenBack (ex-row .starts) (exNames r) (ex-row .counts)) (length (exHead r) + length (exNamed .octets))
+      (reading.lastGiven (r .nextSite) x lastCount))))
+      (sym front-length)
+      (reading.read-ex (exOctets r) v (r .opcode) (r .flags) (r .guid) (exNames r) (exNamed .octets) (r .ipv4) (r .nextSite) exEnd lastCount
       (length (exHead r)) ex-shape (k .opcode) (k .flags) (k .guid) (k .ipv4) refl
-      (record { front = exHead r; whole = ex-names ∙ append-assoc (exHead r) (exNamed .octets) exRest; offset = refl })
-      ex-row last
+      ex-left ex-row last)
 
   last-length : (site : Option (List ℕ)) → r .nextSite ≡ site → length (reading.last site (lastName site (exNamed .tails) (length exFront))) ≤ 73
   unfolding writeName

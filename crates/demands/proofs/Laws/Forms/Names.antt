@@ -1,4 +1,4 @@
--- Names after a head, before anything: the reader finds each after the one before it, and the walk finds each at its place.
+-- Names after a head, before anything: the reader finds each after the one before it.
 use mathlib.Core.Path.{_≡_, refl, sym, subst}
 use mathlib.Core.Bool.{true}
 use mathlib.Core.List.{List, [], _++_}
@@ -8,7 +8,7 @@ use lib.Dec.{ltb}
 use lib.ListN.{length, getD, take, length-append}
 use borrow.Author.Tests.{lt-ltb}
 use Rattle.names.specs.Name.{writeNames}
-use Rattle.names.proofs.Laws.Name.{Ready, sizes, names-short, starts, Row, row-longer, Spot, Chain, names-written, name-at-place}
+use Rattle.names.proofs.Laws.Name.{Ready, sizes, names-short, starts, start-after, Row, row-longer, Chain, names-written}
 use Rattle.octets.specs.Label.{labels}
 use Rattle.octets.proofs.Laws.Label.{Plain, size}
 use Rattle.octets.proofs.Laws.Lists.{Every, every-weaken}
@@ -20,7 +20,7 @@ module _ (head : List ℕ) (texts : List (List ℕ)) (plain : Every (λ text. Pl
   chain = names-written texts [] 0 head (length head) refl room tt plain
 
   -- in a reply that has them there, the reader finds them one after the other
-  unfoldable pub named-row : (q s : List ℕ) → s ≡ head ++ writeNames [] (length head) texts .octets ++ q → NamesRow s (length head) texts (writeNames [] (length head) texts .octets)
+  pub named-row : (q s : List ℕ) → s ≡ head ++ writeNames [] (length head) texts .octets ++ q → NamesRow s (length head) texts (writeNames [] (length head) texts .octets)
   named-row q s whole =
       let octets : List ℕ = writeNames [] (length head) texts .octets in
       let e : length (head ++ octets) ≡ length head + length octets = length-append head octets in
@@ -32,10 +32,11 @@ module _ (head : List ℕ) (texts : List (List ℕ)) (plain : Every (λ text. Pl
         short = short;
       }
 
-  -- and the walk each at its place
-  pub named-spot : (q s : List ℕ) → s ≡ head ++ writeNames [] (length head) texts .octets ++ q → (i : ℕ) → i < length texts
-      → Spot s (length head + length (writeNames [] (length head) (take i texts) .octets)) (0 + i) (getD texts i []) (getD (chain .counts) i 0)
-  named-spot q s whole i h = rw whole (name-at-place texts 0 head q chain i h)
+  -- and the writer put each after those before it
+  pub named-at : (q s : List ℕ) (whole : s ≡ head ++ writeNames [] (length head) texts .octets ++ q) (i : ℕ) → i < length texts
+      → getD (named-row q s whole .starts) i 0 ≡ length head + length (writeNames [] (length head) (take i texts) .octets)
+  unfolding named-row
+  named-at q s whole i h = start-after texts [] (length head) i h
 
   -- the tails that they leave start below what names and head take
   pub tails-low : Every (λ t. ltb (t .offset) 0x4000 ≡ true) (writeNames [] (length head) texts .tails)

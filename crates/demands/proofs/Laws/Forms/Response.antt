@@ -1,27 +1,33 @@
 -- The octets of a RESPONSE in the order of the reader's fields, with its names at their places.
-use mathlib.Core.Path.{_≡_, refl, _∙_}
+use mathlib.Core.Path.{_≡_, refl, ap, _∙_}
 use mathlib.Core.List.{List, [], _++_, append-assoc}
 use Prim.Native.Nat.{ℕ, _+_, _<_, _≤_}
 use native.Mathlib.Omega.{arith}
-use lib.ListN.{length, getD, take, length-append, length-replicate}
+use lib.ListN.{length, getD, length-append, length-replicate}
 use Rattle.answers.specs.declared.Form.the-variants.{Response}
 use Rattle.answers.specs.Try.{good}
 use Rattle.answers.specs.Wire.{responseVersion, NullGuid, Lm20Token}
 use Rattle.names.specs.Name.{writeNames}
-use Rattle.names.proofs.Laws.Name.{sizes, names-short, Spot}
+use Rattle.names.proofs.Laws.Name.{sizes, names-short}
 use Rattle.octets.specs.Label.{labels}
 use Rattle.octets.proofs.Laws.Label.{Plain, size}
 use Rattle.octets.proofs.Laws.Lists.{Every}
 use Rattle.octets.specs.Number.{littleOctets}
 use Rattle.octets.proofs.Laws.Number.{length-little}
+use Rattle.octets.specs.Lists.{cut}
+use Rattle.octets.specs.Sid.{guidSize, ipv4Size}
 use Rattle.reader.specs.Reader as reader
+use Rattle.reader.proofs.Laws.Field.{Left, left-after, left-next, left-same}
 use Rattle.reader.proofs.Laws.Reader as reading
 use Rattle.reader.proofs.Laws.Reader.{Opened, opened, NamesRow, givenBack}
 use Rattle.reply.specs.Reply.{Reply, opening, responseHead, responseNames, responseOctets}
 use Rattle.demands.specs.Length.{longest}
+use Rattle.demands.specs.Places.{namesStart}
+use Rattle.demands.specs.WriterPlaces.{writtenAt}
 use Rattle.demands.proofs.Laws.Sound.{Sound}
-use Rattle.demands.proofs.Laws.Forms.{ending-same, opening-same, size-most, opening-length}
-use Rattle.demands.proofs.Laws.Forms.Names.{named-row, named-spot}
+use Rattle.demands.proofs.Laws.Forms.{ending-same, opening-same, stretch-is, size-most, opening-length}
+use Rattle.demands.proofs.Laws.Forms.Names.{named-row, named-at}
+use Rattle.demands.proofs.Laws.Places.{opening-ends}
 
 module _ (v : ℕ) (r : Reply) (k : Sound Response v r) where
   pub response-plain : Every (λ text. Plain (labels text)) (responseNames r)
@@ -68,10 +74,9 @@ module _ (v : ℕ) (r : Reply) (k : Sound Response v r) where
   pub response-row : NamesRow (responseOctets r) (length (responseHead r)) (responseNames r) responseNamed
   response-row = named-row (responseHead r) (responseNames r) response-plain response-short response-room responseRest (responseOctets r) response-split
 
-  pub response-spot : (i : ℕ) → i < length (responseNames r)
-      → Spot (responseOctets r) (length (responseHead r) + length (writeNames [] (length (responseHead r)) (take i (responseNames r)) .octets)) (0 + i) (getD (responseNames r) i []) (getD (response-row .counts) i 0)
-  unfolding response-row named-row
-  response-spot = named-spot (responseHead r) (responseNames r) response-plain response-short response-room responseRest (responseOctets r) response-split
+  pub response-at : (i : ℕ) → i < length (responseNames r) → getD (response-row .starts) i 0 ≡ writtenAt Response r i
+  unfolding response-row
+  response-at = named-at (responseHead r) (responseNames r) response-plain response-short response-room responseRest (responseOctets r) response-split
 
   pub response-opened : Opened (responseOctets r) (r .opcode) (r .server) (r .user) (r .netbios) (r .guid ++ (NullGuid ++ (responseNamed ++ responseRest)))
   response-opened = opened (responseOctets r) (r .opcode) (r .server) (r .user) (r .netbios) (r .guid ++ (NullGuid ++ (responseNamed ++ responseRest))) shape (k .opcode) (k .serverSpoken) (k .userSpoken) (k .netbiosSpoken)
@@ -82,6 +87,16 @@ module _ (v : ℕ) (r : Reply) (k : Sound Response v r) where
       shape : responseOctets r ≡ reading.opening (r .opcode) (r .server) (r .user) (r .netbios) (r .guid ++ (NullGuid ++ (responseNamed ++ responseRest)))
       shape = response-split ∙ head ∙ opening-same r (r .guid ++ (NullGuid ++ (responseNamed ++ responseRest)))
 
+  response-left : Left (responseOctets r) (length (responseHead r)) (responseNamed ++ responseRest)
+  response-left = record { front = responseHead r; whole = response-split ∙ append-assoc (responseHead r) responseNamed responseRest; offset = refl }
+
+  -- the names start where the layout says
+  pub response-start : namesStart Response (responseOctets r) ≡ length (responseHead r)
+  response-start =
+      let names : List ℕ = responseNamed ++ responseRest in
+      let zeros : Left (responseOctets r) (response-opened .next + guidSize) (NullGuid ++ names) = left-next (r .guid) (NullGuid ++ names) guidSize (k .guid) (response-opened .left) in
+      ap (λ (n : ℕ). n + guidSize + length NullGuid) (opening-ends (responseOctets r) _ (response-opened .reads)) ∙ left-same names (left-after NullGuid names zeros) response-left
+
   pub response-read : reader.readResponse (responseOctets r)
       ≡ good
       (reader.response
@@ -90,14 +105,19 @@ module _ (v : ℕ) (r : Reply) (k : Sound Response v r) where
         server = response-opened .serverAt;
         user = response-opened .userAt;
         domain = response-opened .domainAt;
-        guid = r .guid;
-        names = givenBack (responseNames r) (response-row .counts);
-        ipv4 = r .ipv4;
+        guid = record { start = response-opened .next; len = guidSize };
+        names = givenBack (response-row .starts) (responseNames r) (response-row .counts);
+        ipv4 = record { start = length (responseHead r) + length responseNamed; len = ipv4Size };
         flags = r .flags;
         version = responseVersion;
       }))
   response-read =
       reading.read-response (responseOctets r) (r .opcode) (r .server) (r .user) (r .netbios) (r .guid) (responseNames r) responseNamed (r .ipv4) (r .flags)
       response-opened (k .guid) (k .ipv4) (k .flags) refl (length (responseHead r))
-      (record { front = responseHead r; whole = response-split ∙ append-assoc (responseHead r) responseNamed responseRest; offset = refl })
-      response-row
+      response-left response-row
+
+  pub response-guid : cut (responseOctets r) (response-opened .next) guidSize ≡ r .guid
+  response-guid = stretch-is (r .guid) (NullGuid ++ (responseNamed ++ responseRest)) guidSize (k .guid) (response-opened .left)
+
+  pub response-ipv4 : cut (responseOctets r) (length (responseHead r) + length responseNamed) ipv4Size ≡ r .ipv4
+  response-ipv4 = stretch-is (r .ipv4) (littleOctets 4 (r .flags) ++ reading.ending responseVersion) ipv4Size (k .ipv4) (left-after responseNamed responseRest response-left)

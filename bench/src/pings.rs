@@ -1,0 +1,50 @@
+//! Pings for timing: document 01's P1, and the worst ping of a laden table.
+use crate::image::{long_dns_name, long_guid, long_sid, CONTEXTS};
+
+/// Document 01's filter and reply of P1.
+pub const P1_FILTER: [u8; 17] =
+    [0xA0, 0x0F, 0xA3, 0x0D, 0x04, 0x05, 0x4E, 0x74, 0x56, 0x65, 0x72, 0x04, 0x04, 0x06, 0x00, 0x00, 0x00];
+#[rustfmt::skip]
+pub const P1_REPLY: [u8; 72] = [
+    0x17, 0x00, 0x00, 0x00, 0x98, 0x01, 0x00, 0x00, 0x01, 0x02, 0x03, 0x04, 0x05, 0x06, 0x07, 0x08, 0x09, 0x0A,
+    0x0B, 0x0C, 0x0D, 0x0E, 0x0F, 0x10, 0x07, 0x65, 0x78, 0x61, 0x6D, 0x70, 0x6C, 0x65, 0x00, 0x04, 0x63, 0x6F,
+    0x72, 0x70, 0xC0, 0x18, 0x03, 0x64, 0x63, 0x31, 0xC0, 0x21, 0x04, 0x43, 0x4F, 0x52, 0x50, 0x00, 0x03, 0x44,
+    0x43, 0x31, 0x00, 0x00, 0x02, 0x48, 0x51, 0x00, 0xC0, 0x3A, 0x05, 0x00, 0x00, 0x00, 0xFF, 0xFF, 0xFF, 0xFF,
+];
+
+/// The version bits of an EX with the address and name 8.
+pub const EX_VERSION: u32 = 0x1C;
+
+/// The worst reply's length: opcode to GUID, three names of 127 labels, two NetBIOS names, user, two sites, address, the
+/// next closest site, version and tokens. No name's tail stands before, so no pointer shortens it.
+pub const WORST_LENGTH: usize = 24 + 3 * 255 + 2 * 17 + 65 + 2 * 65 + 17 + 65 + 8;
+
+/// A tag, a length in as few octets as it needs, and the octets.
+fn element(tag: u8, octets: &[u8]) -> Vec<u8> {
+    let length = octets.len() as u16;
+    let [high, low] = length.to_be_bytes();
+    let mut element = match length {
+        0..=0x7F => vec![tag, low],
+        0x80..=0xFF => vec![tag, 0x81, low],
+        _ => vec![tag, 0x82, high, low],
+    };
+    element.extend(octets);
+    element
+}
+
+/// A filter of all eight clauses, for the last context and the last user.
+pub fn worst_filter(user: &[u8], version: u32) -> Vec<u8> {
+    let asked = long_dns_name(b'a' + CONTEXTS as u8).to_ascii_uppercase();
+    let clauses: [(&[u8], &[u8]); 8] = [
+        (b"DnsDomain", &asked),
+        (b"Host", b"WORKSTATION"),
+        (b"DnsHostName", &long_dns_name(b'w')),
+        (b"User", user),
+        (b"AAC", &[0x10, 0, 0, 0]),
+        (b"DomainSid", &long_sid(CONTEXTS)),
+        (b"DomainGuid", &long_guid(CONTEXTS)),
+        (b"NtVer", &version.to_le_bytes()),
+    ];
+    let equalities = clauses.map(|(name, value)| element(0xA3, &[element(4, name), element(4, value)].concat()));
+    element(0xA0, &equalities.concat())
+}

@@ -1,0 +1,88 @@
+-- Demand 1: whatever comes in, a call refuses by document 01's numbers, with no length, context, form or fields, and a refusal leaves every lent buffer as it was.
+-- One field for each public call, by its name; that every call ends is proved with its code.
+use Rattle.filter_read.specs.Value.{judgedNumber, JudgeValuesPromise}
+use Rattle.filter_read.specs.Taken.{takenNumber, TakeApartPromise}
+use Rattle.table_whole.specs.Judgement.{judgementNumber, JudgePromise}
+use Rattle.table_check.specs.Check.{CheckOfPromise}
+use mathlib.Core.Path.{_≡_}
+use mathlib.Core.Bool.{true, _||_}
+use mathlib.Core.List.{List, [], _∷_}
+use mathlib.Core.Option.{none}
+use Prim.Native.Nat.{ℕ}
+use lib.Dec.{eqb}
+use Rattle.answers.specs.declared.Form.{Form}
+use Rattle.answers.specs.declared.Refusal.{Refusal}
+use Rattle.answers.specs.Refusal.{NumberOfPromise}
+use Rattle.filter.specs.declared.request.Request.{Request}
+use Rattle.filter_read.specs.declared.read.Taken.{Taken}
+use Rattle.filter_read.specs.declared.read.Taken.the-variants as taken
+use Rattle.filter_read.specs.declared.value.Judged.{Judged}
+use Rattle.filter_read.specs.declared.value.Judged.the-variants as judged
+use Rattle.filter_write.specs.declared.write.Written.{Written}
+use Rattle.filter_write.specs.declared.write.Written.the-variants as written
+use Rattle.filter_write.specs.Write.{writtenNumber, writtenLength}
+use Rattle.locator.specs.declared.Answer.{Answer}
+use Rattle.locator.specs.declared.Answer.the-variants as answer
+use Rattle.locator.specs.Answer.{answerNumber, answerLength, answerContext, answerForm}
+use Rattle.octets.specs.Lists.{any}
+use Rattle.octets.specs.Text.{within}
+use Rattle.reader_forms.specs.declared.reading.Reading.{Reading}
+use Rattle.reader_forms.specs.declared.reading.Reading.the-variants as reading
+use Rattle.reader_forms.specs.Reading.{readingNumber, readingLength, readingFields, ReadReplyPromise}
+use Rattle.reader_text.specs.declared.NameText.{NameText}
+use Rattle.reader_text.specs.declared.TextLength.the-variants as text
+use Rattle.reader_text.specs.Text.{textNumber, textLength, textGiven, NameTextPromise}
+use Rattle.table.specs.declared.Caller.{Caller}
+use Rattle.table_check.specs.declared.check.Check.{Check}
+use Rattle.table_whole.specs.declared.judge.Judgement.{Judgement}
+use Rattle.table_whole.specs.declared.judge.Judgement.the-variants as judgement
+use Rattle.demands.specs.Calls.{WriteFilterPromise, AnswerPingPromise}
+
+-- document 01's numbers of refusals: from a number to another, or one of some
+abbrev pub FromTo : ℕ → ℕ → ℕ → Type 0
+FromTo low high n = within low high n ≡ true
+
+abbrev pub OneOf : List ℕ → ℕ → Type 0
+OneOf numbers n = any (eqb n) numbers ≡ true
+
+-- those for a table image, a filter, its values, a filter that is to be written, a ping, a reply and a name of one; and all of them
+abbrev pub ForImage : ℕ → Type 0
+ForImage = FromTo 1 4
+
+abbrev pub ForFilter : ℕ → Type 0
+ForFilter = FromTo 5 8
+
+abbrev pub ForValues : ℕ → Type 0
+ForValues = FromTo 9 10
+
+abbrev pub ForWriting : ℕ → Type 0
+ForWriting = OneOf (6 ∷ 5 ∷ 19 ∷ [])
+
+abbrev pub ForPing : ℕ → Type 0
+ForPing = FromTo 1 19
+
+abbrev pub ForReply : ℕ → Type 0
+ForReply = FromTo 31 35
+
+abbrev pub ForName : ℕ → Type 0
+ForName = OneOf (31 ∷ 33 ∷ [])
+
+abbrev pub ForAny : ℕ → Type 0
+ForAny n = within 1 19 n || within 31 35 n ≡ true
+
+pub record Demand1 : Type 0 where
+  -- it refuses nothing, and has its field to make the list whole
+  pub «check_of» : (octets : List ℕ) → (c : Check) × CheckOfPromise octets c
+  pub judge : (image : List ℕ) (j : Judgement) (r : Refusal) → JudgePromise image j → j ≡ judgement.Refused r → ForImage (judgementNumber j)
+  pub «take_apart» : (filter : List ℕ) (t : Taken) (r : Refusal) → TakeApartPromise filter t → t ≡ taken.Refused r → ForFilter (takenNumber t)
+  pub «judge_values» : (filter : List ℕ) (request : Request) (j : Judged) (r : Refusal) → JudgeValuesPromise filter request j → j ≡ judged.Refused r → ForValues (judgedNumber j)
+  pub «write_filter» : (source : List ℕ) (request : Request) (before after : List ℕ) (w : Written) (r : Refusal) → WriteFilterPromise source request before after w → w ≡ written.Refused r
+      → ForWriting (writtenNumber w) × (writtenLength w ≡ 0) × (after ≡ before)
+  pub «answer_ping» : (image : List ℕ) (caller : Caller) (filter before after : List ℕ) (a : Answer) (r : Refusal) → AnswerPingPromise image caller filter before after a → a ≡ answer.Refused r
+      → ForPing (answerNumber a) × (answerLength a ≡ 0) × (answerContext a ≡ 0) × (answerForm a ≡ none) × (after ≡ before)
+  pub «read_reply» : (reply : List ℕ) (form : Form) (v : ℕ) (x : Reading) (r : Refusal) → ReadReplyPromise reply form v x → x ≡ reading.Refused r
+      → ForReply (readingNumber x) × (readingLength x ≡ 0) × (readingFields x ≡ none)
+  pub «name_text» : (reply : List ℕ) (start : ℕ) (t : NameText) (r : Refusal) → NameTextPromise reply start t → t .len ≡ text.Refused r
+      → ForName (textNumber (t .len)) × (textLength (t .len) ≡ 0) × (textGiven t ≡ [])
+  -- it refuses nothing either, and gives each refusal a number of document 01
+  pub «number_of» : (r : Refusal) (n : ℕ) → NumberOfPromise r n → ForAny n

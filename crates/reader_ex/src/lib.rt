@@ -1,0 +1,2 @@
+// The form EX of a received reply, read.
+pub mod ex;

@@ -1,0 +1,5 @@
+pub mod Look
+pub mod Step
+pub mod Label
+pub mod NameRead
+pub mod NamesRead

@@ -1,0 +1,4 @@
+pub mod Look
+pub mod Step
+pub mod NameRead
+pub mod NamesRead

@@ -1,0 +1,76 @@
+//! The trails and traces are a third way to the answers, held here to the reader's and the walk's.
+
+use super::super::bulk::write_lines;
+use super::super::{lines_of, KINDS};
+use super::trace::trace;
+use super::trail::{trail, End, Trail};
+use super::Coverage;
+use crate::lines::{form_of_word, octets_of_word, word_of_octets, Answerer};
+
+/// The words and the answers of all stored lines of a kind, and of some in bulk, but for those of another shape.
+fn lines_and_answers(kind: &str) -> Vec<(Vec<String>, String)> {
+    let mut in_bulk = Vec::new();
+    write_lines(30_000, 3, &mut in_bulk).unwrap();
+    let in_bulk = in_bulk.split(|&octet| octet == b'\n').map(<[u8]>::to_vec);
+    let stored = KINDS.iter().filter(|stored| stored.name == kind).flat_map(lines_of);
+    let mut found = Vec::new();
+    for line in stored.chain(in_bulk).filter(|line| line.starts_with(kind.as_bytes())) {
+        let answer = Answerer::default().answer(&line).filter(|answer| answer != "?");
+        let words = String::from_utf8(line).unwrap_or_default().split(' ').map(str::to_string).collect();
+        found.extend(answer.map(|answer| (words, answer)));
+    }
+    found
+}
+
+fn label_octets<'a>(trail: &'a Trail, octets: &'a [u8]) -> impl Iterator<Item = &'a [u8]> {
+    trail.labels().map(|(at, length)| &octets[at + 1..=at + length])
+}
+
+#[test]
+fn traces_lead_to_what_the_reader_answers() {
+    let lines = lines_and_answers("read");
+    assert!(lines.len() > 4_000);
+    for (words, answer) in lines {
+        let octets = octets_of_word(&words[3]).unwrap();
+        let version_asked = u32::from_str_radix(&words[2], 16).unwrap();
+        let trace = trace(form_of_word(&words[1]).unwrap(), version_asked, &octets);
+        let number = trace.number();
+        let length = if number == 0 { octets.len() } else { 0 };
+        assert!(format!("{answer} ").starts_with(&format!("read {number} {length} ")), "{words:?} {answer}");
+        if number != 0 {
+            continue;
+        }
+        let names = answer.split(' ').filter(|word| word.contains('/')).map(str::to_string);
+        let trails = trace.fields.iter().filter_map(|field| field.trail.as_ref());
+        let expected = trails.map(|trail| {
+            let labels: Vec<&[u8]> = label_octets(trail, &octets).collect();
+            let text: String = labels.join(&b'.').iter().map(|octet| format!("{octet:02x}")).collect();
+            format!("={text}/{}", trail.pointers().count())
+        });
+        assert!(names.eq(expected), "{words:?} {answer}");
+    }
+}
+
+#[test]
+fn trails_lead_to_what_the_walk_answers() {
+    let lines = lines_and_answers("walk");
+    assert!(lines.len() > 2_000);
+    for (words, answer) in lines {
+        let octets = octets_of_word(&words[2]).unwrap();
+        let trail = trail(&octets, words[1].parse().unwrap());
+        let labels: Vec<String> =
+            label_octets(&trail, &octets).map(|label| format!(" {}", word_of_octets(label))).collect();
+        let expected = match trail.end {
+            End::Zero => format!("walk {} {}{}", trail.pointers().count(), labels.len(), labels.concat()),
+            _ => "walk none".to_string(),
+        };
+        assert_eq!(answer, expected, "{words:?}");
+    }
+}
+
+#[test]
+fn a_filter_cut_inside_a_length_is_observed() {
+    let mut coverage = Coverage::default();
+    coverage.observe(b"filter a3020482", "filter 6 . . . . . . . .");
+    assert_eq!(coverage.count("filter 6"), 1);
+}
