@@ -2,12 +2,12 @@
 ghost use mathlib.Core.Path.{_≡_};
 ghost use Rattle.filter_read.specs.Taken.{takenNumber};
 ghost use Rattle.filter_read.specs.Value.{judgedNumber};
-use crate::parse::decode;
-use crate::say::say;
-use crate::say::say_bits;
-use crate::say::say_hex;
-use crate::say::say_number;
 use answers::number_of;
+use console::digits::decode;
+use console::say::say;
+use console::say::say_bits;
+use console::say::say_hex;
+use console::say::say_number;
 use filter::request::CLAUSE_COUNT;
 use filter::request::Clause;
 use filter::request::Request;

@@ -1,8 +1,8 @@
 use lib.Seq.{length-take-le}
 use mathlib.Core.Path.{sym}
 use borrow.Author.Needs.{needs}
-use Rattle.vectors.proofs.say.say_some.Statement.{statement}
-use Rattle.vectors.proofs.say.say_some.Tie as tie
+use Rattle.console.proofs.say.say_some.Statement.{statement}
+use Rattle.console.proofs.say.say_some.Tie as tie
 
 slice-aggregate-encode : tie.Need-slice-aggregate-encode
 slice-aggregate-encode c = search needs

@@ -1,8 +1,8 @@
-use Rattle.vectors.specs.Internal.Bounds.{Small}
+use Rattle.console.specs.Internal.Bounds.{Small}
 use mathlib.Core.Path.{subst}
 use borrow.Author.Needs.{needs}
-use Rattle.vectors.proofs.parse.value.Statement.{statement}
-use Rattle.vectors.proofs.parse.value.Tie as tie
+use Rattle.console.proofs.digits.value.Statement.{statement}
+use Rattle.console.proofs.digits.value.Tie as tie
 
 hex-value-requires : tie.Need-hex-value-requires
 hex-value-requires c κs = search needs

@@ -1,4 +1,4 @@
-// Answer lines, written to standard output.
+// Texts, written to standard output.
 ghost use Prim.Native.Nat.{_≤_};
 ghost use lib.ListN.{length};
 use libc::STDOUT_FILENO;
@@ -10,11 +10,6 @@ pub fn say(text: &[u8]) {
 
 pub fn say_number(n: u64) {
     io::print_decimal(STDOUT_FILENO, n);
-}
-
-// A line of another shape, or of a kind that no call answers.
-pub fn say_unknown() {
-    say(b"?\n");
 }
 
 fn hex_digit(v: u8) -> u8 {
@@ -61,22 +56,7 @@ pub fn say_hex(octets: &[u8]) {
     }
 }
 
-// Octets as a word: none at all is `-`.
-pub fn say_octets(octets: &[u8]) {
-    if octets.len() == 0 {
-        say(b"-");
-        return;
-    }
-    say_hex(octets);
-}
-
 // Version bits or flags: 8 hex digits, the most significant first.
 pub fn say_bits(bits: u32) {
-    let octets = [
-        (bits / 16777216) as u8,
-        (bits / 65536 % 256) as u8,
-        (bits / 256 % 256) as u8,
-        (bits % 256) as u8,
-    ];
-    say_hex(&octets);
+    io::print_hex(STDOUT_FILENO, bits as u64, 8);
 }

@@ -3,8 +3,8 @@ use mathlib.Core.Path.{_≡_}
 use Prim.Native.Nat.{_-_, _*_, _≤_}
 use native.Mathlib.Omega.{arith}
 use borrow.Author.Needs.{needs}
-use Rattle.vectors.proofs.say.encode.Statement.{statement}
-use Rattle.vectors.proofs.say.encode.Tie as tie
+use Rattle.console.proofs.say.encode.Statement.{statement}
+use Rattle.console.proofs.say.encode.Tie as tie
 
 abbrev Inv-loop : tie.InvT-loop
 Inv-loop octets out₀ i₀ out i = (length out ≡ length out₀) × (2 * i ≤ length out)

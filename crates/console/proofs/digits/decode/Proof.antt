@@ -3,8 +3,8 @@ use mathlib.Core.Path.{_≡_, refl}
 use Prim.Native.Nat.{_-_, _≤_}
 use native.Mathlib.Omega.{arith}
 use borrow.Author.Needs.{needs}
-use Rattle.vectors.proofs.parse.decode.Statement.{statement}
-use Rattle.vectors.proofs.parse.decode.Tie as tie
+use Rattle.console.proofs.digits.decode.Statement.{statement}
+use Rattle.console.proofs.digits.decode.Tie as tie
 
 abbrev Inv-loop : tie.InvT-loop
 Inv-loop text out₀ i₀ out i = (i ≤ length out) × (length out ≡ length out₀)

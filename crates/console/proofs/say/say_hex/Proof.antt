@@ -1,23 +1,26 @@
 use lib.ListN.{length}
 use Prim.Native.Nat.{_-_}
 use borrow.Author.Needs.{needs}
-use Rattle.vectors.proofs.parse.all_digits.Statement.{statement}
-use Rattle.vectors.proofs.parse.all_digits.Tie as tie
+use Rattle.console.proofs.say.say_hex.Statement.{statement}
+use Rattle.console.proofs.say.say_hex.Tie as tie
 
 abbrev Inv-loop : tie.InvT-loop
-Inv-loop text i₀ i = Unit {0}
+Inv-loop octets i₀ i = Unit {0}
 
 abbrev μ-loop : tie.MeasureT-loop
-μ-loop text i₀ i = length text - i
+μ-loop octets i₀ i = length octets - i
 
 loop-holds : tie.Need-loop-holds Inv-loop μ-loop
 loop-holds c = tt
 
-shared-slice-read-is-digit : tie.Need-shared-slice-read-is-digit Inv-loop μ-loop
-shared-slice-read-is-digit c = search needs
+part-requires : tie.Need-part-requires Inv-loop μ-loop
+part-requires c κs = search needs
 
-is-digit-requires : tie.Need-is-digit-requires Inv-loop μ-loop
-is-digit-requires c κs = search needs
+say-some-requires : tie.Need-say-some-requires Inv-loop μ-loop
+say-some-requires c κs = search needs
+
+sub-if1 : tie.Need-sub-if1 Inv-loop μ-loop
+sub-if1 c = search needs
 
 returns : tie.Need-returns Inv-loop μ-loop
 returns c = tt
@@ -34,15 +37,16 @@ loop-again c = tt
 returns-2 : tie.Need-returns-2 Inv-loop μ-loop
 returns-2 c = tt
 
-pub all-digits-spec : {M : Type 1} → statement M
-all-digits-spec =
+pub say-hex-spec : {M : Type 1} → statement M
+say-hex-spec =
     tie.close
     (tie.spec
     Inv-loop
     μ-loop
     loop-holds
-    shared-slice-read-is-digit
-    is-digit-requires
+    part-requires
+    say-some-requires
+    sub-if1
     returns
     add-i
     loop-less

@@ -5,8 +5,8 @@ use mathlib.Core.Path.{_≡_}
 use Prim.Native.Nat.{ℕ, _+_, _-_, _*_, _^_, _≤_, _<_}
 use native.Mathlib.Omega.{arith}
 use borrow.Author.Needs.{needs}
-use Rattle.vectors.proofs.parse.decimal_of.Statement.{statement}
-use Rattle.vectors.proofs.parse.decimal_of.Tie as tie
+use Rattle.console.proofs.digits.decimal_of.Statement.{statement}
+use Rattle.console.proofs.digits.decimal_of.Tie as tie
 
 small : (i : ℕ) → i ≤ 10 → 10 ^ i ≤ 10000000000
 small i h = pow-le-pow-right (omega arith) h
