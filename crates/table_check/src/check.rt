@@ -33,7 +33,7 @@ pub fn check_of(octets: &[u8]) -> Check
     Check { a, b }
 }
 
-fn good_check(block: &[u8]) -> bool
+pub fn good_check(block: &[u8]) -> bool
     ensures { λ r. ⌜ r ≡ goodCheck (now (block .entry)) ⌝ }
 {
     let check = check_of(part(block, 0, CHECK));

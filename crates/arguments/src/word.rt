@@ -1,0 +1,35 @@
+// An argument as it was given.
+ghost use mathlib.Core.Path.{_≡_};
+ghost use Prim.Native.Nat.{_≤_};
+ghost use lib.ListN.{length};
+
+pub enum Word {
+    Missing,
+    TooLong,
+    Length(usize),
+}
+
+// Puts an argument at the front of out.
+pub fn take_word(number: usize, out: &mut [u8]) -> Word {
+    let len = os::arg(number, out);
+    let error = os::errno();
+    if error == 0 {
+        return Word::Length(len);
+    }
+    if error == libc::EINVAL {
+        return Word::Missing;
+    }
+    Word::TooLong
+}
+
+// Where an octet first stands in a text; past its end where it does not.
+pub fn position_of(text: &[u8], octet: u8) -> usize {
+    let mut i = 0;
+    while i < text.len() {
+        if text[i] == octet {
+            return i;
+        }
+        i += 1;
+    }
+    i
+}

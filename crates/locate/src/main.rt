@@ -1,0 +1,82 @@
+// locate TABLE CLIENT CLAUSE=VALUE...: answers a ping of these clauses from a table image, and shows the answer.
+// locate TABLE CLIENT --filter HEX: the same with the octets of a filter.
+mod asked;
+mod show;
+
+use crate::asked::FILTER_SIZE;
+use crate::asked::FilterAsked;
+use crate::asked::filter_asked;
+use crate::show::show_answer;
+use arguments::address::Ipv4;
+use arguments::address::ipv4_of;
+use arguments::complaint::complain;
+use arguments::complaint::complain_of;
+use arguments::file::FileRead;
+use arguments::file::read_file;
+use arguments::word::Word;
+use arguments::word::take_word;
+use octets::part::part;
+use table::Caller;
+use table::block::IMAGE_MOST;
+
+// The arguments by their numbers; the program's own name is 0.
+const TABLE: usize = 1;
+
+const CLIENT: usize = 2;
+
+// One octet more than an image may have, so that a longer file is refused.
+const IMAGE_SIZE: usize = IMAGE_MOST + 1;
+
+fn give_example() {
+    complain(
+        b"example: locate data/base.table 10.1.2.3 DnsDomain=corp.example NtVer=6 User=ann AAC=0x10\n",
+    );
+}
+
+fn client_asked() -> Ipv4 {
+    let mut text = [0u8; 64];
+    let Word::Length(len) = take_word(CLIENT, &mut text) else {
+        complain(b"CLIENT is missing or too long\n");
+        return Ipv4::Bad;
+    };
+    let client = ipv4_of(part(&text, 0, len));
+    if let Ipv4::Bad = client {
+        complain_of(b"CLIENT is no IPv4 address", part(&text, 0, len));
+    }
+    client
+}
+
+fn read_table(image: &mut [u8]) -> FileRead {
+    let mut path = io::buffer();
+    let Word::Length(len) = take_word(TABLE, &mut path) else {
+        complain(b"TABLE is missing or too long\n");
+        return FileRead::Failed;
+    };
+    read_file(part(&path, 0, len), image)
+}
+
+// What the arguments ask is answered; where they ask nothing that can be, what is wrong is told.
+fn answer_asked(image: &mut [u8]) -> bool {
+    let FileRead::Octets(size) = read_table(image) else {
+        return false;
+    };
+    let Ipv4::Address { a, b, c, d } = client_asked() else {
+        return false;
+    };
+    let mut filter = [0u8; FILTER_SIZE];
+    let FilterAsked::Octets(len) = filter_asked(&mut filter) else {
+        return false;
+    };
+    let caller = Caller {
+        address: [a, b, c, d],
+    };
+    show_answer(part(image, 0, size), caller, part(&filter, 0, len));
+    true
+}
+
+fn main() {
+    let mut image = [0u8; IMAGE_SIZE];
+    if !answer_asked(&mut image) {
+        give_example();
+    }
+}

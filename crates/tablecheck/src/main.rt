@@ -1,0 +1,65 @@
+// tablecheck TABLE: judges a table image, and names the first wrong block where single blocks are judged.
+mod first;
+
+use crate::first::BlockRule;
+use crate::first::first_wrong;
+use arguments::complaint::complain;
+use arguments::file::FileRead;
+use arguments::file::read_file;
+use arguments::word::Word;
+use arguments::word::take_word;
+use console::say::say;
+use console::say::say_number;
+use octets::part::part;
+use report::answer::say_answer;
+use table::block::IMAGE_MOST;
+use table_whole::judge::judge;
+use table_whole::judge::judgement_number;
+
+const TABLE: usize = 1;
+
+const ARGUMENTS_END: usize = 2;
+
+// One octet more than an image may have, so that a longer file is refused.
+const IMAGE_SIZE: usize = IMAGE_MOST + 1;
+
+fn say_first_wrong(image: &[u8], rule: BlockRule) {
+    if IMAGE_MOST < image.len() {
+        return;
+    }
+    say(b"block     ");
+    say_number(first_wrong(image, rule) as u64);
+    say(b" is the first wrong one, counted from 0\n");
+}
+
+fn show_judgement(image: &[u8]) {
+    let number = judgement_number(judge(image));
+    say_answer(number, b"accepted");
+    match number {
+        2 => say_first_wrong(image, BlockRule::Check),
+        3 => say_first_wrong(image, BlockRule::Layout),
+        _ => {}
+    }
+}
+
+fn read_table(image: &mut [u8]) -> FileRead {
+    if ARGUMENTS_END < os::arg_count() {
+        complain(b"no argument is taken after TABLE\n");
+        return FileRead::Failed;
+    }
+    let mut path = io::buffer();
+    let Word::Length(len) = take_word(TABLE, &mut path) else {
+        complain(b"TABLE is missing or too long\n");
+        return FileRead::Failed;
+    };
+    read_file(part(&path, 0, len), image)
+}
+
+fn main() {
+    let mut image = [0u8; IMAGE_SIZE];
+    let FileRead::Octets(size) = read_table(&mut image) else {
+        complain(b"example: tablecheck data/base.table\n");
+        return;
+    };
+    show_judgement(part(&image, 0, size));
+}
