@@ -63,7 +63,7 @@ fn a_program_that_ends_early_or_with_another_status_is_found() {
     assert_eq!(after(&said, "the other program answers"), "(nothing)");
     let (said, _) = fault_of(&answering("bad_status", "cat; exit 3"));
     assert!(said.contains("the answers agree, but ") && said.contains("exit status: 3"), "{said}");
-    let (said, _) = fault_of(Path::new("/bin/true"));
+    let (said, _) = fault_of(Path::new("true"));
     assert!(said.contains("request line 1:"), "{said}");
 }
 
