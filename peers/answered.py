@@ -78,7 +78,7 @@ def fresh_answered(generate, program, count, seed):
         if words[0] == "table":
             table = request
         elif words[:2] == ["ping", "0"]:
-            found.append((table, request, words[4], words[5][: 2 * int(words[2])]))
+            found.append((table, request, words[4], bytes.fromhex(words[5])[: int(words[2])]))
     if len(found) < count:
         raise SystemExit(f"seed {seed} gives only {len(found)} answered pings")
     return read_all(program, found[:: len(found) // count][:count])
@@ -86,15 +86,15 @@ def fresh_answered(generate, program, count, seed):
 
 def read_all(program, found):
     filters = [ping.split(" ")[2] for _, ping, _, _ in found]
-    versions = [line.split(" ")[2] for line in answers(program, [f"values {octets}" for octets in filters])]
-    reads = [f"read {form} {version} {reply}" for (_, _, form, reply), version in zip(found, versions)]
+    values = answers(program, [f"values {octets}" for octets in filters])
+    versions = [int(line.split(" ")[2], 16) for line in values]
+    reads = [f"read {form} {asked:08x} {reply.hex()}" for (_, _, form, reply), asked in zip(found, versions)]
     pings = []
-    for (table, ping, form, reply), version, read in zip(found, versions, answers(program, reads)):
+    for (table, ping, form, reply), asked, read in zip(found, versions, answers(program, reads)):
         number, _, *fields = read.split(" ")[1:]
         if number != "0":
             raise SystemExit(f"the reply to this ping is refused with {number}:\n{table}\n{ping}")
-        reply = bytes.fromhex(reply)
-        pings.append(Answered(table, ping, form, int(version, 16), reply, reading_of(form, fields, reply)))
+        pings.append(Answered(table, ping, form, asked, reply, reading_of(form, fields, reply)))
     return pings
 
 

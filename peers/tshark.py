@@ -117,8 +117,8 @@ def judge(pings, replies, folder):
 
 
 def looks_at(ping, place):
-    """It passes over EX's second number and name 8, the size and the zeros of an EX reply's address, and a RESPONSE's
-    null GUID."""
+    """It passes over a RESPONSE's null GUID; EX's second number, the size and the zeros of its address, and name 8. An
+    empty name 7 looks to it like a pointer past the end."""
     names = ping.reading.names
     if ping.form == "nt40":
         return True
@@ -130,4 +130,6 @@ def looks_at(ping, place):
         passed_over += [address, *range(address + 9, address + ADDRESS_LENGTH)]
     for name in names[8:]:
         passed_over += range(name.offset, name.end)
+    if not names[7].text:
+        passed_over.append(names[7].offset)
     return place not in passed_over
