@@ -11,6 +11,7 @@ use filter::request::ClauseName;
 use filter::request::Request;
 use filter_gather::gather::SpelledName;
 use filter_gather::gather::name_of;
+use lent::put::put_u32;
 use octets::part::part;
 
 // Each clause has room of its own in the source, as much as a filter may have.
@@ -84,11 +85,7 @@ fn put_number(n: u32, out: &mut [u8]) -> Octets {
     if out.len() < 4 {
         return Octets::TooMany;
     }
-    out[0] = (n % 256) as u8;
-    out[1] = (n / 256 % 256) as u8;
-    out[2] = (n / 65536 % 256) as u8;
-    out[3] = (n / 16777216) as u8;
-    Octets::Count(4)
+    Octets::Count(put_u32(out, n))
 }
 
 fn is_number(name: ClauseName) -> bool {

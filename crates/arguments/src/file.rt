@@ -1,4 +1,12 @@
 // A file read whole.
+use crate::complaint::complain;
+use crate::word::Word;
+use crate::word::take_word;
+use octets::part::part;
+
+// The number of the argument that names a table; the program's own name is 0.
+pub const TABLE: usize = 1;
+
 pub enum FileRead {
     Failed,
     Octets(usize),
@@ -32,4 +40,14 @@ pub fn read_file(path: &[u8], out: &mut [u8]) -> FileRead {
     let read = read_open(fd, path, out);
     libc::close(fd);
     read
+}
+
+// Puts the image that the argument TABLE names at the front of out.
+pub fn read_table(out: &mut [u8]) -> FileRead {
+    let mut path = io::buffer();
+    let Word::Length(len) = take_word(TABLE, &mut path) else {
+        complain(b"TABLE is missing or too long\n");
+        return FileRead::Failed;
+    };
+    read_file(part(&path, 0, len), out)
 }

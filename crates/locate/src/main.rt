@@ -12,15 +12,12 @@ use arguments::address::ipv4_of;
 use arguments::complaint::complain;
 use arguments::complaint::complain_of;
 use arguments::file::FileRead;
-use arguments::file::read_file;
+use arguments::file::read_table;
 use arguments::word::Word;
 use arguments::word::take_word;
 use octets::part::part;
 use table::Caller;
 use table::block::IMAGE_MOST;
-
-// The arguments by their numbers; the program's own name is 0.
-const TABLE: usize = 1;
 
 const CLIENT: usize = 2;
 
@@ -44,15 +41,6 @@ fn client_asked() -> Ipv4 {
         complain_of(b"CLIENT is no IPv4 address", part(&text, 0, len));
     }
     client
-}
-
-fn read_table(image: &mut [u8]) -> FileRead {
-    let mut path = io::buffer();
-    let Word::Length(len) = take_word(TABLE, &mut path) else {
-        complain(b"TABLE is missing or too long\n");
-        return FileRead::Failed;
-    };
-    read_file(part(&path, 0, len), image)
 }
 
 // What the arguments ask is answered; where they ask nothing that can be, what is wrong is told.

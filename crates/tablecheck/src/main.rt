@@ -5,9 +5,8 @@ use crate::first::BlockRule;
 use crate::first::first_wrong;
 use arguments::complaint::complain;
 use arguments::file::FileRead;
-use arguments::file::read_file;
-use arguments::word::Word;
-use arguments::word::take_word;
+use arguments::file::TABLE;
+use arguments::file::read_table;
 use console::say::say;
 use console::say::say_number;
 use octets::part::part;
@@ -16,9 +15,7 @@ use table::block::IMAGE_MOST;
 use table_whole::judge::judge;
 use table_whole::judge::judgement_number;
 
-const TABLE: usize = 1;
-
-const ARGUMENTS_END: usize = 2;
+const ARGUMENTS_END: usize = TABLE + 1;
 
 // One octet more than an image may have, so that a longer file is refused.
 const IMAGE_SIZE: usize = IMAGE_MOST + 1;
@@ -42,22 +39,17 @@ fn show_judgement(image: &[u8]) {
     }
 }
 
-fn read_table(image: &mut [u8]) -> FileRead {
+fn table_asked(image: &mut [u8]) -> FileRead {
     if ARGUMENTS_END < os::arg_count() {
         complain(b"no argument is taken after TABLE\n");
         return FileRead::Failed;
     }
-    let mut path = io::buffer();
-    let Word::Length(len) = take_word(TABLE, &mut path) else {
-        complain(b"TABLE is missing or too long\n");
-        return FileRead::Failed;
-    };
-    read_file(part(&path, 0, len), image)
+    read_table(image)
 }
 
 fn main() {
     let mut image = [0u8; IMAGE_SIZE];
-    let FileRead::Octets(size) = read_table(&mut image) else {
+    let FileRead::Octets(size) = table_asked(&mut image) else {
         complain(b"example: tablecheck data/base.table\n");
         return;
     };
