@@ -32,7 +32,8 @@ fn main() -> ExitCode {
     match done {
         Ok(()) => ExitCode::SUCCESS,
         Err(message) => {
-            eprintln!("tables: {message}");
+            // File names stand in it as they were given.
+            eprintln!("tables: {}", message.replace(char::is_control, "?"));
             ExitCode::FAILURE
         }
     }

@@ -101,7 +101,7 @@ fn is_number(name: ClauseName) -> bool {
     }
 }
 
-// Whether a text is of octets written \hh from its first on, or of none.
+// Whether a text begins with \hh, or is empty.
 fn is_escaped(text: &[u8]) -> bool {
     if text.len() == 0 {
         return true;

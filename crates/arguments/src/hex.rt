@@ -1,8 +1,8 @@
 // Octets written as hex digits in either case, two for each.
 ghost use Prim.Native.Nat.{_≤_};
 ghost use lib.ListN.{length};
-use console::digits::is_digit;
-use console::digits::value;
+use console::digits::hex_digit_value;
+use console::digits::is_hex_digit;
 use octets::text::folded;
 
 // The octet that two digits stand for.
@@ -21,13 +21,13 @@ pub enum Octets {
 pub fn hex_octet(high: u8, low: u8) -> HexOctet {
     let high = folded(high, true);
     let low = folded(low, true);
-    if !is_digit(high) {
+    if !is_hex_digit(high) {
         return HexOctet::Bad;
     }
-    if !is_digit(low) {
+    if !is_hex_digit(low) {
         return HexOctet::Bad;
     }
-    HexOctet::Octet(value(high) * 16 + value(low))
+    HexOctet::Octet(hex_digit_value(high) * 16 + hex_digit_value(low))
 }
 
 // The octets that hex digits stand for, at the front of out.

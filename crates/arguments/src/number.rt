@@ -1,6 +1,6 @@
 // Numbers of 32 bits, decimal or hex after 0x.
-use console::digits::is_digit;
-use console::digits::value;
+use console::digits::hex_digit_value;
+use console::digits::is_hex_digit;
 use octets::part::part;
 use octets::text::folded;
 
@@ -26,10 +26,10 @@ fn with_decimal(n: u32, x: u8) -> Number {
 
 fn with_hex(n: u32, x: u8) -> Number {
     let digit = folded(x, true);
-    if !is_digit(digit) {
+    if !is_hex_digit(digit) {
         return Number::Bad;
     }
-    let longer = (n as u64) * 16 + (value(digit) as u64);
+    let longer = (n as u64) * 16 + (hex_digit_value(digit) as u64);
     if 0xFFFFFFFF < longer {
         return Number::Bad;
     }

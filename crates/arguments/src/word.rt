@@ -1,7 +1,5 @@
 // An argument as it was given.
-ghost use mathlib.Core.Path.{_≡_};
-ghost use Prim.Native.Nat.{_≤_};
-ghost use lib.ListN.{length};
+use crate::complaint::complain;
 
 pub enum Word {
     Missing,
@@ -20,6 +18,23 @@ pub fn take_word(number: usize, out: &mut [u8]) -> Word {
         return Word::Missing;
     }
     Word::TooLong
+}
+
+// The same of an argument that has to be there.
+pub fn take_named(number: usize, name: &[u8], out: &mut [u8]) -> Word {
+    let word = take_word(number, out);
+    match word {
+        Word::Missing => {
+            complain(name);
+            complain(b" is missing\n");
+        }
+        Word::TooLong => {
+            complain(name);
+            complain(b" is too long\n");
+        }
+        Word::Length(_) => {}
+    }
+    word
 }
 
 // Where an octet first stands in a text; past its end where it does not.

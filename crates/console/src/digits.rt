@@ -25,17 +25,17 @@ pub fn hex_value(x: u8) -> Digit
     Digit::Bad
 }
 
-pub fn is_digit(x: u8) -> bool {
+pub fn is_hex_digit(x: u8) -> bool {
     match hex_value(x) {
         Digit::Bad => false,
         Digit::Value(_) => true,
     }
 }
 
-pub fn all_digits(text: &[u8]) -> bool {
+pub fn all_hex_digits(text: &[u8]) -> bool {
     let mut i = 0;
     while i < text.len() {
-        if !is_digit(text[i]) {
+        if !is_hex_digit(text[i]) {
             return false;
         }
         i += 1;
@@ -44,7 +44,7 @@ pub fn all_digits(text: &[u8]) -> bool {
 }
 
 // The value of a digit, 0 of any other octet.
-pub fn value(x: u8) -> u8
+pub fn hex_digit_value(x: u8) -> u8
     ensures { λ r. ⌜ r < 16 ⌝ }
 {
     match hex_value(x) {
@@ -62,7 +62,7 @@ pub fn decode(text: &[u8], out: &mut [u8]) -> usize
         if text.len() / 2 <= i {
             return i;
         }
-        out[i] = value(text[2 * i]) * 16 + value(text[2 * i + 1]);
+        out[i] = hex_digit_value(text[2 * i]) * 16 + hex_digit_value(text[2 * i + 1]);
         i += 1;
     }
     i

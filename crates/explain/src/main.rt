@@ -9,7 +9,7 @@ use arguments::hex::hex_octets;
 use arguments::number::Number;
 use arguments::number::number_of;
 use arguments::word::Word;
-use arguments::word::take_word;
+use arguments::word::take_named;
 use octets::part::part;
 use octets::text::same_folded;
 use reader_forms::reading::reading_number;
@@ -55,8 +55,7 @@ fn form_named(name: &[u8]) -> FormAsked {
 
 fn form_asked() -> FormAsked {
     let mut text = [0u8; 64];
-    let Word::Length(len) = take_word(FORM, &mut text) else {
-        complain(b"FORM is missing or too long\n");
+    let Word::Length(len) = take_named(FORM, b"FORM", &mut text) else {
         return FormAsked::Bad;
     };
     form_named(part(&text, 0, len))
@@ -64,8 +63,7 @@ fn form_asked() -> FormAsked {
 
 fn version_asked() -> Number {
     let mut text = [0u8; 64];
-    let Word::Length(len) = take_word(VERSION, &mut text) else {
-        complain(b"V is missing or too long\n");
+    let Word::Length(len) = take_named(VERSION, b"V", &mut text) else {
         return Number::Bad;
     };
     let version = number_of(part(&text, 0, len));
@@ -80,17 +78,22 @@ fn version_asked() -> Number {
 
 // Digits that stand for octets are the reply; anything else is a file's name.
 fn reply_in(text: &[u8], reply: &mut [u8]) -> FileRead {
-    match hex_octets(text, reply) {
-        Octets::Count(count) => FileRead::Octets(count),
-        Octets::TooMany => FileRead::Octets(REPLY_SIZE),
-        Octets::Bad => read_file(text, reply),
+    if let Octets::Count(count) = hex_octets(text, reply) {
+        return FileRead::Octets(count);
     }
+    let read = read_file(text, reply);
+    if let FileRead::Failed = read {
+        complain_of(
+            b"REPLY is neither hex digits, two for each octet, nor a file that can be read",
+            text,
+        );
+    }
+    read
 }
 
 fn reply_asked(reply: &mut [u8]) -> FileRead {
     let mut text = [0u8; WORD_SIZE];
-    let Word::Length(len) = take_word(REPLY, &mut text) else {
-        complain(b"REPLY is missing, or longer than 65,536 octets\n");
+    let Word::Length(len) = take_named(REPLY, b"REPLY", &mut text) else {
         return FileRead::Failed;
     };
     let FileRead::Octets(count) = reply_in(part(&text, 0, len), reply) else {

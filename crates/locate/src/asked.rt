@@ -7,6 +7,7 @@ use arguments::complaint::complain_of;
 use arguments::hex::Octets;
 use arguments::hex::hex_octets;
 use arguments::word::Word;
+use arguments::word::take_named;
 use arguments::word::take_word;
 use filter::request::Request;
 use filter::request::no_clauses;
@@ -20,8 +21,8 @@ pub const FILTER_SIZE: usize = 4096;
 
 const FIRST_CLAUSE: usize = 3;
 
-// A value of the longest filter, each octet as \hh, and the clause's name.
-const WORD_SIZE: usize = 8192;
+// The longest argument that Linux hands over.
+const WORD_SIZE: usize = 131072;
 
 // How many octets a filter has.
 pub enum FilterAsked {
@@ -36,7 +37,7 @@ enum RequestAsked {
 
 fn complain_of_clause(read: ClauseRead, clause: &[u8]) {
     match read {
-        ClauseRead::NoEquals => complain_of(b"neither CLAUSE=VALUE nor --filter HEX", clause),
+        ClauseRead::NoEquals => complain_of(b"not CLAUSE=VALUE", clause),
         ClauseRead::UnknownName => complain_of(
             b"no clause is called so (DnsDomain, Host, DnsHostName, User, AAC, DomainSid, DomainGuid, NtVer are)",
             clause,
@@ -47,19 +48,27 @@ fn complain_of_clause(read: ClauseRead, clause: &[u8]) {
             clause,
         ),
         ClauseRead::BadEscape => complain_of(b"a backslash takes two hex digits after it", clause),
-        ClauseRead::TooLong => complain(b"a clause is longer than any filter\n"),
+        ClauseRead::TooLong => complain_of(b"longer than any filter", clause),
         ClauseRead::Read(_) => {}
     }
+}
+
+// Whether a word is --filter, or begins so.
+fn is_filter_word(word: &[u8]) -> bool {
+    same_octets(part(word, 0, 8), b"--filter")
 }
 
 // The clauses with that of one more argument.
 fn with_argument(number: usize, source: &mut [u8], request: Request) -> RequestAsked {
     let mut text = [0u8; WORD_SIZE];
-    let Word::Length(len) = take_word(number, &mut text) else {
-        complain(b"a clause is longer than any filter\n");
+    let Word::Length(len) = take_named(number, b"a clause", &mut text) else {
         return RequestAsked::Bad;
     };
     let clause = part(&text, 0, len);
+    if is_filter_word(clause) {
+        complain(b"--filter HEX stands alone after CLIENT\n");
+        return RequestAsked::Bad;
+    }
     let read = read_clause(clause, source, request);
     let ClauseRead::Read(longer) = read else {
         complain_of_clause(read, clause);
@@ -83,6 +92,7 @@ fn request_asked(source: &mut [u8]) -> RequestAsked {
     RequestAsked::Request(request)
 }
 
+// Clauses that no filter has room for ask with one that is too long: it gets its number, where the table gets none.
 fn written_filter(out: &mut [u8]) -> FilterAsked {
     if os::arg_count() <= FIRST_CLAUSE {
         complain(b"no clause is given\n");
@@ -94,25 +104,24 @@ fn written_filter(out: &mut [u8]) -> FilterAsked {
     };
     match write_filter(&source, request, out) {
         Written::Length(len) => FilterAsked::Octets(len),
-        Written::Refused(_) => {
-            complain(b"the clauses make a filter of over 2,048 octets\n");
-            FilterAsked::Bad
-        }
+        Written::Refused(_) => FilterAsked::Octets(FILTER_SIZE),
     }
 }
 
 fn given_filter(out: &mut [u8]) -> FilterAsked {
     let mut text = [0u8; WORD_SIZE];
-    let Word::Length(len) = take_word(FIRST_CLAUSE + 1, &mut text) else {
-        complain(b"--filter takes hex digits of at most 4,096 octets\n");
+    let Word::Length(len) = take_named(FIRST_CLAUSE + 1, b"HEX", &mut text) else {
         return FilterAsked::Bad;
     };
     let digits = part(&text, 0, len);
-    let Octets::Count(count) = hex_octets(digits, out) else {
-        complain_of(b"--filter takes two hex digits for each octet", digits);
-        return FilterAsked::Bad;
-    };
-    FilterAsked::Octets(count)
+    match hex_octets(digits, out) {
+        Octets::Count(count) => FilterAsked::Octets(count),
+        Octets::TooMany => FilterAsked::Octets(FILTER_SIZE),
+        Octets::Bad => {
+            complain_of(b"--filter takes two hex digits for each octet", digits);
+            FilterAsked::Bad
+        }
+    }
 }
 
 // Whether the first argument after the client says that the filter is given.
@@ -129,8 +138,8 @@ pub fn filter_asked(out: &mut [u8]) -> FilterAsked {
     if !is_given() {
         return written_filter(out);
     }
-    if os::arg_count() != FIRST_CLAUSE + 2 {
-        complain(b"--filter takes one argument, and no clause beside it\n");
+    if FIRST_CLAUSE + 2 < os::arg_count() {
+        complain(b"no argument is taken after --filter HEX\n");
         return FilterAsked::Bad;
     }
     given_filter(out)

@@ -12,17 +12,14 @@ use arguments::address::ipv4_of;
 use arguments::complaint::complain;
 use arguments::complaint::complain_of;
 use arguments::file::FileRead;
+use arguments::file::IMAGE_SIZE;
 use arguments::file::read_table;
 use arguments::word::Word;
-use arguments::word::take_word;
+use arguments::word::take_named;
 use octets::part::part;
 use table::Caller;
-use table::block::IMAGE_MOST;
 
 const CLIENT: usize = 2;
-
-// One octet more than an image may have, so that a longer file is refused.
-const IMAGE_SIZE: usize = IMAGE_MOST + 1;
 
 fn give_example() {
     complain(
@@ -32,8 +29,7 @@ fn give_example() {
 
 fn client_asked() -> Ipv4 {
     let mut text = [0u8; 64];
-    let Word::Length(len) = take_word(CLIENT, &mut text) else {
-        complain(b"CLIENT is missing or too long\n");
+    let Word::Length(len) = take_named(CLIENT, b"CLIENT", &mut text) else {
         return Ipv4::Bad;
     };
     let client = ipv4_of(part(&text, 0, len));

@@ -17,10 +17,12 @@ fn say_table_refusal(number: u8) {
 fn say_filter_refusal(number: u8) {
     match number {
         5 => say(b"the filter is over 2,048 octets long"),
-        6 => say(b"the filter is not an AND of equalities, nor one equality"),
+        6 => say(b"the filter is not of the shape that is read"),
         7 => say(b"the filter has a clause of another name"),
         8 => say(b"the filter has a clause twice"),
-        9 => say(b"NtVer or AAC is not four octets, or User is no user name"),
+        9 => say(
+            b"NtVer or AAC is not 4 octets, or User is over 63, not UTF-8 or has a zero octet",
+        ),
         _ => say(b"the filter has no NtVer"),
     }
 }

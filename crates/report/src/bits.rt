@@ -24,7 +24,7 @@ use console::say::say;
 use console::say::say_bits;
 use console::say::say_number;
 
-// The bits that no flag has: bit 1, and those from bit 16 on.
+// The bits that are no flag of document 01's: bit 1, and those from bit 16 on.
 const UNNAMED_FLAGS: u32 = 0xFFFF0002;
 
 fn say_flag(flags: u32, flag: u32, name: &[u8]) {

@@ -82,14 +82,26 @@ fn say_name(title: &[u8], reply: &[u8], name: NameAt) {
     say_pointers(name.pointers as u64);
 }
 
+// The texts of the two older forms.
+fn say_texts(reply: &[u8], server: Stretch, user: Stretch, domain: Stretch) {
+    say_text(b"server    ", reply, server);
+    say_text(b"user      ", reply, user);
+    say_text(b"domain    ", reply, domain);
+}
+
+// The names at places 0 to 2, of RESPONSE and EX alike.
+fn say_first_names(reply: &[u8], forest: NameAt, context: NameAt, host: NameAt) {
+    say_name(b"name 0    forest             ", reply, forest);
+    say_name(b"name 1    context            ", reply, context);
+    say_name(b"name 2    host               ", reply, host);
+}
+
 fn say_nt40(reply: &[u8], fields: Nt40Fields) {
     let server = fields.server;
     let user = fields.user;
     let domain = fields.domain;
     say_opcode(fields.opcode);
-    say_text(b"server    ", reply, server);
-    say_text(b"user      ", reply, user);
-    say_text(b"domain    ", reply, domain);
+    say_texts(reply, server, user, domain);
     say_version(fields.version);
 }
 
@@ -104,13 +116,9 @@ fn say_response(reply: &[u8], fields: ResponseFields) {
     let ipv4 = fields.ipv4;
     say_opcode(fields.opcode);
     say_flags(fields.flags);
-    say_text(b"server    ", reply, server);
-    say_text(b"user      ", reply, user);
-    say_text(b"domain    ", reply, domain);
+    say_texts(reply, server, user, domain);
     say_guid(reply, guid);
-    say_name(b"name 0    forest             ", reply, forest);
-    say_name(b"name 1    context            ", reply, context);
-    say_name(b"name 2    host               ", reply, host);
+    say_first_names(reply, forest, context, host);
     say_ipv4(reply, ipv4);
     say_version(fields.version);
 }
@@ -139,9 +147,7 @@ fn say_ex_names(reply: &[u8], fields: ExFields) {
     let user = fields.user;
     let own_site = fields.own_site;
     let client_site = fields.client_site;
-    say_name(b"name 0    forest             ", reply, forest);
-    say_name(b"name 1    context            ", reply, context);
-    say_name(b"name 2    host               ", reply, host);
+    say_first_names(reply, forest, context, host);
     say_name(b"name 3    context NetBIOS    ", reply, context_netbios);
     say_name(b"name 4    server NetBIOS     ", reply, server_netbios);
     say_name(b"name 5    user               ", reply, user);

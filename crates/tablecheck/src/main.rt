@@ -5,6 +5,7 @@ use crate::first::BlockRule;
 use crate::first::first_wrong;
 use arguments::complaint::complain;
 use arguments::file::FileRead;
+use arguments::file::IMAGE_SIZE;
 use arguments::file::TABLE;
 use arguments::file::read_table;
 use console::say::say;
@@ -16,9 +17,6 @@ use table_whole::judge::judge;
 use table_whole::judge::judgement_number;
 
 const ARGUMENTS_END: usize = TABLE + 1;
-
-// One octet more than an image may have, so that a longer file is refused.
-const IMAGE_SIZE: usize = IMAGE_MOST + 1;
 
 fn say_first_wrong(image: &[u8], rule: BlockRule) {
     if IMAGE_MOST < image.len() {

@@ -1,7 +1,7 @@
 // Words and octets of a request line.
 ghost use Prim.Native.Nat.{_≤_};
 ghost use lib.ListN.{length};
-use console::digits::all_digits;
+use console::digits::all_hex_digits;
 
 // Whether a word stands for octets: `-` for none, else two digits for each.
 pub fn is_octets(text: &[u8]) -> bool {
@@ -14,7 +14,7 @@ pub fn is_octets(text: &[u8]) -> bool {
     if text.len() % 2 != 0 {
         return false;
     }
-    all_digits(text)
+    all_hex_digits(text)
 }
 
 // Whether a word stands for four octets: a client's address, or version bits.
@@ -94,5 +94,5 @@ pub fn is_clause(text: &[u8]) -> bool {
     if text.len() % 2 == 0 {
         return false;
     }
-    all_digits(&text[1..])
+    all_hex_digits(&text[1..])
 }

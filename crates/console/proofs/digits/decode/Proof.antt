@@ -21,29 +21,29 @@ same-length c = c .before .before .loop .inv .1
 returns : tie.Need-returns Inv-loop μ-loop
 returns c = search needs
 
-mul-value : tie.Need-mul-value Inv-loop μ-loop
-mul-value c = search needs
+mul-hex-digit-value : tie.Need-mul-hex-digit-value Inv-loop μ-loop
+mul-hex-digit-value c = search needs
 
-shared-slice-read-value : tie.Need-shared-slice-read-value Inv-loop μ-loop
-shared-slice-read-value c = search needs
+shared-slice-read-hex-digit-value : tie.Need-shared-slice-read-hex-digit-value Inv-loop μ-loop
+shared-slice-read-hex-digit-value c = search needs
 
-value-requires : tie.Need-value-requires Inv-loop μ-loop
-value-requires c κs = search needs
+hex-digit-value-requires : tie.Need-hex-digit-value-requires Inv-loop μ-loop
+hex-digit-value-requires c κs = search needs
 
 mul-out : tie.Need-mul-out Inv-loop μ-loop
 mul-out c = search needs
 
-mul-value-2 : tie.Need-mul-value-2 Inv-loop μ-loop
-mul-value-2 c = search needs
+mul-hex-digit-value-2 : tie.Need-mul-hex-digit-value-2 Inv-loop μ-loop
+mul-hex-digit-value-2 c = search needs
 
-add-value : tie.Need-add-value Inv-loop μ-loop
-add-value c = search needs
+add-hex-digit-value : tie.Need-add-hex-digit-value Inv-loop μ-loop
+add-hex-digit-value c = search needs
 
-shared-slice-read-value-2 : tie.Need-shared-slice-read-value-2 Inv-loop μ-loop
-shared-slice-read-value-2 c = search needs
+shared-slice-read-hex-digit-value-2 : tie.Need-shared-slice-read-hex-digit-value-2 Inv-loop μ-loop
+shared-slice-read-hex-digit-value-2 c = search needs
 
-value-requires-2 : tie.Need-value-requires-2 Inv-loop μ-loop
-value-requires-2 c κs = search needs
+hex-digit-value-requires-2 : tie.Need-hex-digit-value-requires-2 Inv-loop μ-loop
+hex-digit-value-requires-2 c κs = search needs
 
 add-out : tie.Need-add-out Inv-loop μ-loop
 add-out c = search needs
@@ -75,14 +75,14 @@ decode-spec =
     loop-holds
     same-length
     returns
-    mul-value
-    shared-slice-read-value
-    value-requires
+    mul-hex-digit-value
+    shared-slice-read-hex-digit-value
+    hex-digit-value-requires
     mul-out
-    mul-value-2
-    add-value
-    shared-slice-read-value-2
-    value-requires-2
+    mul-hex-digit-value-2
+    add-hex-digit-value
+    shared-slice-read-hex-digit-value-2
+    hex-digit-value-requires-2
     add-out
     slice-write-out
     add-i

@@ -1,8 +1,8 @@
 use lib.ListN.{length}
 use Prim.Native.Nat.{_-_}
 use borrow.Author.Needs.{needs}
-use Rattle.console.proofs.digits.all_digits.Statement.{statement}
-use Rattle.console.proofs.digits.all_digits.Tie as tie
+use Rattle.console.proofs.digits.all_hex_digits.Statement.{statement}
+use Rattle.console.proofs.digits.all_hex_digits.Tie as tie
 
 abbrev Inv-loop : tie.InvT-loop
 Inv-loop text i₀ i = Unit {0}
@@ -13,11 +13,11 @@ abbrev μ-loop : tie.MeasureT-loop
 loop-holds : tie.Need-loop-holds Inv-loop μ-loop
 loop-holds c = tt
 
-shared-slice-read-is-digit : tie.Need-shared-slice-read-is-digit Inv-loop μ-loop
-shared-slice-read-is-digit c = search needs
+shared-slice-read-is-hex-digit : tie.Need-shared-slice-read-is-hex-digit Inv-loop μ-loop
+shared-slice-read-is-hex-digit c = search needs
 
-is-digit-requires : tie.Need-is-digit-requires Inv-loop μ-loop
-is-digit-requires c κs = search needs
+is-hex-digit-requires : tie.Need-is-hex-digit-requires Inv-loop μ-loop
+is-hex-digit-requires c κs = search needs
 
 returns : tie.Need-returns Inv-loop μ-loop
 returns c = tt
@@ -34,15 +34,15 @@ loop-again c = tt
 returns-2 : tie.Need-returns-2 Inv-loop μ-loop
 returns-2 c = tt
 
-pub all-digits-spec : {M : Type 1} → statement M
-all-digits-spec =
+pub all-hex-digits-spec : {M : Type 1} → statement M
+all-hex-digits-spec =
     tie.close
     (tie.spec
     Inv-loop
     μ-loop
     loop-holds
-    shared-slice-read-is-digit
-    is-digit-requires
+    shared-slice-read-is-hex-digit
+    is-hex-digit-requires
     returns
     add-i
     loop-less
