@@ -1,0 +1,146 @@
+// What C and Rust link: the public calls, exported as include/locator.h declares them. A struct that is lent is the array of its members.
+ghost use Rattle.table_whole.specs.Judgement.{Accepted};
+use answers::Form;
+use c_reply::answer::ANSWER_MEMBERS;
+use c_reply::answer::answer_members;
+use c_reply::answer::answer_number;
+use c_reply::reading::READING_MEMBERS;
+use c_reply::reading::reading_members;
+use c_reply::reading::text_length;
+use c_reply::reading::text_number;
+use c_request::request::REQUEST_MEMBERS;
+use c_request::request::judged_number;
+use c_request::request::judged_version;
+use c_request::request::request_of;
+use c_request::request::taken_members;
+use c_request::request::taken_number;
+use c_request::request::written_length;
+use c_request::request::written_number;
+use filter_read::read::take_apart;
+use filter_read::value::judge_values;
+use filter_write::write::write_filter;
+use locator::accepted::answer_accepted;
+use locator::ping::answer_ping;
+use reader_forms::reading::reading_number;
+use reader_reply::read::read_reply;
+use reader_text::TEXT_MOST;
+use reader_text::text::name_text;
+use table::Caller;
+use table_check::check::check_of;
+use table_whole::judge::judge;
+use table_whole::judge::judgement_number;
+
+#[no_mangle]
+pub extern "C" fn locator_judge(image: &[u8]) -> u8 {
+    judgement_number(judge(image))
+}
+
+#[no_mangle]
+pub extern "C" fn locator_check(octets: &[u8], check: &mut [u32; 2]) {
+    let sums = check_of(octets);
+    *check = [sums.a, sums.b];
+}
+
+#[no_mangle]
+pub extern "C" fn locator_take_apart(filter: &[u8], request: &mut [usize; REQUEST_MEMBERS]) -> u8 {
+    let taken = take_apart(filter);
+    *request = taken_members(taken);
+    taken_number(taken)
+}
+
+#[no_mangle]
+pub extern "C" fn locator_judge_values(
+    filter: &[u8],
+    request: &[usize; REQUEST_MEMBERS],
+    version: &mut u32,
+) -> u8 {
+    let judged = judge_values(filter, request_of(request));
+    *version = judged_version(judged);
+    judged_number(judged)
+}
+
+#[no_mangle]
+pub extern "C" fn locator_write_filter(
+    source: &[u8],
+    request: &[usize; REQUEST_MEMBERS],
+    out: &mut [u8],
+    length: &mut usize,
+) -> u8 {
+    let written = write_filter(source, request_of(request), out);
+    *length = written_length(written);
+    written_number(written)
+}
+
+#[no_mangle]
+pub extern "C" fn locator_answer_ping<'a>(
+    image: &'a [u8],
+    client: &[u8; 4],
+    filter: &'a [u8],
+    reply: &mut [u8],
+    answer: &mut [usize; ANSWER_MEMBERS],
+) -> u8 {
+    let caller = Caller { address: *client };
+    let given = answer_ping(image, caller, filter, reply);
+    *answer = answer_members(given);
+    answer_number(given)
+}
+
+// For bindings/rust alone, whose `Table` judged the image before; locator.h does not declare it.
+#[no_mangle]
+pub extern "C" fn locator_answer_ping_on_accepted_image<'a>(
+    image: &'a [u8],
+    client: &[u8; 4],
+    filter: &'a [u8],
+    reply: &mut [u8],
+    answer: &mut [usize; ANSWER_MEMBERS],
+) -> u8
+    requires { ⌜ Accepted (now image) ⌝ }
+{
+    let caller = Caller { address: *client };
+    let given = answer_accepted(image, caller, filter, reply);
+    *answer = answer_members(given);
+    answer_number(given)
+}
+
+#[no_mangle]
+pub extern "C" fn locator_read_nt40(reply: &[u8], reading: &mut [usize; READING_MEMBERS]) -> u8 {
+    let read = read_reply(reply, Form::Nt40, 0);
+    *reading = reading_members(read);
+    reading_number(read)
+}
+
+#[no_mangle]
+pub extern "C" fn locator_read_response(
+    reply: &[u8],
+    reading: &mut [usize; READING_MEMBERS],
+) -> u8 {
+    let read = read_reply(reply, Form::Response, 0);
+    *reading = reading_members(read);
+    reading_number(read)
+}
+
+#[no_mangle]
+pub extern "C" fn locator_read_ex(
+    reply: &[u8],
+    version: u32,
+    reading: &mut [usize; READING_MEMBERS],
+) -> u8 {
+    let read = read_reply(reply, Form::Ex, version);
+    *reading = reading_members(read);
+    reading_number(read)
+}
+
+#[no_mangle]
+pub extern "C" fn locator_name_text(
+    reply: &[u8],
+    start: usize,
+    text: &mut [u8; TEXT_MOST],
+    length: &mut usize,
+) -> u8 {
+    let name = name_text(reply, start);
+    let octets = name.octets;
+    let len = name.len;
+    *text = octets;
+    *length = text_length(len);
+    text_number(len)
+}
