@@ -1,5 +1,7 @@
 // An answer as the members of `struct locator_answer`: its length, the context used and the form.
 ghost use mathlib.Core.Path.{_≡_};
+ghost use Rattle.locator.specs.Answer.{answerNumber};
+ghost use Rattle.c_reply.specs.Answer.{formNumber, answerMembers};
 use answers::Form;
 use answers::number_of;
 use locator::Answer;
@@ -7,7 +9,9 @@ use locator::Answer;
 pub const ANSWER_MEMBERS: usize = 3;
 
 // The number of a form; 0 is no form.
-fn form_number(form: Form) -> usize {
+fn form_number(form: Form) -> usize
+    ensures { λ r. ⌜ r ≡ formNumber form ⌝ }
+{
     match form {
         Form::Nt40 => 1,
         Form::Response => 2,
@@ -15,7 +19,9 @@ fn form_number(form: Form) -> usize {
     }
 }
 
-pub fn answer_members(answer: Answer) -> [usize; ANSWER_MEMBERS] {
+pub fn answer_members(answer: Answer) -> [usize; ANSWER_MEMBERS]
+    ensures { λ r. ⌜ r ≡ answerMembers answer ⌝ }
+{
     match answer {
         Answer::Answered {
             length,
@@ -26,7 +32,9 @@ pub fn answer_members(answer: Answer) -> [usize; ANSWER_MEMBERS] {
     }
 }
 
-pub fn answer_number(answer: Answer) -> u8 {
+pub fn answer_number(answer: Answer) -> u8
+    ensures { λ r. ⌜ r ≡ answerNumber answer ⌝ }
+{
     match answer {
         Answer::Answered {
             length: _,

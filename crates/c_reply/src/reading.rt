@@ -1,6 +1,9 @@
 // A reading as the members of `struct locator_reading`: what its form lacks is not present.
 ghost use mathlib.Core.Path.{_≡_};
 ghost use Prim.Native.Nat.{_≤_};
+ghost use Rattle.reader_text.specs.Text.{textNumber, textLength};
+ghost use Rattle.c_reply.specs.Reading.{readingMembers};
+ghost use Rattle.c_reply.specs.Internal.Put.{numberPut, textPut, namePut, textsPut, dnsNamesPut, otherNamesPut, addressPut, nextSitePut};
 use answers::number_of;
 use reader::field::Stretch;
 use reader_forms::reading::Address;
@@ -48,6 +51,7 @@ fn member_of(number: u32) -> usize
 // A number that is present.
 fn put_number(members: &mut [usize; READING_MEMBERS], at: usize, number: usize)
     requires { ⌜ at ≤ 52 ⌝ }
+    ensures { λ _. ⌜ now (members .exit) ≡ numberPut (now (members .entry)) at number ⌝ }
 {
     members[at] = 1;
     members[at + 1] = number;
@@ -56,6 +60,7 @@ fn put_number(members: &mut [usize; READING_MEMBERS], at: usize, number: usize)
 // A text that is present.
 fn put_text(members: &mut [usize; READING_MEMBERS], at: usize, text: Stretch)
     requires { ⌜ at ≤ 51 ⌝ }
+    ensures { λ _. ⌜ now (members .exit) ≡ textPut (now (members .entry)) at text ⌝ }
 {
     members[at] = 1;
     members[at + 1] = text.start;
@@ -65,6 +70,7 @@ fn put_text(members: &mut [usize; READING_MEMBERS], at: usize, text: Stretch)
 // A name that is present.
 fn put_name(members: &mut [usize; READING_MEMBERS], at: usize, name: NameAt)
     requires { ⌜ at ≤ 50 ⌝ }
+    ensures { λ _. ⌜ now (members .exit) ≡ namePut (now (members .entry)) at name ⌝ }
 {
     members[at] = 1;
     members[at + 1] = name.start;
@@ -72,101 +78,132 @@ fn put_name(members: &mut [usize; READING_MEMBERS], at: usize, name: NameAt)
     members[at + 3] = name.pointers;
 }
 
-fn nt40_members(length: usize, fields: Nt40Fields) -> [usize; READING_MEMBERS] {
-    let opcode = fields.opcode as usize;
-    let version = member_of(fields.version);
-    let server = fields.server;
-    let user = fields.user;
-    let domain = fields.domain;
-    let mut members = [0; READING_MEMBERS];
-    members[LENGTH] = length;
-    members[OPCODE] = opcode;
-    members[VERSION] = version;
-    put_text(&mut members, SERVER, server);
-    put_text(&mut members, USER, user);
-    put_text(&mut members, DOMAIN, domain);
-    members
+// The texts of the two older forms.
+fn put_texts(
+    members: &mut [usize; READING_MEMBERS],
+    server: Stretch,
+    user: Stretch,
+    domain: Stretch,
+)
+    ensures { λ _. ⌜ now (members .exit) ≡ textsPut (now (members .entry)) server user domain ⌝ }
+{
+    put_text(members, SERVER, server);
+    put_text(members, USER, user);
+    put_text(members, DOMAIN, domain);
 }
 
-fn response_members(length: usize, fields: ResponseFields) -> [usize; READING_MEMBERS] {
-    let opcode = fields.opcode as usize;
-    let version = member_of(fields.version);
-    let flags = member_of(fields.flags);
-    let server = fields.server;
+// The names at places 0 to 2, of RESPONSE and EX.
+fn put_dns_names(
+    members: &mut [usize; READING_MEMBERS],
+    forest: NameAt,
+    context: NameAt,
+    host: NameAt,
+)
+    ensures { λ _. ⌜ now (members .exit) ≡ dnsNamesPut (now (members .entry)) forest context host ⌝ }
+{
+    put_name(members, NAMES, forest);
+    put_name(members, NAMES + 4, context);
+    put_name(members, NAMES + 8, host);
+}
+
+// The names at places 3 to 7, of EX.
+fn put_other_names(members: &mut [usize; READING_MEMBERS], fields: ExFields)
+    ensures { λ _. ⌜ now (members .exit) ≡ otherNamesPut (now (members .entry)) fields ⌝ }
+{
+    let context_netbios = fields.context_netbios;
+    let server_netbios = fields.server_netbios;
     let user = fields.user;
-    let domain = fields.domain;
-    let guid = fields.guid;
-    let forest = fields.forest;
-    let context = fields.context;
-    let host = fields.host;
-    let address = fields.ipv4;
-    let mut members = [0; READING_MEMBERS];
-    members[LENGTH] = length;
-    members[OPCODE] = opcode;
-    members[VERSION] = version;
-    put_number(&mut members, FLAGS, flags);
-    put_number(&mut members, GUID, guid.start);
-    put_number(&mut members, ADDRESS, address.start);
-    put_text(&mut members, SERVER, server);
-    put_text(&mut members, USER, user);
-    put_text(&mut members, DOMAIN, domain);
-    put_name(&mut members, NAMES, forest);
-    put_name(&mut members, NAMES + 4, context);
-    put_name(&mut members, NAMES + 8, host);
-    members
+    let own_site = fields.own_site;
+    let client_site = fields.client_site;
+    put_name(members, NAMES + 12, context_netbios);
+    put_name(members, NAMES + 16, server_netbios);
+    put_name(members, NAMES + 20, user);
+    put_name(members, NAMES + 24, own_site);
+    put_name(members, NAMES + 28, client_site);
 }
 
 // The address and name 8 of an EX, where they are present.
-fn put_address(members: &mut [usize; READING_MEMBERS], address: Address) {
+fn put_address(members: &mut [usize; READING_MEMBERS], address: Address)
+    ensures { λ _. ⌜ now (members .exit) ≡ addressPut (now (members .entry)) address ⌝ }
+{
     match address {
         Address::Absent => {}
         Address::At(stretch) => put_number(members, ADDRESS, stretch.start),
     }
 }
 
-fn put_next_site(members: &mut [usize; READING_MEMBERS], next_site: NextSite) {
+fn put_next_site(members: &mut [usize; READING_MEMBERS], next_site: NextSite)
+    ensures { λ _. ⌜ now (members .exit) ≡ nextSitePut (now (members .entry)) «next_site» ⌝ }
+{
     match next_site {
         NextSite::Absent => {}
         NextSite::Name(name) => put_name(members, NEXT_SITE, name),
     }
 }
 
-fn ex_members(length: usize, fields: ExFields) -> [usize; READING_MEMBERS] {
-    let opcode = fields.opcode as usize;
-    let version = member_of(fields.version);
-    let flags = member_of(fields.flags);
+fn nt40_members(length: usize, fields: Nt40Fields) -> [usize; READING_MEMBERS]
+    ensures { λ r. ⌜ r ≡ readingMembers (Reading.Read length (Fields.Nt40 fields)) ⌝ }
+{
+    let server = fields.server;
+    let user = fields.user;
+    let domain = fields.domain;
+    let mut members = [0; READING_MEMBERS];
+    members[LENGTH] = length;
+    members[OPCODE] = fields.opcode as usize;
+    members[VERSION] = member_of(fields.version);
+    put_texts(&mut members, server, user, domain);
+    members
+}
+
+fn response_members(length: usize, fields: ResponseFields) -> [usize; READING_MEMBERS]
+    ensures { λ r. ⌜ r ≡ readingMembers (Reading.Read length (Fields.Response fields)) ⌝ }
+{
+    let server = fields.server;
+    let user = fields.user;
+    let domain = fields.domain;
     let guid = fields.guid;
     let forest = fields.forest;
     let context = fields.context;
     let host = fields.host;
-    let context_netbios = fields.context_netbios;
-    let server_netbios = fields.server_netbios;
-    let user = fields.user;
-    let own_site = fields.own_site;
-    let client_site = fields.client_site;
+    let address = fields.ipv4;
+    let mut members = [0; READING_MEMBERS];
+    members[LENGTH] = length;
+    members[OPCODE] = fields.opcode as usize;
+    members[VERSION] = member_of(fields.version);
+    put_number(&mut members, FLAGS, member_of(fields.flags));
+    put_number(&mut members, GUID, guid.start);
+    put_number(&mut members, ADDRESS, address.start);
+    put_texts(&mut members, server, user, domain);
+    put_dns_names(&mut members, forest, context, host);
+    members
+}
+
+fn ex_members(length: usize, fields: ExFields) -> [usize; READING_MEMBERS]
+    ensures { λ r. ⌜ r ≡ readingMembers (Reading.Read length (Fields.Ex fields)) ⌝ }
+{
+    let guid = fields.guid;
+    let forest = fields.forest;
+    let context = fields.context;
+    let host = fields.host;
     let address = fields.ipv4;
     let next_site = fields.next_site;
     let mut members = [0; READING_MEMBERS];
     members[LENGTH] = length;
-    members[OPCODE] = opcode;
-    members[VERSION] = version;
-    put_number(&mut members, FLAGS, flags);
+    members[OPCODE] = fields.opcode as usize;
+    members[VERSION] = member_of(fields.version);
+    put_number(&mut members, FLAGS, member_of(fields.flags));
     put_number(&mut members, GUID, guid.start);
+    put_dns_names(&mut members, forest, context, host);
+    put_other_names(&mut members, fields);
     put_address(&mut members, address);
-    put_name(&mut members, NAMES, forest);
-    put_name(&mut members, NAMES + 4, context);
-    put_name(&mut members, NAMES + 8, host);
-    put_name(&mut members, NAMES + 12, context_netbios);
-    put_name(&mut members, NAMES + 16, server_netbios);
-    put_name(&mut members, NAMES + 20, user);
-    put_name(&mut members, NAMES + 24, own_site);
-    put_name(&mut members, NAMES + 28, client_site);
     put_next_site(&mut members, next_site);
     members
 }
 
 // With a refusal the length is 0, and no field is present.
-pub fn reading_members(reading: Reading) -> [usize; READING_MEMBERS] {
+pub fn reading_members(reading: Reading) -> [usize; READING_MEMBERS]
+    ensures { λ r. ⌜ r ≡ readingMembers reading ⌝ }
+{
     let Reading::Read { length, fields } = reading else {
         return [0; READING_MEMBERS];
     };
@@ -178,7 +215,9 @@ pub fn reading_members(reading: Reading) -> [usize; READING_MEMBERS] {
 }
 
 // Document 01's number of a name's text.
-pub fn text_number(len: TextLength) -> u8 {
+pub fn text_number(len: TextLength) -> u8
+    ensures { λ r. ⌜ r ≡ textNumber len ⌝ }
+{
     match len {
         TextLength::Octets(_) => 0,
         TextLength::Refused(refusal) => number_of(refusal),
@@ -186,7 +225,9 @@ pub fn text_number(len: TextLength) -> u8 {
 }
 
 // Its length, 0 with a refusal.
-pub fn text_length(len: TextLength) -> usize {
+pub fn text_length(len: TextLength) -> usize
+    ensures { λ r. ⌜ r ≡ textLength len ⌝ }
+{
     match len {
         TextLength::Octets(length) => length,
         TextLength::Refused(_) => 0,

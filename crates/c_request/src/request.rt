@@ -1,6 +1,11 @@
 // A request as the members of `struct locator_request`: for each clause, in document 01's order, whether it is present, its start and its length.
 ghost use mathlib.Core.Path.{_≡_};
 ghost use Prim.Native.Nat.{_≤_};
+ghost use Rattle.filter_read.specs.Taken.{takenNumber};
+ghost use Rattle.filter_read.specs.Value.{judgedNumber};
+ghost use Rattle.filter_write.specs.Write.{writtenNumber, writtenLength};
+ghost use Rattle.c_request.specs.Request.{clauseAt, requestGiven, clauseMembers, requestMembers, takenMembers, judgedVersion};
+ghost use Rattle.c_request.specs.Internal.Put.{clausePut};
 use answers::number_of;
 use filter::request::Clause;
 use filter::request::Request;
@@ -13,6 +18,7 @@ pub const REQUEST_MEMBERS: usize = 24;
 // 0 is absent, any other number present: absent and empty stay distinct.
 fn clause_at(members: &[usize; REQUEST_MEMBERS], at: usize) -> Clause
     requires { ⌜ at ≤ 21 ⌝ }
+    ensures { λ r. ⌜ r ≡ clauseAt (now (members .entry)) at ⌝ }
 {
     if members[at] == 0 {
         return Clause::Absent;
@@ -24,7 +30,9 @@ fn clause_at(members: &[usize; REQUEST_MEMBERS], at: usize) -> Clause
 }
 
 // The request that a caller's members make.
-pub fn request_of(members: &[usize; REQUEST_MEMBERS]) -> Request {
+pub fn request_of(members: &[usize; REQUEST_MEMBERS]) -> Request
+    ensures { λ r. ⌜ r ≡ requestGiven (now (members .entry)) ⌝ }
+{
     Request {
         dns_domain: clause_at(members, 0),
         host: clause_at(members, 3),
@@ -37,7 +45,9 @@ pub fn request_of(members: &[usize; REQUEST_MEMBERS]) -> Request {
     }
 }
 
-fn clause_members(clause: Clause) -> [usize; 3] {
+fn clause_members(clause: Clause) -> [usize; 3]
+    ensures { λ r. ⌜ r ≡ clauseMembers clause ⌝ }
+{
     match clause {
         Clause::Absent => [0, 0, 0],
         Clause::Present { start, len } => [1, start, len],
@@ -46,6 +56,7 @@ fn clause_members(clause: Clause) -> [usize; 3] {
 
 fn put_clause(members: &mut [usize; REQUEST_MEMBERS], at: usize, clause: Clause)
     requires { ⌜ at ≤ 21 ⌝ }
+    ensures { λ _. ⌜ now (members .exit) ≡ clausePut (now (members .entry)) at clause ⌝ }
 {
     let row = clause_members(clause);
     members[at] = row[0];
@@ -53,7 +64,9 @@ fn put_clause(members: &mut [usize; REQUEST_MEMBERS], at: usize, clause: Clause)
     members[at + 2] = row[2];
 }
 
-fn request_members(request: Request) -> [usize; REQUEST_MEMBERS] {
+fn request_members(request: Request) -> [usize; REQUEST_MEMBERS]
+    ensures { λ r. ⌜ r ≡ requestMembers request ⌝ }
+{
     let dns_domain = request.dns_domain;
     let host = request.host;
     let dns_host_name = request.dns_host_name;
@@ -75,7 +88,9 @@ fn request_members(request: Request) -> [usize; REQUEST_MEMBERS] {
 }
 
 // A filter taken apart: its request, with a refusal no clause.
-pub fn taken_members(taken: Taken) -> [usize; REQUEST_MEMBERS] {
+pub fn taken_members(taken: Taken) -> [usize; REQUEST_MEMBERS]
+    ensures { λ r. ⌜ r ≡ takenMembers taken ⌝ }
+{
     match taken {
         Taken::Request(request) => request_members(request),
         Taken::Refused(_) => [0; REQUEST_MEMBERS],
@@ -83,14 +98,18 @@ pub fn taken_members(taken: Taken) -> [usize; REQUEST_MEMBERS] {
 }
 
 // Document 01's numbers of what is done with a filter.
-pub fn taken_number(taken: Taken) -> u8 {
+pub fn taken_number(taken: Taken) -> u8
+    ensures { λ r. ⌜ r ≡ takenNumber taken ⌝ }
+{
     match taken {
         Taken::Request(_) => 0,
         Taken::Refused(refusal) => number_of(refusal),
     }
 }
 
-pub fn judged_number(judged: Judged) -> u8 {
+pub fn judged_number(judged: Judged) -> u8
+    ensures { λ r. ⌜ r ≡ judgedNumber judged ⌝ }
+{
     match judged {
         Judged::Version(_) => 0,
         Judged::Refused(refusal) => number_of(refusal),
@@ -98,14 +117,18 @@ pub fn judged_number(judged: Judged) -> u8 {
 }
 
 // The version asked, 0 with a refusal.
-pub fn judged_version(judged: Judged) -> u32 {
+pub fn judged_version(judged: Judged) -> u32
+    ensures { λ r. ⌜ r ≡ judgedVersion judged ⌝ }
+{
     match judged {
         Judged::Version(version) => version,
         Judged::Refused(_) => 0,
     }
 }
 
-pub fn written_number(written: Written) -> u8 {
+pub fn written_number(written: Written) -> u8
+    ensures { λ r. ⌜ r ≡ writtenNumber written ⌝ }
+{
     match written {
         Written::Length(_) => 0,
         Written::Refused(refusal) => number_of(refusal),
@@ -113,7 +136,9 @@ pub fn written_number(written: Written) -> u8 {
 }
 
 // The length written, 0 with a refusal.
-pub fn written_length(written: Written) -> usize {
+pub fn written_length(written: Written) -> usize
+    ensures { λ r. ⌜ r ≡ writtenLength written ⌝ }
+{
     match written {
         Written::Length(length) => length,
         Written::Refused(_) => 0,
