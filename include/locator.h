@@ -40,7 +40,7 @@ enum locator_number {
 
     /* the filter */
     LOCATOR_FILTER_LENGTH = 5,    /* more than LOCATOR_FILTER_MOST octets */
-    LOCATOR_FILTER_SHAPE = 6,     /* not an AND of equalities; nothing to write */
+    LOCATOR_FILTER_SHAPE = 6,     /* not equalities in ANDs; no clause to write */
     LOCATOR_UNKNOWN_CLAUSE = 7,   /* a clause has another name than the eight */
     LOCATOR_DUPLICATE_CLAUSE = 8, /* two clauses have one name */
     LOCATOR_CLAUSE_VALUE = 9,     /* NtVer, AAC or User has no such value */
