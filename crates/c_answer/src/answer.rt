@@ -1,9 +1,7 @@
 // An answer as the members of `struct locator_answer`: its length, the context used and the form.
 ghost use mathlib.Core.Path.{_≡_};
-ghost use Rattle.locator.specs.Answer.{answerNumber};
 ghost use Rattle.c_answer.specs.Answer.{formNumber, answerMembers};
 use answers::Form;
-use answers::number_of;
 use locator::Answer;
 
 pub const ANSWER_MEMBERS: usize = 3;
@@ -29,18 +27,5 @@ pub fn answer_members(answer: Answer) -> [usize; ANSWER_MEMBERS]
             form,
         } => [length, context.0 as usize, form_number(form)],
         Answer::Refused(_) => [0, 0, 0],
-    }
-}
-
-pub fn answer_number(answer: Answer) -> u8
-    ensures { λ r. ⌜ r ≡ answerNumber answer ⌝ }
-{
-    match answer {
-        Answer::Answered {
-            length: _,
-            context: _,
-            form: _,
-        } => 0,
-        Answer::Refused(refusal) => number_of(refusal),
     }
 }

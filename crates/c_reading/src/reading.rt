@@ -1,10 +1,8 @@
 // A reading as the members of `struct locator_reading`: what its form lacks is not present.
 ghost use mathlib.Core.Path.{_≡_};
 ghost use Prim.Native.Nat.{_≤_};
-ghost use Rattle.reader_text.specs.Text.{textNumber, textLength};
 ghost use Rattle.c_reading.specs.Reading.{readingMembers};
 ghost use Rattle.c_reading.specs.Internal.Put.{numberPut, textPut, namePut, textsPut, dnsNamesPut, otherNamesPut, addressPut, nextSitePut};
-use answers::number_of;
 use reader::field::Stretch;
 use reader_forms::reading::Address;
 use reader_forms::reading::ExFields;
@@ -14,7 +12,6 @@ use reader_forms::reading::Nt40Fields;
 use reader_forms::reading::Reading;
 use reader_forms::reading::ResponseFields;
 use reader_names::NameAt;
-use reader_text::TextLength;
 
 pub const READING_MEMBERS: usize = 54;
 
@@ -211,25 +208,5 @@ pub fn reading_members(reading: Reading) -> [usize; READING_MEMBERS]
         Fields::Nt40(nt40) => nt40_members(length, nt40),
         Fields::Response(response) => response_members(length, response),
         Fields::Ex(ex) => ex_members(length, ex),
-    }
-}
-
-// Document 01's number of a name's text.
-pub fn text_number(len: TextLength) -> u8
-    ensures { λ r. ⌜ r ≡ textNumber len ⌝ }
-{
-    match len {
-        TextLength::Octets(_) => 0,
-        TextLength::Refused(refusal) => number_of(refusal),
-    }
-}
-
-// Its length, 0 with a refusal.
-pub fn text_length(len: TextLength) -> usize
-    ensures { λ r. ⌜ r ≡ textLength len ⌝ }
-{
-    match len {
-        TextLength::Octets(length) => length,
-        TextLength::Refused(_) => 0,
     }
 }

@@ -10,8 +10,6 @@ use Rattle.filter.specs.declared.request.Clause.the-variants.{Absent, Present}
 use Rattle.filter.specs.declared.request.Request.{Request}
 use Rattle.filter_read.specs.declared.read.Taken.{Taken}
 use Rattle.filter_read.specs.declared.read.Taken.the-variants as taken
-use Rattle.filter_read.specs.declared.value.Judged.{Judged}
-use Rattle.filter_read.specs.declared.value.Judged.the-variants as judged
 
 abbrev pub clauseUnless : Bool → ℕ → ℕ → Clause
 clauseUnless true start len = Absent
@@ -65,11 +63,6 @@ requestMembers r =
 abbrev pub takenMembers : Taken → List ℕ
 takenMembers (taken.Request r) = requestMembers r
 takenMembers (taken.Refused r) = replicate 24 0
-
--- the version asked, 0 with a refusal
-abbrev pub judgedVersion : Judged → ℕ
-judgedVersion (judged.Version v) = v
-judgedVersion (judged.Refused r) = 0
 
 -- a request that was given can be handed on: its members make it again
 abbrev pub RequestHandedOn : Type 0

@@ -1,17 +1,11 @@
 // A request as the members of `struct locator_request`: for each clause, in document 01's order, whether it is present, its start and its length.
 ghost use mathlib.Core.Path.{_≡_};
 ghost use Prim.Native.Nat.{_≤_};
-ghost use Rattle.filter_read.specs.Taken.{takenNumber};
-ghost use Rattle.filter_read.specs.Value.{judgedNumber};
-ghost use Rattle.filter_write.specs.Write.{writtenNumber, writtenLength};
-ghost use Rattle.c_request.specs.Request.{clauseAt, requestGiven, clauseMembers, requestMembers, takenMembers, judgedVersion};
+ghost use Rattle.c_request.specs.Request.{clauseAt, requestGiven, clauseMembers, requestMembers, takenMembers};
 ghost use Rattle.c_request.specs.Internal.Put.{clausePut};
-use answers::number_of;
 use filter::request::Clause;
 use filter::request::Request;
 use filter_read::read::Taken;
-use filter_read::value::Judged;
-use filter_write::write::Written;
 
 pub const REQUEST_MEMBERS: usize = 24;
 
@@ -94,53 +88,5 @@ pub fn taken_members(taken: Taken) -> [usize; REQUEST_MEMBERS]
     match taken {
         Taken::Request(request) => request_members(request),
         Taken::Refused(_) => [0; REQUEST_MEMBERS],
-    }
-}
-
-// Document 01's numbers of what is done with a filter.
-pub fn taken_number(taken: Taken) -> u8
-    ensures { λ r. ⌜ r ≡ takenNumber taken ⌝ }
-{
-    match taken {
-        Taken::Request(_) => 0,
-        Taken::Refused(refusal) => number_of(refusal),
-    }
-}
-
-pub fn judged_number(judged: Judged) -> u8
-    ensures { λ r. ⌜ r ≡ judgedNumber judged ⌝ }
-{
-    match judged {
-        Judged::Version(_) => 0,
-        Judged::Refused(refusal) => number_of(refusal),
-    }
-}
-
-// The version asked, 0 with a refusal.
-pub fn judged_version(judged: Judged) -> u32
-    ensures { λ r. ⌜ r ≡ judgedVersion judged ⌝ }
-{
-    match judged {
-        Judged::Version(version) => version,
-        Judged::Refused(_) => 0,
-    }
-}
-
-pub fn written_number(written: Written) -> u8
-    ensures { λ r. ⌜ r ≡ writtenNumber written ⌝ }
-{
-    match written {
-        Written::Length(_) => 0,
-        Written::Refused(refusal) => number_of(refusal),
-    }
-}
-
-// The length written, 0 with a refusal.
-pub fn written_length(written: Written) -> usize
-    ensures { λ r. ⌜ r ≡ writtenLength written ⌝ }
-{
-    match written {
-        Written::Length(length) => length,
-        Written::Refused(_) => 0,
     }
 }

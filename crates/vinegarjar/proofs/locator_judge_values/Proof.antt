@@ -1,6 +1,5 @@
 use mathlib.Core.Path.{ap, _∙_}
-use Rattle.filter_read.specs.Value.{pingIn, judgedValues, judgedNumber}
-use Rattle.c_request.specs.Request.{judgedVersion}
+use Rattle.filter_read.specs.Value.{pingIn, judgedValues, judgedNumber, judgedVersion}
 use borrow.Author.Needs.{needs}
 use Rattle.vinegarjar.proofs.locator_judge_values.Statement.{statement}
 use Rattle.vinegarjar.proofs.locator_judge_values.Tie as tie

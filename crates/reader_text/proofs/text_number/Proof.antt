@@ -1,8 +1,8 @@
 use mathlib.Core.Path.{ap, sym, _∙_}
 use Rattle.reader_text.specs.Text.{textNumber}
 use borrow.Author.Needs.{needs}
-use Rattle.c_reading.proofs.reading.text_number.Statement.{statement}
-use Rattle.c_reading.proofs.reading.text_number.Tie as tie
+use Rattle.reader_text.proofs.text_number.Statement.{statement}
+use Rattle.reader_text.proofs.text_number.Tie as tie
 
 enum-told : tie.Need-enum-told
 enum-told c = search needs

@@ -1,8 +1,8 @@
-use mathlib.Core.Path.{ap, sym, _∙_}
 use Rattle.locator.specs.Answer.{answerNumber}
+use mathlib.Core.Path.{_∙_, ap, sym}
 use borrow.Author.Needs.{needs}
-use Rattle.c_answer.proofs.answer.answer_number.Statement.{statement}
-use Rattle.c_answer.proofs.answer.answer_number.Tie as tie
+use Rattle.locator.proofs.answer_number.Statement.{statement}
+use Rattle.locator.proofs.answer_number.Tie as tie
 
 enum-told : tie.Need-enum-told
 enum-told c = search needs
