@@ -3,6 +3,7 @@ use answers::Form;
 use answers::Refusal;
 use table::ContextNumber;
 
+pub mod accepted;
 pub mod over;
 pub mod ping;
 pub mod user;
