@@ -3,22 +3,7 @@
 
 #![forbid(unsafe_code)]
 
-mod answers;
-mod choose;
-mod compare;
-mod filter;
-mod generate;
-mod image;
-mod lines;
-mod long;
-mod octets;
-mod reader;
-mod reply;
-mod table;
-#[cfg(test)]
-mod tests;
-mod walk;
-
+use second::{compare, generate, lines, long};
 use std::env::args;
 use std::fs::File;
 use std::io::{self, stdin, stdout, BufReader, BufWriter, Write};
