@@ -1,8 +1,8 @@
 /*
  * locator.h - answers Netlogon pings from a table image, reads replies, reads and writes filters.
  *
- * Link with target/staticlib/libvinegarjar.a (`rt staticlib vinegarjar`), for x86-64. The code is proved; these declarations are
- * held to it by hand and by the programs in examples/.
+ * For C11 and C++11. Link with target/staticlib/libvinegarjar.a (`rt staticlib vinegarjar`), on x86-64. The code is proved;
+ * these declarations are held to it by hand and by the programs in examples/.
  *
  * Buffers. The caller owns all memory. A call keeps no pointer past its return, allocates nothing and has no state, so
  * any number of threads may call at once. Where parameters are a pointer and a length, the pointer is to that many octets;
@@ -13,7 +13,7 @@
  * Starts and lengths in structs are counted in octets from the first octet of the buffer that they speak of.
  *
  * Numbers. A call that returns uint8_t returns 0 (done) or why it refused, one of enum locator_number. On a refusal every
- * member of every struct lent for results is 0, and a reply or filter buffer is as it was.
+ * struct, number and text lent for results is all zeros, and a buffer lent for a reply or a filter is as it was.
  */
 #ifndef LOCATOR_H
 #define LOCATOR_H
@@ -40,7 +40,7 @@ enum locator_number {
 
     /* the filter */
     LOCATOR_FILTER_LENGTH = 5,    /* more than LOCATOR_FILTER_MOST octets */
-    LOCATOR_FILTER_SHAPE = 6,     /* not an AND of equalities; nothing to write */
+    LOCATOR_FILTER_SHAPE = 6,     /* not equalities in ANDs; no clause to write */
     LOCATOR_UNKNOWN_CLAUSE = 7,   /* a clause has another name than the eight */
     LOCATOR_DUPLICATE_CLAUSE = 8, /* two clauses have one name */
     LOCATOR_CLAUSE_VALUE = 9,     /* NtVer, AAC or User has no such value */

@@ -144,7 +144,7 @@ fn written_filters() -> Worst {
     worst
 }
 
-/// The worst ping to each table, in each form; and filters of many clauses, which are refused.
+/// The worst ping to each table, in each form. Refused ones cost less: what is refused is not chosen, planned or written.
 fn answers() -> [Worst; 2] {
     let (mut judged, mut accepted) = (Worst::new("answer_ping"), Worst::new("answer_ping, table judged before"));
     for (input, table) in tables() {

@@ -12,7 +12,6 @@ enum { IMAGE_MOST = 65536 };
 static const uint8_t CLIENT[4] = {192, 0, 2, 1};
 
 /* (&(NtVer=06 00 00 00)) */
-static const uint32_t VERSION = 6;
 static const uint8_t FILTER[] = {0xA0, 0x0F, 0xA3, 0x0D, 0x04, 0x05, 0x4E, 0x74, 0x56,
                                  0x65, 0x72, 0x04, 0x04, 0x06, 0x00, 0x00, 0x00};
 
@@ -55,11 +54,23 @@ static int print_name(const uint8_t *reply, size_t length, const struct locator_
     return 1;
 }
 
+/* The version bits that the filter asks for. */
+static int version_asked(uint32_t *version)
+{
+    struct locator_request request;
+
+    return locator_take_apart(FILTER, sizeof FILTER, &request) == LOCATOR_DONE &&
+           locator_judge_values(FILTER, sizeof FILTER, &request, version) == LOCATOR_DONE;
+}
+
 static int read_back(const uint8_t *reply, size_t length)
 {
     struct locator_reading reading;
-    uint8_t number = locator_read_ex(reply, length, VERSION, &reading);
+    uint32_t version;
 
+    if (!version_asked(&version))
+        return 0;
+    uint8_t number = locator_read_ex(reply, length, version, &reading);
     printf("read: number %d, length %zu, opcode %zu, flags %zX, version %zu\n", number, reading.length, reading.opcode,
            reading.flags, reading.version);
     if (number != LOCATOR_DONE || !reading.has_flags || !reading.has_guid)

@@ -5,10 +5,9 @@ use std::error::Error;
 use std::net::Ipv4Addr;
 use std::{env, fs};
 
-use vinegarjar::{read_reply, Fields, Form, Table, REPLY_MOST};
+use vinegarjar::{judge_values, read_reply, take_apart, Fields, Form, Table, REPLY_MOST};
 
 /// (&(NtVer=06 00 00 00))
-const VERSION: u32 = 6;
 const FILTER: [u8; 17] =
     [0xA0, 0x0F, 0xA3, 0x0D, 0x04, 0x05, 0x4E, 0x74, 0x56, 0x65, 0x72, 0x04, 0x04, 0x06, 0x00, 0x00, 0x00];
 #[rustfmt::skip]
@@ -33,7 +32,8 @@ fn main() -> Result<(), Box<dyn Error>> {
     if answer.form != Form::Ex || reply != REPLY {
         return Err("the reply is not P1's".into());
     }
-    let reading = read_reply(reply, answer.form, VERSION)?;
+    let version = judge_values(&FILTER, &take_apart(&FILTER)?)?;
+    let reading = read_reply(reply, answer.form, version)?;
     let Fields::Ex(fields) = reading.fields else { unreachable!("read as EX") };
     println!(
         "read: length {}, opcode {}, flags {:X}, version {}",

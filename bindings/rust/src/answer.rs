@@ -43,7 +43,14 @@ impl Answer {
     }
 }
 
-/// A table that was judged once, when it was made. It borrows its image, which therefore cannot change.
+/// A table that was judged once, when it was made. It borrows its image, which therefore cannot change:
+///
+/// ```compile_fail,E0506
+/// let mut image = vec![0; 1024];
+/// let table = vinegarjar::Table::new(&image);
+/// image[0] = 1;
+/// drop(table);
+/// ```
 #[derive(Clone, Copy, Debug)]
 pub struct Table<'image> {
     image: ffi::Accepted<'image>,

@@ -59,21 +59,51 @@ pub struct Reading {
 /// The octets of the longest name.
 pub const TEXT_MOST: usize = 253;
 
-#[rustfmt::skip]
 #[link(name = "vinegarjar", kind = "static")]
 extern "C" {
     fn locator_judge(image: *const u8, image_length: usize) -> u8;
     fn locator_check(octets: *const u8, length: usize, check: *mut [u32; 2]);
     fn locator_take_apart(filter: *const u8, filter_length: usize, request: *mut Request) -> u8;
     fn locator_judge_values(filter: *const u8, filter_length: usize, request: *const Request, version: *mut u32) -> u8;
-    fn locator_write_filter(source: *const u8, source_length: usize, request: *const Request, out: *mut u8, out_room: usize, length: *mut usize) -> u8;
-    fn locator_answer_ping(image: *const u8, image_length: usize, client: *const [u8; 4], filter: *const u8, filter_length: usize, reply: *mut u8, reply_room: usize, answer: *mut Answer) -> u8;
+    fn locator_write_filter(
+        source: *const u8,
+        source_length: usize,
+        request: *const Request,
+        out: *mut u8,
+        out_room: usize,
+        length: *mut usize,
+    ) -> u8;
+    fn locator_answer_ping(
+        image: *const u8,
+        image_length: usize,
+        client: *const [u8; 4],
+        filter: *const u8,
+        filter_length: usize,
+        reply: *mut u8,
+        reply_room: usize,
+        answer: *mut Answer,
+    ) -> u8;
     // Not in locator.h: the image must be one that locator_judge accepted.
-    fn locator_answer_ping_on_accepted_image(image: *const u8, image_length: usize, client: *const [u8; 4], filter: *const u8, filter_length: usize, reply: *mut u8, reply_room: usize, answer: *mut Answer) -> u8;
+    fn locator_answer_ping_on_accepted_image(
+        image: *const u8,
+        image_length: usize,
+        client: *const [u8; 4],
+        filter: *const u8,
+        filter_length: usize,
+        reply: *mut u8,
+        reply_room: usize,
+        answer: *mut Answer,
+    ) -> u8;
     fn locator_read_nt40(reply: *const u8, reply_length: usize, reading: *mut Reading) -> u8;
     fn locator_read_response(reply: *const u8, reply_length: usize, reading: *mut Reading) -> u8;
     fn locator_read_ex(reply: *const u8, reply_length: usize, version: u32, reading: *mut Reading) -> u8;
-    fn locator_name_text(reply: *const u8, reply_length: usize, start: usize, text: *mut [u8; TEXT_MOST], length: *mut usize) -> u8;
+    fn locator_name_text(
+        reply: *const u8,
+        reply_length: usize,
+        start: usize,
+        text: *mut [u8; TEXT_MOST],
+        length: *mut usize,
+    ) -> u8;
 }
 
 pub fn judge(image: &[u8]) -> u8 {
@@ -105,12 +135,23 @@ pub fn write_filter(source: &[u8], request: &Request, out: &mut [u8]) -> (u8, us
     (number, length)
 }
 
-pub fn answer_ping(image: &[u8], client: [u8; 4], filter: &[u8], reply: &mut [u8]) -> (u8, Answer) {
+/// Both calls that answer a ping.
+type Answering =
+    unsafe extern "C" fn(*const u8, usize, *const [u8; 4], *const u8, usize, *mut u8, usize, *mut Answer) -> u8;
+
+/// # Safety
+/// The image is what the call asks for.
+unsafe fn answer_by(call: Answering, image: &[u8], client: [u8; 4], filter: &[u8], reply: &mut [u8]) -> (u8, Answer) {
     let mut answer = Answer::default();
     let (table, ping) = ((image.as_ptr(), image.len()), (filter.as_ptr(), filter.len()));
     let (octets, room) = (reply.as_mut_ptr(), reply.len());
-    let number = unsafe { locator_answer_ping(table.0, table.1, &client, ping.0, ping.1, octets, room, &mut answer) };
+    let number = unsafe { call(table.0, table.1, &client, ping.0, ping.1, octets, room, &mut answer) };
     (number, answer)
+}
+
+pub fn answer_ping(image: &[u8], client: [u8; 4], filter: &[u8], reply: &mut [u8]) -> (u8, Answer) {
+    // Any image will do.
+    unsafe { answer_by(locator_answer_ping, image, client, filter, reply) }
 }
 
 /// An image that passed its judgement, for as long as it is borrowed: nothing can change it.
@@ -129,14 +170,8 @@ impl<'image> Accepted<'image> {
 
     /// The answer from it, without judging it again.
     pub fn answer_ping(self, client: [u8; 4], filter: &[u8], reply: &mut [u8]) -> (u8, Answer) {
-        let mut answer = Answer::default();
-        let (table, ping) = ((self.image.as_ptr(), self.image.len()), (filter.as_ptr(), filter.len()));
-        let (octets, room) = (reply.as_mut_ptr(), reply.len());
         // The image was accepted by `new`, which alone makes an `Accepted`.
-        let number = unsafe {
-            locator_answer_ping_on_accepted_image(table.0, table.1, &client, ping.0, ping.1, octets, room, &mut answer)
-        };
-        (number, answer)
+        unsafe { answer_by(locator_answer_ping_on_accepted_image, self.image, client, filter, reply) }
     }
 }
 

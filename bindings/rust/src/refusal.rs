@@ -17,7 +17,7 @@ pub enum Refusal {
     TableWhole = 4,
     /// The filter has more than [`FILTER_MOST`](crate::FILTER_MOST) octets.
     FilterLength = 5,
-    /// The filter is not an AND of equalities, or there is nothing to write.
+    /// The filter is not equalities in ANDs, or there is no clause to write.
     FilterShape = 6,
     /// A clause has another name than the eight.
     UnknownClause = 7,
@@ -64,7 +64,7 @@ const MEANINGS: [(Refusal, &str); 24] = [
     (Refusal::BlockLayout, "a block's layout is wrong"),
     (Refusal::TableWhole, "the table's blocks do not agree"),
     (Refusal::FilterLength, "the filter is too long"),
-    (Refusal::FilterShape, "the filter is no AND of equalities"),
+    (Refusal::FilterShape, "the filter is not equalities in ANDs"),
     (Refusal::UnknownClause, "a clause has an unknown name"),
     (Refusal::DuplicateClause, "two clauses have one name"),
     (Refusal::ClauseValue, "NtVer, AAC or User has no such value"),

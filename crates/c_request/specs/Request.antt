@@ -1,4 +1,5 @@
 -- A request as the members of C's struct: for each clause, in document 01's order, whether it is present, its start and its length.
+use mathlib.Core.Path.{_≡_}
 use mathlib.Core.Bool.{Bool, true, false}
 use mathlib.Core.List.{List, [], _∷_, _++_}
 use Prim.Native.Nat.{ℕ, _+_}
@@ -69,3 +70,7 @@ takenMembers (taken.Refused r) = replicate 24 0
 abbrev pub judgedVersion : Judged → ℕ
 judgedVersion (judged.Version v) = v
 judgedVersion (judged.Refused r) = 0
+
+-- a request that was given can be handed on: its members make it again
+abbrev pub RequestHandedOn : Type 0
+RequestHandedOn = (r : Request) → requestGiven (requestMembers r) ≡ r

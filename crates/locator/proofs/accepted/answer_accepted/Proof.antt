@@ -1,7 +1,7 @@
-use mathlib.Core.Path.{_≡_, sym, ap, _∙_}
+use mathlib.Core.Path.{sym, ap, _∙_}
 use borrow.Author.Needs.{needs}
 use lib.ListN.{length}
-use Rattle.filter_read.specs.Internal.RawPing.{pingAt, triedPing}
+use Rattle.filter_read.specs.Internal.RawPing.{triedPing}
 use Rattle.filter_read.proofs.Laws.Value.{ping-user}
 use Rattle.locator.proofs.Laws.Answer.{refusal-given, ping-refused, ping-answered, answer-of}
 use Rattle.locator.proofs.accepted.answer_accepted.Statement.{statement}
