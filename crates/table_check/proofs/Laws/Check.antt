@@ -25,7 +25,7 @@ pub factor-mod : (p k q : ℕ) → (p + k * (q % 65536)) % 65536 ≡ (p + k * q)
 factor-mod p k q =
     let e : q ≡ q % 65536 + 65536 * (q / 65536) = omega arith in
     let f : k * q ≡ k * (q % 65536) + 65536 * (k * (q / 65536)) =
-      ap (λ (n : ℕ). k * n) e ∙ mul-add k (q % 65536) (65536 * (q / 65536)) ∙ ap (λ (n : ℕ). k * (q % 65536) + n) (mul-left-comm k 65536 (q / 65536)) in
+    ap (λ (n : ℕ). k * n) e ∙ mul-add k (q % 65536) (65536 * (q / 65536)) ∙ ap (λ (n : ℕ). k * (q % 65536) + n) (mul-left-comm k 65536 (q / 65536)) in
     omega (arith, f)
 
 -- one octet more, with k left after it
