@@ -1,7 +1,6 @@
-//! The cost of judging a table image, as a ratio to the block checks of the same image.
-use crate::calls::checks;
+//! The cost of judging a table image, as a ratio to one pass over its octets.
 use crate::image::{Image, USERS};
-use crate::measure::{medians_of, Call};
+use crate::measure::{medians_of, pass, Call};
 use std::hint::black_box;
 
 /// Names of one length that differ at the end alone.
@@ -24,18 +23,15 @@ fn images() -> Vec<(&'static str, Image, u8)> {
 }
 
 pub fn print() {
-    println!("{:<46} {:>6} {:>12} {:>12} {:>7}", "image", "answer", "checks ns", "judge ns", "ratio");
+    println!("{:<46} {:>6} {:>12} {:>12} {:>7}", "image", "answer", "pass ns", "judge ns", "ratio");
     for (name, image, answer) in images() {
         let octets: &'static [u8] = image.octets().to_vec().leak();
         let number = vinegarjar::judge(octets).map_or_else(|refusal| refusal.number(), |()| 0);
         assert_eq!(number, answer, "{name}");
-        let check: Call = Box::new(move || {
-            black_box(checks(black_box(octets)));
-        });
         let whole: Call = Box::new(move || {
             black_box(&vinegarjar::judge(black_box(octets)));
         });
-        let [check, whole] = medians_of([check, whole]);
-        println!("{:<46} {:>6} {:>12.0} {:>12.0} {:>7.1}", name, answer, check, whole, whole / check);
+        let [over, whole] = medians_of([pass(octets), whole]);
+        println!("{:<46} {:>6} {:>12.0} {:>12.0} {:>7.1}", name, answer, over, whole, whole / over);
     }
 }

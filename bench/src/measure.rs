@@ -2,6 +2,7 @@
 use std::env::current_exe;
 use std::ffi::c_void;
 use std::fs;
+use std::hint::black_box;
 use std::process::{Command, Stdio};
 use std::time::{Duration, Instant};
 
@@ -62,6 +63,13 @@ pub fn medians(runs: u32, rounds: u32, groups: Vec<Vec<&mut Call>>) -> Vec<Vec<f
 pub fn medians_of<const N: usize>(mut calls: [Call; N]) -> [f64; N] {
     let mut group = medians(1, 101, vec![calls.iter_mut().collect()]).remove(0).into_iter();
     std::array::from_fn(|_| group.next().expect("a median for each"))
+}
+
+/// One pass over octets as a yardstick, an octet at a time: the second program's check.
+pub fn pass(octets: &'static [u8]) -> Call {
+    Box::new(move || {
+        black_box(&second::table::block_check(black_box(octets)));
+    })
 }
 
 /// The calls whose instructions callgrind counts: it collects in this function alone, and writes a file at each end of it.

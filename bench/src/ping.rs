@@ -1,7 +1,7 @@
 //! What a ping costs by its parts: judging the table, reading the filter, choosing the answer, and writing the reply.
-use crate::calls::{checks, read};
+use crate::calls::read;
 use crate::image::{Image, Laden};
-use crate::measure::{medians_of, Call};
+use crate::measure::{medians_of, pass, Call};
 use crate::pings::{worst_filter, CLIENT, EX_VERSION, P1_FILTER, P1_REPLY, WORST_LENGTH};
 use std::hint::black_box;
 use vinegarjar::{judge, Table};
@@ -40,13 +40,11 @@ impl Case {
         assert_eq!(length(self.length), Ok(self.length), "{}", self.name);
     }
 
-    /// The times of the checks, the judgement, reading the filter, all but writing, and the whole without judging.
+    /// The times of one pass over the image, the judgement, reading the filter, all but writing, and the whole without judging.
     fn times(&self) -> [f64; 5] {
         let (image, filter) = (self.image, self.filter);
         medians_of([
-            Box::new(move || {
-                black_box(checks(black_box(image)));
-            }),
+            pass(image),
             Box::new(move || {
                 black_box(&judge(black_box(image)));
             }),
@@ -70,13 +68,13 @@ fn cases() -> Vec<Case> {
 }
 
 pub fn print() {
-    println!("times in ns; ping: without judging, as read + choose + write; passes: the ping as a ratio to the checks");
-    let titles = ["checks", "judge", "ping", "read", "choose", "write"];
+    println!("times in ns; ping: without judging, as read + choose + write; passes: the ping as a ratio to one pass over the image");
+    let titles = ["pass", "judge", "ping", "read", "choose", "write"];
     println!("{:<38}{}{:>8}", "ping", titles.map(|title| format!("{title:>9}")).concat(), "passes");
     for case in cases() {
         case.hold();
-        let [check, judged, read, unwritten, whole] = case.times();
-        let row = [check, judged, whole, read, unwritten - read, whole - unwritten];
-        println!("{:<38}{}{:>8.1}", case.name, row.map(|time| format!("{time:>9.0}")).concat(), whole / check);
+        let [over, judged, read, unwritten, whole] = case.times();
+        let row = [over, judged, whole, read, unwritten - read, whole - unwritten];
+        println!("{:<38}{}{:>8.1}", case.name, row.map(|time| format!("{time:>9.0}")).concat(), whole / over);
     }
 }

@@ -1,11 +1,11 @@
-//! The cost of reading a reply, and of the text of a name, as ratios to one pass over the same octets, which is their check; and how
+//! The cost of reading a reply, and of the text of a name, as ratios to one pass over the same octets; and how
 //! both grow with the reply's length.
 use crate::image::Random;
-use crate::measure::{medians_of, Call};
+use crate::measure::{medians_of, pass, Call};
 use crate::pings::{EX_VERSION, P1_REPLY, P1_VERSION};
 use crate::replies::{longest, with_text, worst_ex, Name, LABELS_MOST, LETTER, LONG, PAIR};
 use std::hint::black_box;
-use vinegarjar::{check, name_text, read_reply, Form};
+use vinegarjar::{name_text, read_reply, Form};
 
 /// A reply, the form in which it is read, and the number that this must give.
 struct Case {
@@ -31,12 +31,6 @@ impl Case {
             black_box(&read_reply(black_box(reply), form, version));
         })
     }
-}
-
-fn pass(octets: &'static [u8]) -> Call {
-    Box::new(move || {
-        black_box(check(black_box(octets)));
-    })
 }
 
 fn random_octets(count: usize) -> Vec<u8> {
