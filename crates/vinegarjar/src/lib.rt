@@ -11,34 +11,24 @@ ghost use Rattle.table_whole.specs.Judgement.{tableIn, judgedAs, judgementNumbe
 ghost use Rattle.c_request.specs.Request.{requestGiven, takenMembers};
 ghost use Rattle.c_answer.specs.Answer.{answerMembers};
 ghost use Rattle.c_reading.specs.Reading.{readingMembers};
-ghost use Rattle.vinegarjar.specs.Calls.{checkMembers, valuesJudged, filterWritten, callerAt, pingAnswered, replyRead};
+ghost use Rattle.c_calls.specs.Calls.{checkMembers, valuesJudged, filterWritten, replyRead};
+ghost use Rattle.vinegarjar.specs.Calls.{callerAt, pingAnswered};
 use answers::Form;
 use c_answer::answer::ANSWER_MEMBERS;
 use c_answer::answer::answer_members;
+use c_calls::calls::put_check;
+use c_calls::calls::put_filter;
+use c_calls::calls::put_reading;
+use c_calls::calls::put_request;
+use c_calls::calls::put_text;
+use c_calls::calls::put_version;
 use c_reading::reading::READING_MEMBERS;
-use c_reading::reading::reading_members;
 use c_request::request::REQUEST_MEMBERS;
-use c_request::request::request_of;
-use c_request::request::taken_members;
-use filter_read::read::take_apart;
-use filter_read::read::taken_number;
-use filter_read::value::judge_values;
-use filter_read::value::judged_number;
-use filter_read::value::judged_version;
-use filter_write::write::write_filter;
-use filter_write::write::written_length;
-use filter_write::write::written_number;
 use locator::accepted::answer_accepted;
 use locator::answer_number;
 use locator::ping::answer_ping;
-use reader_forms::reading::reading_number;
-use reader_reply::read::read_reply;
 use reader_text::TEXT_MOST;
-use reader_text::text::name_text;
-use reader_text::text_length;
-use reader_text::text_number;
 use table::Caller;
-use table_check::check::check_of;
 use table_whole::judge::judge;
 use table_whole::judge::judgement_number;
 
@@ -53,8 +43,7 @@ pub extern "C" fn locator_judge(image: &[u8]) -> u8
 pub extern "C" fn locator_check(octets: &[u8], check: &mut [u32; 2])
     ensures { λ _. ⌜ now (check .exit) ≡ checkMembers (checkOf (now (octets .entry))) ⌝ }
 {
-    let sums = check_of(octets);
-    *check = [sums.a, sums.b];
+    put_check(octets, check)
 }
 
 #[no_mangle]
@@ -62,9 +51,7 @@ pub extern "C" fn locator_take_apart(filter: &[u8], request: &mut [usize; REQUES
     ensures { λ r. ⌜ r ≡ takenNumber (takenAs (requestIn (now (filter .entry)))) ⌝ }
     ensures { λ _. ⌜ now (request .exit) ≡ takenMembers (takenAs (requestIn (now (filter .entry)))) ⌝ }
 {
-    let taken = take_apart(filter);
-    *request = taken_members(taken);
-    taken_number(taken)
+    put_request(filter, request)
 }
 
 #[no_mangle]
@@ -76,9 +63,7 @@ pub extern "C" fn locator_judge_values(
     ensures { λ r. ⌜ r ≡ judgedNumber (valuesJudged (now (filter .entry)) (now (request .entry))) ⌝ }
     ensures { λ _. ⌜ now (version .exit) ≡ judgedVersion (valuesJudged (now (filter .entry)) (now (request .entry))) ⌝ }
 {
-    let judged = judge_values(filter, request_of(request));
-    *version = judged_version(judged);
-    judged_number(judged)
+    put_version(filter, request, version)
 }
 
 #[no_mangle]
@@ -92,9 +77,7 @@ pub extern "C" fn locator_write_filter(
     ensures { λ _. ⌜ now (length .exit) ≡ writtenLength (filterWritten (now (source .entry)) (now (request .entry)) (now (out .entry))) ⌝ }
     ensures { λ _. ⌜ WriteFilterLeaves (now (source .entry)) (requestGiven (now (request .entry))) (now (out .entry)) (now (out .exit)) ⌝ }
 {
-    let written = write_filter(source, request_of(request), out);
-    *length = written_length(written);
-    written_number(written)
+    put_filter(source, request, out, length)
 }
 
 #[no_mangle]
@@ -140,9 +123,7 @@ pub extern "C" fn locator_read_nt40(reply: &[u8], reading: &mut [usize; READING_
     ensures { λ r. ⌜ r ≡ readingNumber (replyRead Form.Nt40 0 (now (reply .entry))) ⌝ }
     ensures { λ _. ⌜ now (reading .exit) ≡ readingMembers (replyRead Form.Nt40 0 (now (reply .entry))) ⌝ }
 {
-    let read = read_reply(reply, Form::Nt40, 0);
-    *reading = reading_members(read);
-    reading_number(read)
+    put_reading(reply, Form::Nt40, 0, reading)
 }
 
 #[no_mangle]
@@ -150,9 +131,7 @@ pub extern "C" fn locator_read_response(reply: &[u8], reading: &mut [usize; READ
     ensures { λ r. ⌜ r ≡ readingNumber (replyRead Form.Response 0 (now (reply .entry))) ⌝ }
     ensures { λ _. ⌜ now (reading .exit) ≡ readingMembers (replyRead Form.Response 0 (now (reply .entry))) ⌝ }
 {
-    let read = read_reply(reply, Form::Response, 0);
-    *reading = reading_members(read);
-    reading_number(read)
+    put_reading(reply, Form::Response, 0, reading)
 }
 
 #[no_mangle]
@@ -164,9 +143,7 @@ pub extern "C" fn locator_read_ex(
     ensures { λ r. ⌜ r ≡ readingNumber (replyRead Form.Ex version (now (reply .entry))) ⌝ }
     ensures { λ _. ⌜ now (reading .exit) ≡ readingMembers (replyRead Form.Ex version (now (reply .entry))) ⌝ }
 {
-    let read = read_reply(reply, Form::Ex, version);
-    *reading = reading_members(read);
-    reading_number(read)
+    put_reading(reply, Form::Ex, version, reading)
 }
 
 #[no_mangle]
@@ -180,10 +157,5 @@ pub extern "C" fn locator_name_text(
     ensures { λ _. ⌜ now (text .exit) ≡ (nameTextAs (nameText (now (reply .entry)) start)) .octets ⌝ }
     ensures { λ _. ⌜ now (length .exit) ≡ textLength ((nameTextAs (nameText (now (reply .entry)) start)) .len) ⌝ }
 {
-    let name = name_text(reply, start);
-    let octets = name.octets;
-    let len = name.len;
-    *text = octets;
-    *length = text_length(len);
-    text_number(len)
+    put_text(reply, start, text, length)
 }

@@ -2,8 +2,8 @@ use mathlib.Core.Path.{ap, _∙_}
 use Rattle.reader_forms.specs.Reading.{readingNumber}
 use Rattle.c_reading.specs.Reading.{readingMembers}
 use borrow.Author.Needs.{needs}
-use Rattle.vinegarjar.proofs.locator_read_nt40.Statement.{statement}
-use Rattle.vinegarjar.proofs.locator_read_nt40.Tie as tie
+use Rattle.c_calls.proofs.calls.put_reading.Statement.{statement}
+use Rattle.c_calls.proofs.calls.put_reading.Tie as tie
 
 read-reply-requires : tie.Need-read-reply-requires
 read-reply-requires c κs = search needs
@@ -19,7 +19,7 @@ returns c =
     let e = c .before .before .read-reply .ensures in
     (c .reading-number .ensures ∙ ap readingNumber e, c .before .reading-members .ensures ∙ ap readingMembers e)
 
-pub locator-read-nt40-spec : {M : Type 1} → statement M
-locator-read-nt40-spec =
+pub put-reading-spec : {M : Type 1} → statement M
+put-reading-spec =
     tie.close
     (tie.spec read-reply-requires reading-members-requires reading-number-requires returns)

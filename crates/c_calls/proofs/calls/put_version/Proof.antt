@@ -1,8 +1,8 @@
 use mathlib.Core.Path.{ap, _∙_}
 use Rattle.filter_read.specs.Value.{pingIn, judgedValues, judgedNumber, judgedVersion}
 use borrow.Author.Needs.{needs}
-use Rattle.vinegarjar.proofs.locator_judge_values.Statement.{statement}
-use Rattle.vinegarjar.proofs.locator_judge_values.Tie as tie
+use Rattle.c_calls.proofs.calls.put_version.Statement.{statement}
+use Rattle.c_calls.proofs.calls.put_version.Tie as tie
 
 request-of-requires : tie.Need-request-of-requires
 request-of-requires c κs = search needs
@@ -22,8 +22,8 @@ returns c =
     let e = c .before .before .judge-values .ensures ∙ ap (λ r. judgedValues (pingIn filter r)) (c .before .before .before .request-of .ensures) in
     (c .judged-number .ensures ∙ ap judgedNumber e, c .before .judged-version .ensures ∙ ap judgedVersion e)
 
-pub locator-judge-values-spec : {M : Type 1} → statement M
-locator-judge-values-spec =
+pub put-version-spec : {M : Type 1} → statement M
+put-version-spec =
     tie.close
     (tie.spec
     request-of-requires

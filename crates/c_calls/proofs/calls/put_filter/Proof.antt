@@ -1,8 +1,8 @@
 use mathlib.Core.Path.{ap, _∙_}
 use Rattle.filter_write.specs.Write.{writtenNumber, writtenLength}
 use borrow.Author.Needs.{needs}
-use Rattle.vinegarjar.proofs.locator_write_filter.Statement.{statement}
-use Rattle.vinegarjar.proofs.locator_write_filter.Tie as tie
+use Rattle.c_calls.proofs.calls.put_filter.Statement.{statement}
+use Rattle.c_calls.proofs.calls.put_filter.Tie as tie
 
 request-of-requires : tie.Need-request-of-requires
 request-of-requires c κs = search needs
@@ -25,8 +25,8 @@ returns c =
     let e = rw (c .before .before .before .before .before .before .request-of .ensures) at written in
     (c .written-number .ensures ∙ ap writtenNumber (e .0), (c .before .written-length .ensures ∙ ap writtenLength (e .0), e .1))
 
-pub locator-write-filter-spec : {M : Type 1} → statement M
-locator-write-filter-spec =
+pub put-filter-spec : {M : Type 1} → statement M
+put-filter-spec =
     tie.close
     (tie.spec
     request-of-requires
