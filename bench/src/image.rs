@@ -1,13 +1,21 @@
 //! Table images for timing: as many accounts, sites or subnets as fit, in the worst shapes too.
-use crate::calls::CLIENT;
+use crate::pings::CLIENT;
 
-const BLOCK: usize = 512;
+pub const BLOCK: usize = 512;
+/// The octets of a block that its check covers.
+pub const CHECKED: usize = 508;
 const BODY: usize = 504;
 
-/// Kinds of record, and how wide each is.
-const ACCOUNTS: (u8, usize) = (4, 84);
-const SITES: (u8, usize) = (5, 72);
-const SUBNETS: (u8, usize) = (6, 12);
+/// A kind of record.
+#[derive(Clone, Copy)]
+struct Kind {
+    number: u8,
+    width: usize,
+}
+
+const ACCOUNTS: Kind = Kind { number: 4, width: 84 };
+const SITES: Kind = Kind { number: 5, width: 72 };
+const SUBNETS: Kind = Kind { number: 6, width: 12 };
 
 /// Every role but that of NT4 replies.
 const ALL_ROLES: u32 = 0xDFF;
@@ -36,11 +44,30 @@ impl Image {
         image
     }
 
-    /// 128 blocks, the rest of them full of records.
-    pub fn full(kind: u8, width: usize, record: impl Fn(usize) -> Vec<u8>) -> Image {
+    /// 128 blocks of ordinary records: accounts, sites or subnets.
+    pub fn full_of_accounts() -> Image {
+        Image::full(ACCOUNTS, |k| account(1, &ordinary_user(k)))
+    }
+
+    pub fn full_of_sites() -> Image {
+        Image::full(SITES, |k| site(k as u16 + 3, format!("site-{k}").as_bytes(), 1))
+    }
+
+    pub fn full_of_subnets() -> Image {
+        Image::full(SUBNETS, |k| subnet(k, 1))
+    }
+
+    /// 128 blocks full of accounts of these names.
+    pub fn of_users(name: impl Fn(usize) -> Vec<u8>) -> Image {
+        Image::full(ACCOUNTS, |k| account(1, &name(k)))
+    }
+
+    /// 128 blocks: the smallest table with a second site, so that subnets count, and the rest full of records.
+    fn full(kind: Kind, record: impl Fn(usize) -> Vec<u8>) -> Image {
         let mut image = Image::smallest();
-        let count = (BODY / width) * (128 - image.octets.len() / BLOCK);
-        image.add_records(kind, width, count, record);
+        image.add(SITES.number, &site(2, b"BRANCH", 1));
+        let count = (BODY / kind.width) * (128 - image.octets.len() / BLOCK);
+        image.add_records(kind, count, record);
         image
     }
 
@@ -48,16 +75,10 @@ impl Image {
         &self.octets
     }
 
-    fn add_records(&mut self, kind: u8, width: usize, count: usize, record: impl Fn(usize) -> Vec<u8>) {
-        let in_body = BODY / width;
-        let mut made = 0;
-        while made < count {
-            let mut body = Vec::new();
-            while body.len() < in_body * width && made < count {
-                body.extend(record(made));
-                made += 1;
-            }
-            self.add(kind, &body);
+    fn add_records(&mut self, kind: Kind, count: usize, record: impl Fn(usize) -> Vec<u8>) {
+        let records: Vec<Vec<u8>> = (0..count).map(record).collect();
+        for body in records.chunks(BODY / kind.width) {
+            self.add(kind.number, &body.concat());
         }
     }
 
@@ -69,64 +90,111 @@ impl Image {
         put_u16(&mut block, 2, place);
         block[4..4 + body.len()].copy_from_slice(body);
         let (mut a, mut b) = (1u16, 0u16);
-        for &x in &block[..508] {
+        for &x in &block[..CHECKED] {
             a = a.wrapping_add(u16::from(x));
             b = b.wrapping_add(a);
         }
-        put_u16(&mut block, 508, a);
-        put_u16(&mut block, 510, b);
+        put_u16(&mut block, CHECKED, a);
+        put_u16(&mut block, CHECKED + 2, b);
         self.octets.extend(block);
     }
 }
 
-/// A table of sixteen contexts and so many records, in which all that the worst ping looks for stands last among its
-/// like, in names as long as they may be that differ at the end alone.
+/// The order in which accounts stand in a table.
+#[derive(Clone, Copy)]
+pub enum Order {
+    Rising,
+    Falling,
+    /// By a generator of random numbers that starts with this.
+    Shuffled(u64),
+}
+
+impl Order {
+    fn places(self, count: usize) -> Vec<usize> {
+        let mut places: Vec<usize> = (0..count).collect();
+        match self {
+            Order::Rising => {}
+            Order::Falling => places.reverse(),
+            Order::Shuffled(seed) => shuffle(&mut places, seed),
+        }
+        places
+    }
+}
+
+fn shuffle(places: &mut [usize], seed: u64) {
+    let mut random = Random(seed);
+    for left in (1..places.len()).rev() {
+        places.swap(left, random.below(left + 1));
+    }
+}
+
+/// A linear congruential generator.
+pub struct Random(pub u64);
+
+impl Random {
+    pub fn below(&mut self, bound: usize) -> usize {
+        self.0 = self.0.wrapping_mul(6_364_136_223_846_793_005).wrapping_add(1_442_695_040_888_963_407);
+        (self.0 >> 33) as usize % bound
+    }
+}
+
+/// A table of so many contexts and records, in which all that the worst ping looks for stands last among its like, in names as
+/// long as they may be that differ at the end alone.
+#[derive(Clone, Copy)]
 pub struct Laden {
+    pub contexts: u16,
     pub accounts: usize,
     pub sites: usize,
     pub subnets: usize,
+    pub order: Order,
 }
 
-pub const CONTEXTS: u16 = 16;
-
 impl Laden {
-    /// A block of each kind of record: 21 blocks.
-    pub const LEAST: Laden = Laden { accounts: 6, sites: 7, subnets: 42 };
+    /// As many contexts as there may be, and a block of each kind of record: 21 blocks.
+    pub const LEAST: Laden = Laden { contexts: 16, accounts: 6, sites: 7, subnets: 42, order: Order::Rising };
     /// 107 blocks more of one kind: 128 blocks.
     pub const OF_ACCOUNTS: Laden = Laden { accounts: 6 * 108, ..Laden::LEAST };
     pub const OF_SITES: Laden = Laden { sites: 7 * 108, ..Laden::LEAST };
     pub const OF_SUBNETS: Laden = Laden { subnets: 42 * 108, ..Laden::LEAST };
+    /// As many accounts as there may be: 124 blocks of them, one context and a block of sites.
+    pub const OF_MOST_ACCOUNTS: Laden = Laden { contexts: 1, accounts: 6 * 124, subnets: 0, ..Laden::LEAST };
 
     pub fn image(&self) -> Image {
         let mut image = Image { octets: Vec::new() };
         let last_site = self.sites as u16;
         image.add(1, &server(ALL_ROLES, last_site, b"SERVER-15-OCTET", &long_dns_name(b'z')));
         image.add(2, &text(&long_dns_name(b'y')));
-        for number in 1..=CONTEXTS {
+        for number in 1..=self.contexts {
             let name = long_dns_name(b'a' + number as u8);
             image.add(3, &context(number, &long_guid(number), Some(&long_sid(number)), b"DOMAIN-15-OCTET", &name));
         }
-        // The client's site is the last but one, and the next closest to it the one before.
+        self.add_records(&mut image);
+        image
+    }
+
+    /// The client's site is the last but one, and the next closest to it the one before.
+    fn add_records(&self, image: &mut Image) {
+        let last_site = self.sites as u16;
         let client_site = last_site - 1;
-        image.add_records(SITES.0, SITES.1, self.sites, |k| {
+        image.add_records(SITES, self.sites, |k| {
             let number = k as u16 + 1;
             site(number, &long_site_name(number), if number == client_site { client_site - 1 } else { 0 })
         });
-        image.add_records(ACCOUNTS.0, ACCOUNTS.1, self.accounts, |k| account(CONTEXTS, &long_user(k)));
-        let last_subnet = self.subnets - 1;
-        image.add_records(SUBNETS.0, SUBNETS.1, self.subnets, |k| {
-            if k == last_subnet {
+        let places = self.order.places(self.accounts);
+        image.add_records(ACCOUNTS, self.accounts, |k| account(self.contexts, &long_user(places[k])));
+        image.add_records(SUBNETS, self.subnets, |k| {
+            let is_last = k + 1 == self.subnets;
+            if is_last {
                 subnet_of(CLIENT, 32, client_site)
             } else {
                 subnet(k, last_site)
             }
         });
-        image
     }
 
     /// The account that stands last.
     pub fn last_user(&self) -> Vec<u8> {
-        long_user(self.accounts - 1)
+        long_user(self.order.places(self.accounts)[self.accounts - 1])
     }
 }
 
@@ -154,6 +222,16 @@ pub fn long_sid(number: u16) -> [u8; 68] {
 fn long_site_name(number: u16) -> Vec<u8> {
     format!("{:063}", number).into_bytes()
 }
+
+/// The accounts of a full table that are ordinary: names as people have them, of several lengths, differing early, in no order.
+pub fn ordinary_user(k: usize) -> Vec<u8> {
+    let given = ["ann", "berit", "carl", "dagny", "erik", "frida", "gunnar", "helga", "ivar", "johanna"];
+    let k = k * 7919 % 1000;
+    format!("{}.{}{}", given[k % 10], given[(k / 10) % 10], k / 100).into_bytes()
+}
+
+/// How many accounts a full table has.
+pub const USERS: usize = (BODY / ACCOUNTS.width) * (128 - 5);
 
 /// A user of 30 labels.
 fn long_user(k: usize) -> Vec<u8> {
@@ -184,8 +262,8 @@ fn context(number: u16, guid: &[u8], sid: Option<&[u8]>, netbios: &[u8], dns: &[
     body
 }
 
-pub fn account(context: u16, name: &[u8]) -> Vec<u8> {
-    let mut record = vec![0u8; ACCOUNTS.1];
+fn account(context: u16, name: &[u8]) -> Vec<u8> {
+    let mut record = vec![0u8; ACCOUNTS.width];
     put_u16(&mut record, 0, context);
     record[4] = 0x10;
     put_text(&mut record, 8, name);
@@ -193,20 +271,15 @@ pub fn account(context: u16, name: &[u8]) -> Vec<u8> {
 }
 
 fn site(number: u16, name: &[u8], next: u16) -> Vec<u8> {
-    let mut record = vec![0u8; SITES.1];
+    let mut record = vec![0u8; SITES.width];
     put_u16(&mut record, 0, number);
     put_text(&mut record, 2, name);
     put_u16(&mut record, 66, next);
     record
 }
 
-/// A site with a name of ordinary length.
-pub fn ordinary_site(number: u16, next: u16) -> Vec<u8> {
-    site(number, format!("site-{number}").as_bytes(), next)
-}
-
 fn subnet_of(address: [u8; 4], prefix: u8, site: u16) -> Vec<u8> {
-    let mut record = vec![0u8; SUBNETS.1];
+    let mut record = vec![0u8; SUBNETS.width];
     record[..4].copy_from_slice(&address);
     record[4] = prefix;
     record[5] = 1;
@@ -215,7 +288,7 @@ fn subnet_of(address: [u8; 4], prefix: u8, site: u16) -> Vec<u8> {
 }
 
 /// A subnet that does not hold the client, another for each number.
-pub fn subnet(number: usize, site: u16) -> Vec<u8> {
+fn subnet(number: usize, site: u16) -> Vec<u8> {
     subnet_of((0x0A00_0000u32 + ((number as u32) << 8)).to_be_bytes(), 24, site)
 }
 

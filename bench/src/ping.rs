@@ -1,107 +1,80 @@
-//! The cost of answering a ping: what judging the table takes of it, and the rest, which is reading the filter, choosing the answer and
-//! writing the reply; and the stack it takes.
+//! What a ping costs by its parts: judging the table, reading the filter, choosing the answer, and writing the reply.
+use crate::calls::read;
+use crate::image::{Image, Laden};
+use crate::measure::{medians_of, pass, Call};
+use crate::pings::{worst_filter, CLIENT, EX_VERSION, P1_FILTER, P1_REPLY, WORST_LENGTH};
 use std::hint::black_box;
-use timing::calls::{checks, judge, ping, read};
-use timing::image::{Image, Laden};
-use timing::measure::{calls_for, least, run, Answers};
-use timing::pings::{worst_filter, EX_VERSION, P1_FILTER, P1_REPLY, WORST_LENGTH};
-
-const ROUNDS: u32 = 61;
-
-/// What every octet of a lent buffer holds before the call.
-const UNWRITTEN: u8 = 0xA5;
+use vinegarjar::{judge, Table};
 
 /// A ping, and the length of the reply that it must get.
 struct Case {
     name: &'static str,
-    image: Image,
-    filter: Vec<u8>,
+    image: &'static [u8],
+    filter: &'static [u8],
     length: usize,
 }
 
 impl Case {
     fn new(name: &'static str, image: Image, filter: Vec<u8>, length: usize) -> Case {
-        Case { name, image, filter, length }
+        Case { name, image: image.octets().to_vec().leak(), filter: filter.leak(), length }
     }
 
-    /// Answers the ping, and says whether the reply has its length and a buffer of one octet less is refused.
-    fn holds(&self, reply: &mut [u8]) -> bool {
-        let (image, filter) = (self.image.octets(), &self.filter);
-        ping(image, filter, &mut reply[..self.length - 1]) == 0 && ping(image, filter, reply) == self.length
+    fn worst(name: &'static str, laden: Laden) -> Case {
+        Case::new(name, laden.image(), worst_filter(&laden, EX_VERSION), WORST_LENGTH)
     }
-}
 
-fn worst(name: &'static str, laden: Laden) -> Case {
-    Case::new(name, laden.image(), worst_filter(&laden.last_user(), EX_VERSION), WORST_LENGTH)
+    /// The ping with so much room for its reply, without judging.
+    fn answered(&self, room: usize) -> Call {
+        let (table, filter) = (Table::new(self.image).expect("a good table"), self.filter);
+        let mut reply = vec![0; room];
+        Box::new(move || {
+            black_box(&table.answer(CLIENT.into(), black_box(filter), black_box(&mut reply)));
+        })
+    }
+
+    /// One octet too little room is refused, and else the reply has its length.
+    fn hold(&self) {
+        let table = Table::new(self.image).expect("a good table");
+        let length = |room| table.answer(CLIENT.into(), self.filter, &mut vec![0; room]).map(|answer| answer.length);
+        assert!(length(self.length - 1).is_err(), "{}", self.name);
+        assert_eq!(length(self.length), Ok(self.length), "{}", self.name);
+    }
+
+    /// The times of one pass over the image, the judgement, reading the filter, all but writing, and the whole without judging.
+    fn times(&self) -> [f64; 5] {
+        let (image, filter) = (self.image, self.filter);
+        medians_of([
+            pass(image),
+            Box::new(move || {
+                black_box(&judge(black_box(image)));
+            }),
+            Box::new(move || {
+                black_box(read(black_box(filter)));
+            }),
+            self.answered(self.length - 1),
+            self.answered(self.length),
+        ])
+    }
 }
 
 fn cases() -> Vec<Case> {
     vec![
         Case::new("5 blocks, P1", Image::five_blocks(), P1_FILTER.to_vec(), P1_REPLY.len()),
-        worst("21 blocks, the worst ping", Laden::LEAST),
-        worst("128 blocks, sites, the worst ping", Laden::OF_SITES),
-        worst("128 blocks, subnets, the worst ping", Laden::OF_SUBNETS),
-        worst("128 blocks, accounts, the worst ping", Laden::OF_ACCOUNTS),
+        Case::worst("21 blocks, the worst ping", Laden::LEAST),
+        Case::worst("128 blocks, sites, the worst ping", Laden::OF_SITES),
+        Case::worst("128 blocks, subnets, the worst ping", Laden::OF_SUBNETS),
+        Case::worst("128 blocks, accounts, the worst ping", Laden::OF_ACCOUNTS),
     ]
 }
 
-fn buffer() -> Vec<u8> {
-    vec![UNWRITTEN; 2048]
-}
-
-fn hold_p1() {
-    let mut reply = buffer();
-    ping(Image::five_blocks().octets(), &P1_FILTER, &mut reply);
-    assert_eq!(reply[..P1_REPLY.len()], P1_REPLY);
-    assert!(reply[P1_REPLY.len()..].iter().all(|&x| x == UNWRITTEN));
-}
-
-/// The least times of the checks, the judgement, reading the filter, the ping with a buffer one octet too short, which is all but
-/// the writing, and the whole ping.
-fn times_of(case: &Case) -> [f64; 5] {
-    let (image, filter) = (case.image.octets(), case.filter.as_slice());
-    let (mut short, mut reply) = (buffer(), buffer());
-    let works: [&mut dyn FnMut(); 5] = [
-        &mut || {
-            black_box(checks(black_box(image)));
-        },
-        &mut || {
-            black_box(judge(black_box(image)));
-        },
-        &mut || {
-            black_box(read(black_box(filter)));
-        },
-        &mut || {
-            black_box(ping(black_box(image), black_box(filter), black_box(&mut short[..case.length - 1])));
-        },
-        &mut || {
-            black_box(ping(black_box(image), black_box(filter), black_box(&mut reply)));
-        },
-    ];
-    least(ROUNDS, calls_for(image), works)
-}
-
-fn times() {
-    hold_p1();
-    println!("times in ns; rest: all but judging, as read + choose + write; passes: the rest as a ratio to the checks");
-    let titles = ["checks", "judge", "whole", "rest", "read", "choose", "write"];
-    println!("{:<38}{}{:>8}", "ping", titles.map(|t| format!("{t:>9}")).concat(), "passes");
+pub fn print() {
+    println!("times in ns; ping: without judging, as read + choose + write; passes: the ping as a ratio to one pass over the image");
+    let titles = ["pass", "judge", "ping", "read", "choose", "write"];
+    println!("{:<38}{}{:>8}", "ping", titles.map(|title| format!("{title:>9}")).concat(), "passes");
     for case in cases() {
-        assert!(case.holds(&mut buffer()), "{}", case.name);
-        assert_eq!(read(&case.filter), 0, "{}", case.name);
-        let [check, judged, read, unwritten, whole] = times_of(&case);
-        let rest = whole - judged;
-        let row = [check, judged, whole, rest, read, unwritten - judged - read, whole - unwritten];
-        println!("{:<38}{}{:>8.1}", case.name, row.map(|t| format!("{t:>9.0}")).concat(), rest / check);
+        case.hold();
+        let [over, judged, read, unwritten, whole] = case.times();
+        let row = [over, judged, whole, read, unwritten - read, whole - unwritten];
+        println!("{:<38}{}{:>8.1}", case.name, row.map(|time| format!("{time:>9.0}")).concat(), whole / over);
     }
-}
-
-fn answers() -> Answers {
-    let all = cases();
-    let mut reply = buffer();
-    Box::new(move || all.iter().all(|case| case.holds(&mut reply)))
-}
-
-fn main() {
-    run(times, answers);
 }

@@ -1,7 +1,27 @@
-//! Pings for timing: document 01's P1, and the worst ping of a laden table.
-use crate::image::{long_dns_name, long_guid, long_sid, CONTEXTS};
+//! Pings: document 01's P1, an ordinary one of five clauses, and the worst ping of a laden table.
+use crate::image::{long_dns_name, long_guid, long_sid, Laden};
 
-/// Document 01's filter and reply of P1.
+/// The client whose pings are answered.
+pub const CLIENT: [u8; 4] = [192, 0, 2, 1];
+
+/// A clause's name and its value.
+pub type Clause = (&'static [u8], &'static [u8]);
+
+/// P1's clause.
+pub const ONE_CLAUSE: [Clause; 1] = [(b"NtVer", &[6, 0, 0, 0])];
+
+/// What a workstation asks for a user.
+pub const FIVE_CLAUSES: [Clause; 5] = [
+    (b"DnsDomain", b"corp.example"),
+    (b"Host", b"WORKSTATION"),
+    (b"User", b"ann"),
+    (b"AAC", &[0x10, 0, 0, 0]),
+    (b"NtVer", &[6, 0, 0, 0]),
+];
+
+/// The version bits of P1 and of its reply, its filter and its reply.
+pub const P1_VERSION: u32 = 6;
+pub const P1_REPLY_VERSION: u32 = 5;
 pub const P1_FILTER: [u8; 17] =
     [0xA0, 0x0F, 0xA3, 0x0D, 0x04, 0x05, 0x4E, 0x74, 0x56, 0x65, 0x72, 0x04, 0x04, 0x06, 0x00, 0x00, 0x00];
 #[rustfmt::skip]
@@ -20,7 +40,7 @@ pub const EX_VERSION: u32 = 0x1C;
 pub const WORST_LENGTH: usize = 24 + 3 * 255 + 2 * 17 + 65 + 2 * 65 + 17 + 65 + 8;
 
 /// A tag, a length in as few octets as it needs, and the octets.
-fn element(tag: u8, octets: &[u8]) -> Vec<u8> {
+pub fn element(tag: u8, octets: &[u8]) -> Vec<u8> {
     let length = octets.len() as u16;
     let [high, low] = length.to_be_bytes();
     let mut element = match length {
@@ -32,19 +52,27 @@ fn element(tag: u8, octets: &[u8]) -> Vec<u8> {
     element
 }
 
-/// A filter of all eight clauses, for the last context and the last user.
-pub fn worst_filter(user: &[u8], version: u32) -> Vec<u8> {
-    let asked = long_dns_name(b'a' + CONTEXTS as u8).to_ascii_uppercase();
-    let clauses: [(&[u8], &[u8]); 8] = [
+pub fn equality(name: &[u8], value: &[u8]) -> Vec<u8> {
+    element(0xA3, &[element(4, name), element(4, value)].concat())
+}
+
+/// An AND of the clauses in this order.
+pub fn filter_of(clauses: &[(&[u8], &[u8])]) -> Vec<u8> {
+    let equalities: Vec<Vec<u8>> = clauses.iter().map(|(name, value)| equality(name, value)).collect();
+    element(0xA0, &equalities.concat())
+}
+
+/// A filter of all eight clauses, for the last context and the last user of a table.
+pub fn worst_filter(table: &Laden, version: u32) -> Vec<u8> {
+    let asked = long_dns_name(b'a' + table.contexts as u8).to_ascii_uppercase();
+    filter_of(&[
         (b"DnsDomain", &asked),
         (b"Host", b"WORKSTATION"),
         (b"DnsHostName", &long_dns_name(b'w')),
-        (b"User", user),
+        (b"User", &table.last_user()),
         (b"AAC", &[0x10, 0, 0, 0]),
-        (b"DomainSid", &long_sid(CONTEXTS)),
-        (b"DomainGuid", &long_guid(CONTEXTS)),
+        (b"DomainSid", &long_sid(table.contexts)),
+        (b"DomainGuid", &long_guid(table.contexts)),
         (b"NtVer", &version.to_le_bytes()),
-    ];
-    let equalities = clauses.map(|(name, value)| element(0xA3, &[element(4, name), element(4, value)].concat()));
-    element(0xA0, &equalities.concat())
+    ])
 }

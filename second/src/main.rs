@@ -1,23 +1,9 @@
 //! The second program: it answers the vector lines on standard input, writes the stored vectors anew, writes request
-//! lines in bulk, or compares another program's answers with its own.
+//! lines in bulk, or compares another program's answers with its own, from a file or in a long run.
 
 #![forbid(unsafe_code)]
 
-mod answers;
-mod choose;
-mod compare;
-mod filter;
-mod generate;
-mod image;
-mod lines;
-mod octets;
-mod reader;
-mod reply;
-mod table;
-#[cfg(test)]
-mod tests;
-mod walk;
-
+use second::{compare, generate, lines, long};
 use std::env::args;
 use std::fs::File;
 use std::io::{self, stdin, stdout, BufReader, BufWriter, Write};
@@ -34,15 +20,17 @@ fn main() -> ExitCode {
         ["bulk", count] => write_bulk(count, None),
         ["bulk", count, "--seed", seed] => write_bulk(count, Some(seed)),
         ["compare", requests, answers] => compare_answers(requests, answers),
+        ["long", program, words @ ..] => run_long(program, words),
         _ => Err(io::Error::other(
-            "takes no words, or: generate FOLDER, counts, bulk N [--seed S], compare REQUESTS ANSWERS",
+            "takes no words, or: generate FOLDER, counts, bulk N [--seed S], compare REQUESTS ANSWERS, \
+             long PROGRAM SECONDS SEED",
         )),
     };
     match done {
         Ok(()) => ExitCode::SUCCESS,
         Err(error) => {
             eprintln!("second: {error}");
-            ExitCode::FAILURE
+            ExitCode::from(if error.kind() == io::ErrorKind::InvalidInput { 2 } else { 1 })
         }
     }
 }
@@ -77,5 +65,15 @@ fn compare_answers(requests: &str, answers: &str) -> io::Result<()> {
             Ok(())
         }
         Err(difference) => Err(io::Error::other(format!("the programs differ\n{difference}"))),
+    }
+}
+
+/// Puts fresh lines through another program and this one until the time is up, and fails where an answer differs.
+fn run_long(program: &str, words: &[&str]) -> io::Result<()> {
+    let run = long::run(program, words)?;
+    println!("{}", run.text());
+    match run.fault {
+        None => Ok(()),
+        Some(fault) => Err(io::Error::other(fault)),
     }
 }

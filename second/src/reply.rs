@@ -28,11 +28,15 @@ pub struct Answer {
 
 /// Answers one ping into the lent buffer. A refusal leaves the buffer as it was.
 pub fn answer_ping(image: &[u8], client: ClientAddress, filter: &[u8], buffer: &mut [u8]) -> Result<Answer, Refusal> {
-    let table = read_table(image)?;
+    answer_over(&read_table(image)?, client, filter, buffer)
+}
+
+/// The same over a table that was read before.
+pub fn answer_over(table: &Table, client: ClientAddress, filter: &[u8], buffer: &mut [u8]) -> Result<Answer, Refusal> {
     let clauses = take_apart(filter)?;
     let version = judge_values(&clauses)?;
-    let choice = choose(&table, client, &clauses, version)?;
-    let reply = reply_octets(&table, &choice);
+    let choice = choose(table, client, &clauses, version)?;
+    let reply = reply_octets(table, &choice);
     // The length is known before the first octet goes into the buffer, so that 19 writes nothing.
     let place = buffer.get_mut(..reply.len()).ok_or(Refusal::BufferTooShort)?;
     place.copy_from_slice(&reply);

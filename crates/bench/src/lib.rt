@@ -1,45 +1,27 @@
-// The calls that the programs of bench/ time, for Rust to link.
+// Proved code that the programs of bench/ time and that is no public call, for Rust to link.
 ghost use mathlib.Core.Path.{_≡_};
 ghost use mathlib.Core.Bool.{_&&_};
-ghost use mathlib.Core.List.{[], _∷_};
+ghost use Prim.Native.Nat.{_≤_, _<_};
 ghost use lib.Dec.{leb};
-ghost use lib.ListN.{length, getD};
-ghost use Rattle.answers.specs.declared.Form.the-variants.{Nt40, Response, Ex};
+ghost use lib.ListN.{length};
 ghost use Rattle.octets.specs.Lists.{all};
-ghost use Rattle.locator.specs.Answer.{answerTo, answerAs, answerLength};
 ghost use Rattle.filter_read.specs.Value.{pingFrom, judgedValues, judgedNumber};
-ghost use Rattle.reader.specs.Reader.{readIn};
-ghost use Rattle.reader_forms.specs.Reading.{readingAs, readingNumber};
-ghost use Rattle.reader_text.specs.Text.{nameText, nameTextAs};
+ghost use Rattle.names.specs.Internal.Plan.{ShortTexts};
 ghost use Rattle.table.specs.Block.{imageMost, blocksOf};
-ghost use Rattle.table_check.specs.Check.{checkOf, goodCheck};
-ghost use Rattle.table_whole.specs.Judgement.{tableIn, judgedAs, judgementNumber};
-use answers::Form;
+ghost use Rattle.table_check.specs.Check.{goodCheck};
 use answers::number_of;
 use filter_read::ping::PingRead;
 use filter_read::ping::read_ping;
-use locator::Answer;
-use locator::ping::answer_ping;
-use reader_forms::reading::reading_number;
-use reader_reply::read::read_reply;
-use reader_text::text::name_text;
-use table::Caller;
+use lent::stretch::Lender;
+use lent::stretch::Stretch;
+use names::plan::NAMES_MOST;
+use names::plan::plan_names;
+use names_write::put::put_names;
+use octets::number::wide;
 use table::block::IMAGE_MOST;
-use table::field::octet_in;
-use table_check::check::check_of;
 use table_check::check::good_checks;
-use table_whole::judge::judge;
-use table_whole::judge::judgement_number;
 
-// The number of an image's judgement.
-#[no_mangle]
-pub extern "C" fn bench_judge(image: &[u8]) -> u8
-    ensures { λ r. ⌜ r ≡ judgementNumber (judgedAs (tableIn (now (image .entry)))) ⌝ }
-{
-    judgement_number(judge(image))
-}
-
-// The checks of its blocks alone, as what the judgement is measured by; false for an image that is too long.
+// The checks of an image's blocks alone; false for an image that is too long.
 #[no_mangle]
 pub extern "C" fn bench_checks(image: &[u8]) -> bool
     ensures { λ r. ⌜ r ≡ (leb (length (now (image .entry))) imageMost && all goodCheck (blocksOf (now (image .entry)))) ⌝ }
@@ -50,7 +32,7 @@ pub extern "C" fn bench_checks(image: &[u8]) -> bool
     good_checks(image)
 }
 
-// The number that reading a filter gives.
+// The number that reading a filter gives, as a ping has it read.
 #[no_mangle]
 pub extern "C" fn bench_read(filter: &[u8]) -> u8
     ensures { λ r. ⌜ r ≡ judgedNumber (judgedValues (pingFrom (now (filter .entry)))) ⌝ }
@@ -61,61 +43,48 @@ pub extern "C" fn bench_read(filter: &[u8]) -> u8
     }
 }
 
-// The length of the reply to a ping from 192.0.2.1, 0 where it is refused.
-#[no_mangle]
-pub extern "C" fn bench_ping<'a>(image: &'a [u8], filter: &'a [u8], reply: &mut [u8]) -> usize
-    ensures { λ r. ⌜ r ≡ answerLength (answerAs (answerTo (now (image .entry)) (record { address = 192 ∷ 0 ∷ 2 ∷ 1 ∷ [] }) (now (filter .entry)) (length (now (reply .entry))))) ⌝ }
+// How far apart the texts of names lie in their source.
+const TEXT_STEP: usize = 32;
+
+// Where the names of an EX start.
+const NAMES_START: usize = 24;
+
+const NAMES: usize = 8;
+
+fn text_at(place: usize, length: u8) -> Stretch
+    requires { ⌜ place ≤ 8 ⌝ }
+    ensures { λ r. ⌜ r .len ≤ 255 ⌝ }
 {
-    let client = Caller {
-        address: [192, 0, 2, 1],
-    };
-    match answer_ping(image, client, filter, reply) {
-        Answer::Answered {
-            length,
-            context: _,
-            form: _,
-        } => length,
-        Answer::Refused(_) => 0,
+    Stretch {
+        lender: Lender::Table,
+        start: TEXT_STEP * place,
+        len: wide(length) as usize,
     }
 }
 
-// One pass over any octets, as what reading them is measured by: the second sum of their check.
-#[no_mangle]
-pub extern "C" fn bench_pass(octets: &[u8]) -> u32
-    ensures { λ r. ⌜ r ≡ (checkOf (now (octets .entry))) .b ⌝ }
+fn name_texts(lengths: &[u8; 8]) -> [Stretch; NAMES_MOST]
+    ensures { λ r. ⌜ ShortTexts r 8 ⌝ }
 {
-    let check = check_of(octets);
-    check.b
+    [
+        text_at(0, lengths[0]),
+        text_at(1, lengths[1]),
+        text_at(2, lengths[2]),
+        text_at(3, lengths[3]),
+        text_at(4, lengths[4]),
+        text_at(5, lengths[5]),
+        text_at(6, lengths[6]),
+        text_at(7, lengths[7]),
+        text_at(8, 0),
+    ]
 }
 
-// The number that reading a reply in each form gives.
+// Plans and writes eight names, as those of an EX; the octets written, 0 where they have no room.
 #[no_mangle]
-pub extern "C" fn bench_nt40(reply: &[u8]) -> u8
-    ensures { λ r. ⌜ r ≡ readingNumber (readingAs (now (reply .entry)) (readIn Nt40 0 (now (reply .entry)))) ⌝ }
-{
-    reading_number(read_reply(reply, Form::Nt40, 0))
-}
-
-#[no_mangle]
-pub extern "C" fn bench_response(reply: &[u8]) -> u8
-    ensures { λ r. ⌜ r ≡ readingNumber (readingAs (now (reply .entry)) (readIn Response 0 (now (reply .entry)))) ⌝ }
-{
-    reading_number(read_reply(reply, Form::Response, 0))
-}
-
-#[no_mangle]
-pub extern "C" fn bench_ex(reply: &[u8], version: u32) -> u8
-    ensures { λ r. ⌜ r ≡ readingNumber (readingAs (now (reply .entry)) (readIn Ex version (now (reply .entry)))) ⌝ }
-{
-    reading_number(read_reply(reply, Form::Ex, version))
-}
-
-// The octet at a place of a name's text, 0 past its end and where there is no name. The place may be any, so that the whole text is written.
-#[no_mangle]
-pub extern "C" fn bench_text(reply: &[u8], start: usize, place: usize) -> u8
-    ensures { λ r. ⌜ r ≡ getD ((nameTextAs (nameText (now (reply .entry)) start)) .octets) place 0 ⌝ }
-{
-    let text = name_text(reply, start);
-    let octets = text.octets;
-    octet_in(&octets, place)
+pub extern "C" fn bench_names(source: &[u8], lengths: &[u8; 8], out: &mut [u8]) -> usize {
+    let planned = plan_names(source, source, name_texts(lengths), NAMES, NAMES_START);
+    let names = planned.names;
+    if out.len() < planned.end - NAMES_START {
+        return 0;
+    }
+    put_names(out, source, source, names, NAMES)
 }

@@ -53,7 +53,7 @@ fn is_spelling(s: &[u8], name: ClauseName) -> bool
 }
 
 // The clause name that octets spell.
-fn name_of(s: &[u8]) -> SpelledName
+pub fn name_of(s: &[u8]) -> SpelledName
     ensures { λ r. ⌜ r ≡ spelledAs (nameSpelled (now (s .entry))) ⌝ }
 {
     let mut i = 0;

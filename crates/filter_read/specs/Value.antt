@@ -77,6 +77,11 @@ abbrev pub judgedNumber : Judged → ℕ
 judgedNumber (judged.Version v) = 0
 judgedNumber (judged.Refused r) = number r
 
+-- the version asked, 0 with a refusal
+abbrev pub judgedVersion : Judged → ℕ
+judgedVersion (judged.Version v) = v
+judgedVersion (judged.Refused r) = 0
+
 -- what `judge_values` promises
 abbrev pub JudgeValuesPromise : List ℕ → Request → Judged → Type 0
 JudgeValuesPromise filter request r = r ≡ judgedValues (pingIn filter request)

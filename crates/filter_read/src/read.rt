@@ -1,6 +1,8 @@
 // A filter taken apart.
-ghost use Rattle.filter_read.specs.Taken.{TakeApartPromise};
+ghost use mathlib.Core.Path.{_≡_};
+ghost use Rattle.filter_read.specs.Taken.{takenNumber, TakeApartPromise};
 use answers::Refusal;
+use answers::number_of;
 use filter::request::Request;
 use filter_gather::gather::Gathering;
 use filter_gather::gather::whole;
@@ -10,6 +12,16 @@ use filter_position::position::FILTER_LIMIT;
 pub enum Taken {
     Request(Request),
     Refused(Refusal),
+}
+
+// Document 01's number of it.
+pub fn taken_number(taken: Taken) -> u8
+    ensures { λ r. ⌜ r ≡ takenNumber taken ⌝ }
+{
+    match taken {
+        Taken::Request(_) => 0,
+        Taken::Refused(refusal) => number_of(refusal),
+    }
 }
 
 // A filter taken apart: 5 by its length alone, then 6, 7 and 8, each judged over the whole filter.

@@ -5,8 +5,9 @@ ghost use Rattle.octets.specs.Lists.{holds, cut};
 ghost use Rattle.octets.specs.Number.{little};
 ghost use Rattle.unicode.specs.UserName.{isUserName};
 ghost use Rattle.filter.specs.Request.{octetsOf};
-ghost use Rattle.filter_read.specs.Value.{isNumber, JudgeValuesPromise};
+ghost use Rattle.filter_read.specs.Value.{isNumber, judgedNumber, judgedVersion, JudgeValuesPromise};
 use answers::Refusal;
+use answers::number_of;
 use filter::request::Clause;
 use filter::request::Request;
 use octets::number::u32_at;
@@ -17,6 +18,26 @@ use unicode::user_name::is_user_name;
 pub enum Judged {
     Version(u32),
     Refused(Refusal),
+}
+
+// Document 01's number of it.
+pub fn judged_number(judged: Judged) -> u8
+    ensures { λ r. ⌜ r ≡ judgedNumber judged ⌝ }
+{
+    match judged {
+        Judged::Version(_) => 0,
+        Judged::Refused(refusal) => number_of(refusal),
+    }
+}
+
+// The version asked, 0 with a refusal.
+pub fn judged_version(judged: Judged) -> u32
+    ensures { λ r. ⌜ r ≡ judgedVersion judged ⌝ }
+{
+    match judged {
+        Judged::Version(version) => version,
+        Judged::Refused(_) => 0,
+    }
 }
 
 // The octets of NtVer and of AAC.

@@ -1,9 +1,7 @@
 // The answer to a ping: document 01, "What the locator takes and gives".
 ghost use Rattle.locator.specs.Answer.{AnswerPingReturns, AnswerPingLeaves};
 use crate::Answer;
-use crate::over::answer_over;
-use filter_read::ping::PingRead;
-use filter_read::ping::read_ping;
+use crate::accepted::answer_accepted;
 use table::Caller;
 use table_whole::judge::Judgement;
 use table_whole::judge::judge;
@@ -21,9 +19,6 @@ pub fn answer_ping<'a>(
 {
     match judge(image) {
         Judgement::Refused(refusal) => Answer::Refused(refusal),
-        Judgement::Passed => match read_ping(filter) {
-            PingRead::Refused(refusal) => Answer::Refused(refusal),
-            PingRead::Ping(ping) => answer_over(image, caller, filter, ping, reply),
-        },
+        Judgement::Passed => answer_accepted(image, caller, filter, reply),
     }
 }

@@ -109,8 +109,10 @@ pub fn alike(a: &[u8], b: &[u8], ignore_case: bool) -> bool
     }
     let mut i = 0;
     while i < a.len() {
-        if folded(a[i], ignore_case) != folded(b[i], ignore_case) {
-            return false;
+        if a[i] != b[i] {
+            if folded(a[i], ignore_case) != folded(b[i], ignore_case) {
+                return false;
+            }
         }
         i += 1;
     }

@@ -1,5 +1,8 @@
 // The texts of names of a received reply: document 01, "Reading a reply".
+ghost use mathlib.Core.Path.{_≡_};
+ghost use Rattle.reader_text.specs.Text.{textNumber, textLength};
 use answers::Refusal;
+use answers::number_of;
 use reader_names::step::WRITTEN_MOST;
 
 pub mod label;
@@ -18,4 +21,24 @@ pub enum TextLength {
 pub struct NameText {
     pub len: TextLength,
     pub octets: [u8; TEXT_MOST],
+}
+
+// Document 01's number of a name's text.
+pub fn text_number(len: TextLength) -> u8
+    ensures { λ r. ⌜ r ≡ textNumber len ⌝ }
+{
+    match len {
+        TextLength::Octets(_) => 0,
+        TextLength::Refused(refusal) => number_of(refusal),
+    }
+}
+
+// Its length, 0 with a refusal.
+pub fn text_length(len: TextLength) -> usize
+    ensures { λ r. ⌜ r ≡ textLength len ⌝ }
+{
+    match len {
+        TextLength::Octets(length) => length,
+        TextLength::Refused(_) => 0,
+    }
 }

@@ -88,7 +88,7 @@ fn body_layout(place: BlockPlace, octet: u8, b: &[u8]) -> bool
     any_records_layout(octet, b)
 }
 
-fn block_layout(place: BlockPlace, block: &[u8]) -> bool
+pub fn block_layout(place: BlockPlace, block: &[u8]) -> bool
     ensures { λ r. ⌜ r ≡ blockLayout place (now (block .entry)) ⌝ }
 {
     let own = place_of(block);

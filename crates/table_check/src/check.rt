@@ -1,6 +1,6 @@
 // The check of each block.
 ghost use mathlib.Core.Path.{_≡_};
-ghost use Prim.Native.Nat.{_≤_};
+ghost use Prim.Native.Nat.{_+_, _*_, _%_, _≤_};
 ghost use lib.ListN.{length};
 ghost use Rattle.octets.specs.Lists.{all};
 ghost use Rattle.table.specs.Block.{imageMost, blocksOf};
@@ -19,21 +19,44 @@ pub struct Check {
     pub b: u32,
 }
 
+// A sum modulo 65,536.
+fn grown_by(sum: u16, x: u32) -> u16
+    requires { ⌜ x ≤ 16777216 ⌝ }
+    ensures { λ r. ⌜ r ≡ (sum + x) % 65536 ⌝ }
+{
+    (((sum as u32) + x) % 65536) as u16
+}
+
+// An octet, as often as octets are left.
+fn weighed(x: u8, left: u16) -> u32
+    ensures { λ r. ⌜ (r ≡ x * left) × (r ≤ 16777216) ⌝ }
+{
+    wide(x) * (left as u32)
+}
+
+// b takes each octet at once as often as it will count, so that no sum waits for another and the compiler adds several at a time: it is the
+// definition's b so far, and its a for each octet left.
 pub fn check_of(octets: &[u8]) -> Check
     ensures { λ r. ⌜ CheckOfPromise (now (octets .entry)) r ⌝ }
 {
-    let mut a: u32 = 1;
-    let mut b: u32 = 0;
+    let n = (octets.len() % 65536) as u16;
+    let mut a: u16 = 1;
+    let mut b = n;
+    let mut left = n;
     let mut i = 0;
     while i < octets.len() {
-        a = (a + wide(octets[i])) % 65536;
-        b = (b + a) % 65536;
+        a = grown_by(a, wide(octets[i]));
+        b = grown_by(b, weighed(octets[i], left));
+        left = grown_by(left, 65535);
         i += 1;
     }
-    Check { a, b }
+    Check {
+        a: a as u32,
+        b: b as u32,
+    }
 }
 
-fn good_check(block: &[u8]) -> bool
+pub fn good_check(block: &[u8]) -> bool
     ensures { λ r. ⌜ r ≡ goodCheck (now (block .entry)) ⌝ }
 {
     let check = check_of(part(block, 0, CHECK));

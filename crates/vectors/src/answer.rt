@@ -1,17 +1,17 @@
 // The answer to one request line.
 use crate::filter_lines::answer_filter;
 use crate::filter_lines::answer_values;
-use crate::parse::decode;
 use crate::parse::is_octets;
 use crate::parse::space_count;
 use crate::parse::word;
 use crate::ping_lines::answer_ping_line;
 use crate::read_lines::answer_read;
-use crate::say::say;
-use crate::say::say_number;
-use crate::say::say_unknown;
 use crate::walk_lines::answer_walk;
+use crate::words::say_unknown;
 use crate::write::answer_write;
+use console::digits::decode;
+use console::say::say;
+use console::say::say_number;
 use octets::part::part;
 use octets::text::same_octets;
 

@@ -2,8 +2,8 @@
 ghost use mathlib.Core.Path.{_≡_};
 ghost use lib.ListN.{length};
 ghost use Rattle.vectors.specs.Internal.Bounds.{Lendable};
-use crate::parse::Decimal;
-use crate::parse::decimal_of;
+use console::digits::Decimal;
+use console::digits::decimal_of;
 
 // The most room that a line may lend.
 const MOST_ROOM: u64 = 4096;

@@ -1,21 +1,20 @@
 // `filter` and `values` lines: a filter is taken apart, and its values are judged.
-ghost use mathlib.Core.Path.{_≡_};
-ghost use Rattle.filter_read.specs.Taken.{takenNumber};
-ghost use Rattle.filter_read.specs.Value.{judgedNumber};
-use crate::parse::decode;
-use crate::say::say;
-use crate::say::say_bits;
-use crate::say::say_hex;
-use crate::say::say_number;
-use answers::number_of;
+use console::digits::decode;
+use console::say::say;
+use console::say::say_bits;
+use console::say::say_hex;
+use console::say::say_number;
 use filter::request::CLAUSE_COUNT;
 use filter::request::Clause;
 use filter::request::Request;
 use filter::request::clause_name_at;
 use filter_read::read::Taken;
 use filter_read::read::take_apart;
+use filter_read::read::taken_number;
 use filter_read::value::Judged;
 use filter_read::value::judge_values;
+use filter_read::value::judged_number;
+use filter_read::value::judged_version;
 use octets::part::part;
 
 fn say_clause(filter: &[u8], clause: Clause) {
@@ -33,15 +32,6 @@ fn say_request(filter: &[u8], request: Request) {
     while i < CLAUSE_COUNT {
         say_clause(filter, request.clause(clause_name_at(i)));
         i += 1;
-    }
-}
-
-fn taken_number(taken: Taken) -> u8
-    ensures { λ r. ⌜ r ≡ takenNumber taken ⌝ }
-{
-    match taken {
-        Taken::Request(_) => 0,
-        Taken::Refused(r) => number_of(r),
     }
 }
 
@@ -68,22 +58,6 @@ fn judged(filter: &[u8]) -> Judged {
     match take_apart(filter) {
         Taken::Request(request) => judge_values(filter, request),
         Taken::Refused(r) => Judged::Refused(r),
-    }
-}
-
-fn judged_number(judged: Judged) -> u8
-    ensures { λ r. ⌜ r ≡ judgedNumber judged ⌝ }
-{
-    match judged {
-        Judged::Version(_) => 0,
-        Judged::Refused(r) => number_of(r),
-    }
-}
-
-fn judged_version(judged: Judged) -> u32 {
-    match judged {
-        Judged::Version(version) => version,
-        Judged::Refused(_) => 0,
     }
 }
 

@@ -6,8 +6,8 @@ mod input;
 mod parse;
 mod ping_lines;
 mod read_lines;
-mod say;
 mod walk_lines;
+mod words;
 mod write;
 
 fn main() {

@@ -1,47 +1,7 @@
 // Words and octets of a request line.
-ghost use Prim.Native.Nat.{_≤_, _<_};
+ghost use Prim.Native.Nat.{_≤_};
 ghost use lib.ListN.{length};
-ghost use Rattle.vectors.specs.Internal.Bounds.{Small};
-
-// The value of a lowercase hex digit.
-pub enum Digit {
-    Bad,
-    Value(u8),
-}
-
-pub fn hex_value(x: u8) -> Digit
-    ensures { λ r. ⌜ Small r ⌝ }
-{
-    if 48 <= x {
-        if x <= 57 {
-            return Digit::Value(x - 48);
-        }
-    }
-    if 97 <= x {
-        if x <= 102 {
-            return Digit::Value(x - 87);
-        }
-    }
-    Digit::Bad
-}
-
-fn is_digit(x: u8) -> bool {
-    match hex_value(x) {
-        Digit::Bad => false,
-        Digit::Value(_) => true,
-    }
-}
-
-fn all_digits(text: &[u8]) -> bool {
-    let mut i = 0;
-    while i < text.len() {
-        if !is_digit(text[i]) {
-            return false;
-        }
-        i += 1;
-    }
-    true
-}
+use console::digits::all_hex_digits;
 
 // Whether a word stands for octets: `-` for none, else two digits for each.
 pub fn is_octets(text: &[u8]) -> bool {
@@ -54,31 +14,7 @@ pub fn is_octets(text: &[u8]) -> bool {
     if text.len() % 2 != 0 {
         return false;
     }
-    all_digits(text)
-}
-
-fn value(x: u8) -> u8
-    ensures { λ r. ⌜ r < 16 ⌝ }
-{
-    match hex_value(x) {
-        Digit::Bad => 0,
-        Digit::Value(v) => v,
-    }
-}
-
-// The octets that a word stands for, at the front of out: how many, no more than fit.
-pub fn decode(text: &[u8], out: &mut [u8]) -> usize
-    ensures { λ r. ⌜ r ≤ length (now (out .exit)) ⌝ }
-{
-    let mut i = 0;
-    while i < out.len() {
-        if text.len() / 2 <= i {
-            return i;
-        }
-        out[i] = value(text[2 * i]) * 16 + value(text[2 * i + 1]);
-        i += 1;
-    }
-    i
+    all_hex_digits(text)
 }
 
 // Whether a word stands for four octets: a client's address, or version bits.
@@ -144,35 +80,6 @@ pub fn word(line: &[u8], number: usize) -> &[u8] {
     &line[start..end]
 }
 
-// A decimal number.
-pub enum Decimal {
-    Bad,
-    Value(u64),
-}
-
-pub fn decimal_of(text: &[u8]) -> Decimal {
-    if text.len() == 0 {
-        return Decimal::Bad;
-    }
-    if 10 < text.len() {
-        return Decimal::Bad;
-    }
-    let mut n: u64 = 0;
-    let mut i = 0;
-    while i < text.len() {
-        let x = text[i];
-        if x < b'0' {
-            return Decimal::Bad;
-        }
-        if b'9' < x {
-            return Decimal::Bad;
-        }
-        n = n * 10 + (x - b'0') as u64;
-        i += 1;
-    }
-    Decimal::Value(n)
-}
-
 // Whether a word stands for a clause: `.` for an absent one, else `=` and two digits for each octet.
 pub fn is_clause(text: &[u8]) -> bool {
     if text.len() == 0 {
@@ -187,5 +94,5 @@ pub fn is_clause(text: &[u8]) -> bool {
     if text.len() % 2 == 0 {
         return false;
     }
-    all_digits(&text[1..])
+    all_hex_digits(&text[1..])
 }

@@ -1,21 +1,21 @@
 // `ping` lines: the standing image's answer to a client's filter.
 ghost use mathlib.Core.Path.{_≡_};
-ghost use Rattle.locator.specs.Answer.{answerNumber, answerLength, answerContext, answerForm};
+ghost use Rattle.locator.specs.Answer.{answerLength, answerContext, answerForm};
 ghost use Rattle.vectors.specs.Internal.AnswerForm.{formGiven};
 use crate::buffer::Room;
 use crate::buffer::filled;
 use crate::buffer::room_of;
-use crate::parse::decode;
 use crate::parse::is_four_octets;
 use crate::parse::is_octets;
 use crate::parse::word;
-use crate::say::say;
-use crate::say::say_number;
-use crate::say::say_octets;
-use crate::say::say_unknown;
+use crate::words::say_octets;
+use crate::words::say_unknown;
 use answers::Form;
-use answers::number_of;
+use console::digits::decode;
+use console::say::say;
+use console::say::say_number;
 use locator::Answer;
+use locator::answer_number;
 use locator::ping::answer_ping;
 use octets::part::part;
 use table::Caller;
@@ -24,19 +24,6 @@ use table::Caller;
 enum AnswerForm {
     Absent,
     Given(Form),
-}
-
-fn answer_number(answer: Answer) -> u8
-    ensures { λ r. ⌜ r ≡ answerNumber answer ⌝ }
-{
-    match answer {
-        Answer::Answered {
-            length: _,
-            context: _,
-            form: _,
-        } => 0,
-        Answer::Refused(r) => number_of(r),
-    }
 }
 
 fn answer_length(answer: Answer) -> usize

@@ -1,17 +1,16 @@
 // `read` lines: a received reply is read in a form, with version bits.
 ghost use mathlib.Core.Path.{_≡_};
-ghost use Rattle.reader_text.specs.Text.{textLength};
 ghost use Rattle.reader_forms.specs.Reading.{readingLength};
-use crate::parse::decode;
 use crate::parse::is_four_octets;
 use crate::parse::is_octets;
 use crate::parse::word;
-use crate::say::say;
-use crate::say::say_bits;
-use crate::say::say_hex;
-use crate::say::say_number;
-use crate::say::say_unknown;
+use crate::words::say_unknown;
 use answers::Form;
+use console::digits::decode;
+use console::say::say;
+use console::say::say_bits;
+use console::say::say_hex;
+use console::say::say_number;
 use octets::number::wide;
 use octets::part::part;
 use octets::text::same_octets;
@@ -26,8 +25,8 @@ use reader_forms::reading::ResponseFields;
 use reader_forms::reading::reading_number;
 use reader_names::NameAt;
 use reader_reply::read::read_reply;
-use reader_text::TextLength;
 use reader_text::text::name_text;
+use reader_text::text_length;
 
 enum FormWord {
     Bad,
@@ -60,15 +59,6 @@ fn reading_length(reading: Reading) -> usize
     match reading {
         Reading::Read { length, fields: _ } => length,
         Reading::Refused(_) => 0,
-    }
-}
-
-fn text_length(len: TextLength) -> usize
-    ensures { λ r. ⌜ r ≡ textLength len ⌝ }
-{
-    match len {
-        TextLength::Octets(n) => n,
-        TextLength::Refused(_) => 0,
     }
 }
 

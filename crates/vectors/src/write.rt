@@ -1,18 +1,15 @@
 // `write` lines: a filter is written from eight clauses.
-ghost use mathlib.Core.Path.{_≡_};
-ghost use Rattle.filter_write.specs.Write.{writtenNumber, writtenLength};
 use crate::buffer::Room;
 use crate::buffer::filled;
 use crate::buffer::room_of;
-use crate::parse::decode;
 use crate::parse::is_clause;
 use crate::parse::word;
 use crate::parse::word_start;
-use crate::say::say;
-use crate::say::say_number;
-use crate::say::say_octets;
-use crate::say::say_unknown;
-use answers::number_of;
+use crate::words::say_octets;
+use crate::words::say_unknown;
+use console::digits::decode;
+use console::say::say;
+use console::say::say_number;
 use filter::request::CLAUSE_COUNT;
 use filter::request::Clause;
 use filter::request::Request;
@@ -20,6 +17,8 @@ use filter::request::clause_name_at;
 use filter::request::no_clauses;
 use filter_write::write::Written;
 use filter_write::write::write_filter;
+use filter_write::write::written_length;
+use filter_write::write::written_number;
 
 // The words of the clauses: the first, and the one after the last.
 const FIRST_CLAUSE: usize = 2;
@@ -82,24 +81,6 @@ fn request_of(line: &[u8]) -> Request {
         i += 1;
     }
     request
-}
-
-fn written_number(written: Written) -> u8
-    ensures { λ r. ⌜ r ≡ writtenNumber written ⌝ }
-{
-    match written {
-        Written::Length(_) => 0,
-        Written::Refused(r) => number_of(r),
-    }
-}
-
-fn written_length(written: Written) -> usize
-    ensures { λ r. ⌜ r ≡ writtenLength written ⌝ }
-{
-    match written {
-        Written::Length(n) => n,
-        Written::Refused(_) => 0,
-    }
 }
 
 fn write_into(line: &[u8], source: &[u8], out: &mut [u8]) {

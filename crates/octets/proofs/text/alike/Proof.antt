@@ -5,7 +5,8 @@ use lib.ListN.{length, drop, length-map}
 use native.Mathlib.Omega.{arith}
 use Prim.Native.Nat.{_-_, _≤_}
 use mathlib.Core.List.{map}
-use mathlib.Core.Path.{_≡_, refl, sym, _∙_}
+use mathlib.Core.Logic.{⊎-elim}
+use mathlib.Core.Path.{_≡_, refl, sym, ap, _∙_}
 use Rattle.octets.proofs.text.alike.Statement.{statement}
 use Rattle.octets.proofs.text.alike.Tie as tie
 
@@ -27,6 +28,12 @@ returns c =
 loop-holds : tie.Need-loop-holds Inv-loop μ-loop
 loop-holds c = (omega arith, refl)
 
+shared-slice-read-if2 : tie.Need-shared-slice-read-if2 Inv-loop μ-loop
+shared-slice-read-if2 c = search needs
+
+shared-slice-read-if2-2 : tie.Need-shared-slice-read-if2-2 Inv-loop μ-loop
+shared-slice-read-if2-2 c = search needs
+
 shared-slice-read-folded : tie.Need-shared-slice-read-folded Inv-loop μ-loop
 shared-slice-read-folded c = search needs
 
@@ -41,9 +48,9 @@ folded-requires-2 c κs = search needs
 
 returns-2 : tie.Need-returns-2 Inv-loop μ-loop
 returns-2 c =
-    let p = c .before .before .before .before .before .before .before .before .before .before .args in
-    let l = c .before .before .before .before .before .before .loop in
-    same-fails (foldIf (p .ignore-case)) (p .a .now) (p .b .now) (l .i) (omega arith) (omega arith) (λ e. c .if2 .taken (c .before .before .before .folded .ensures ∙ e ∙ sym (c .before .folded2 .ensures))) ∙ l .inv .1
+    let p = c .before .before .before .before .before .before .before .before .before .before .before .before .before .args in
+    let l = c .before .before .before .before .before .before .before .before .before .loop in
+    same-fails (foldIf (p .ignore-case)) (p .a .now) (p .b .now) (l .i) (omega arith) (omega arith) (λ e. c .if3 .taken (c .before .before .before .folded .ensures ∙ e ∙ sym (c .before .folded2 .ensures))) ∙ l .inv .1
 
 add-i : tie.Need-add-i Inv-loop μ-loop
 add-i c = search needs
@@ -53,10 +60,11 @@ loop-less c = search needs
 
 loop-again : tie.Need-loop-again Inv-loop μ-loop
 loop-again c =
-    let p = c .before .before .before .before .before .before .before .before .before .before .args in
-    let l = c .before .before .before .before .before .before .loop in
-    let e = sym (c .before .before .before .folded .ensures) ∙ c .if2 .left ∙ c .before .folded2 .ensures in
-    (omega arith, same-next (foldIf (p .ignore-case)) (p .a .now) (p .b .now) (l .i) (omega arith) (omega arith) e ∙ l .inv .1)
+    let p = c .before .before .before .before .before .before .before .before .args in
+    let l = c .before .before .before .before .loop in
+    let f = foldIf (p .ignore-case) in
+    let e = ⊎-elim (λ w. sym (w .2 .ensures) ∙ w .5 .left ∙ w .4 .ensures) (λ w. ap f (w .left)) (c .if2 .came) in
+    (omega arith, same-next f (p .a .now) (p .b .now) (l .i) (omega arith) (omega arith) e ∙ l .inv .1)
 
 returns-3 : tie.Need-returns-3 Inv-loop μ-loop
 returns-3 c =
@@ -72,6 +80,8 @@ alike-spec =
     μ-loop
     returns
     loop-holds
+    shared-slice-read-if2
+    shared-slice-read-if2-2
     shared-slice-read-folded
     folded-requires
     shared-slice-read-folded-2

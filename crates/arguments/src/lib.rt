@@ -1,0 +1,8 @@
+// The arguments of the programs, taken apart: every text of any octets is read, or told to be no such argument.
+pub mod address;
+pub mod clause;
+pub mod complaint;
+pub mod file;
+pub mod hex;
+pub mod number;
+pub mod word;

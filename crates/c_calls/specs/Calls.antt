@@ -1,0 +1,26 @@
+-- What the exported calls give, in the definitions that the public calls promise: C's request is the members of a struct.
+use mathlib.Core.List.{List, [], _∷_}
+use Prim.Native.Nat.{ℕ}
+use lib.ListN.{length}
+use Rattle.answers.specs.declared.Form.{Form}
+use Rattle.filter_read.specs.declared.value.Judged.{Judged}
+use Rattle.filter_read.specs.Value.{pingIn, judgedValues}
+use Rattle.filter_write.specs.declared.write.Written.{Written}
+use Rattle.filter_write.specs.Write.{filterFor, writtenAs}
+use Rattle.reader.specs.Reader.{readIn}
+use Rattle.reader_forms.specs.declared.reading.Reading.{Reading}
+use Rattle.reader_forms.specs.Reading.{readingAs}
+use Rattle.table_check.specs.declared.check.Check.{Check}
+use Rattle.c_request.specs.Request.{requestGiven}
+
+abbrev pub checkMembers : Check → List ℕ
+checkMembers c = c .a ∷ c .b ∷ []
+
+abbrev pub valuesJudged : List ℕ → List ℕ → Judged
+valuesJudged filter request = judgedValues (pingIn filter (requestGiven request))
+
+abbrev pub filterWritten : List ℕ → List ℕ → List ℕ → Written
+filterWritten source request before = writtenAs (filterFor source (requestGiven request) (length before))
+
+abbrev pub replyRead : Form → ℕ → List ℕ → Reading
+replyRead form version reply = readingAs reply (readIn form version reply)

@@ -1,0 +1,206 @@
+/*
+ * locator.h - answers Netlogon pings from a table image, reads replies, reads and writes filters.
+ *
+ * For C11 and C++11. Link with target/staticlib/libvinegarjar.a (`rt staticlib vinegarjar`), on x86-64. The code is proved;
+ * these declarations are held to it by hand and by the programs in examples/.
+ *
+ * Buffers. The caller owns all memory. A call keeps no pointer past its return, allocates nothing and has no state, so
+ * any number of threads may call at once. Where parameters are a pointer and a length, the pointer is to that many octets;
+ * const ones are only read. No pointer may be NULL, not even with length 0: then point to any object. What a call writes
+ * must overlap nothing else that is lent to the same call.
+ *
+ * Octets. Any octets may be passed as image, filter, source or reply, of any length; each call ends and answers by number.
+ * Starts and lengths in structs are counted in octets from the first octet of the buffer that they speak of.
+ *
+ * Numbers. A call that returns uint8_t returns 0 (done) or why it refused, one of enum locator_number. On a refusal every
+ * struct, number and text lent for results is all zeros, and a buffer lent for a reply or a filter is as it was.
+ */
+#ifndef LOCATOR_H
+#define LOCATOR_H
+
+#include <stddef.h>
+#include <stdint.h>
+
+#ifdef __cplusplus
+#define LOCATOR_ASSERT(claim) static_assert(claim, #claim)
+extern "C" {
+#else
+#define LOCATOR_ASSERT(claim) _Static_assert(claim, #claim)
+#endif
+
+/* What a call returns. locator_answer_ping judges by 1 to 19 in this order. */
+enum locator_number {
+    LOCATOR_DONE = 0,
+
+    /* the table image */
+    LOCATOR_IMAGE_LENGTH = 1, /* not 2 to 128 whole blocks of 512 octets */
+    LOCATOR_BLOCK_CHECK = 2,  /* a block does not store its own check */
+    LOCATOR_BLOCK_LAYOUT = 3, /* a block or record is not laid out by the rules */
+    LOCATOR_TABLE_WHOLE = 4,  /* its blocks do not agree: counts, doubles, references */
+
+    /* the filter */
+    LOCATOR_FILTER_LENGTH = 5,    /* more than LOCATOR_FILTER_MOST octets */
+    LOCATOR_FILTER_SHAPE = 6,     /* not equalities in ANDs; no clause to write */
+    LOCATOR_UNKNOWN_CLAUSE = 7,   /* a clause has another name than the eight */
+    LOCATOR_DUPLICATE_CLAUSE = 8, /* two clauses have one name */
+    LOCATOR_CLAUSE_VALUE = 9,     /* NtVer, AAC or User has no such value */
+    LOCATOR_NO_VERSION = 10,      /* no NtVer clause */
+
+    /* the context asked for */
+    LOCATOR_GUID_LENGTH = 11,       /* DomainGuid is not of 16 octets */
+    LOCATOR_GUID_NOT_HELD = 12,     /* no context has it */
+    LOCATOR_DNS_NAME_EMPTY = 13,    /* DnsDomain is present and empty */
+    LOCATOR_DNS_NAME_NOT_HELD = 14, /* no context has it */
+    LOCATOR_SID_SHAPE = 15,         /* DomainSid is no SID */
+    LOCATOR_SID_NOT_HELD = 16,      /* no context has it */
+    LOCATOR_SID_OF_ANOTHER = 17,    /* another context than the one used has it */
+
+    /* the reply */
+    LOCATOR_USER_LABEL_EMPTY = 18, /* the user's name has an empty label, which an EX reply cannot hold */
+    LOCATOR_NO_ROOM = 19,          /* longer than the room lent */
+
+    /* a received reply, by the first octet that fits no rule */
+    LOCATOR_REPLY_CUT = 31,      /* it ends too early */
+    LOCATOR_REPLY_OPCODE = 32,   /* an opcode of another form */
+    LOCATOR_REPLY_TEXT = 33,     /* a broken UTF-16 text, or a broken, overlong or winding name */
+    LOCATOR_REPLY_FIXED = 34,    /* a fixed field has another value */
+    LOCATOR_REPLY_LEFT_OVER = 35 /* octets after its end */
+};
+
+/* The form of a reply. */
+enum locator_form {
+    LOCATOR_NO_FORM = 0, /* with a refusal */
+    LOCATOR_NT40 = 1,
+    LOCATOR_RESPONSE = 2,
+    LOCATOR_EX = 3
+};
+
+enum {
+    LOCATOR_FILTER_MOST = 2048, /* octets of the longest filter */
+    LOCATOR_REPLY_MOST = 1108,  /* octets of the longest reply that is written */
+    LOCATOR_TEXT_MOST = 253,    /* octets of the longest name, labels joined by dots */
+    LOCATOR_GUID_SIZE = 16,
+    LOCATOR_ADDRESS_SIZE = 4
+};
+
+/* A stretch of octets, which may be empty, or none. 0 is not present, any other number present. Calls write 0 or 1. */
+struct locator_stretch {
+    size_t present;
+    size_t start;
+    size_t length;
+};
+
+/* A filter's clauses, as stretches of the filter or of a source. Absent and empty are not the same. */
+struct locator_request {
+    struct locator_stretch dns_domain;
+    struct locator_stretch host;
+    struct locator_stretch dns_host_name;
+    struct locator_stretch user;
+    struct locator_stretch aac;
+    struct locator_stretch domain_sid;
+    struct locator_stretch domain_guid;
+    struct locator_stretch nt_ver;
+};
+LOCATOR_ASSERT(sizeof(struct locator_request) == 24 * sizeof(size_t));
+
+/* The two sums of a block's check. */
+struct locator_check {
+    uint32_t a;
+    uint32_t b;
+};
+LOCATOR_ASSERT(sizeof(struct locator_check) == 2 * sizeof(uint32_t));
+
+/* What answering a ping gives beside the reply's octets. */
+struct locator_answer {
+    size_t length;  /* of the reply */
+    size_t context; /* the number of the context used; 0 with a refusal */
+    size_t form;    /* of enum locator_form */
+};
+LOCATOR_ASSERT(sizeof(struct locator_answer) == 3 * sizeof(size_t));
+
+/* A name of a reply: where it starts, the length of its text, and how many pointers lead through it. */
+struct locator_name {
+    size_t present;
+    size_t start;
+    size_t length;
+    size_t pointers;
+};
+
+/* The names of a reply by their places. RESPONSE has the first three, EX the first eight and, where it is present, the last. */
+enum locator_place {
+    LOCATOR_FOREST,
+    LOCATOR_CONTEXT,
+    LOCATOR_HOST,
+    LOCATOR_CONTEXT_NETBIOS,
+    LOCATOR_SERVER_NETBIOS,
+    LOCATOR_USER,
+    LOCATOR_OWN_SITE,
+    LOCATOR_CLIENT_SITE,
+    LOCATOR_NEXT_SITE,
+    LOCATOR_PLACES
+};
+
+/* The fields of a reply that was read. What a form or a reply lacks is marked by has_.. or present, never by its value. */
+struct locator_reading {
+    size_t length; /* of the reply; 0 with a refusal */
+    size_t opcode;
+    size_t version;
+    size_t has_flags;
+    size_t flags;
+    size_t has_guid;
+    size_t guid; /* where its LOCATOR_GUID_SIZE octets start */
+    size_t has_address;
+    size_t address;                /* where its LOCATOR_ADDRESS_SIZE octets start, in dotted order */
+    struct locator_stretch server; /* texts of NT40 and RESPONSE: UTF-16LE, without the zero unit */
+    struct locator_stretch user;
+    struct locator_stretch domain;
+    struct locator_name names[LOCATOR_PLACES];
+};
+LOCATOR_ASSERT(sizeof(struct locator_reading) == 54 * sizeof(size_t));
+
+/* Judges a table image: 0, or 1 to 4. */
+uint8_t locator_judge(const uint8_t *image, size_t image_length);
+
+/* The check of octets, as a block stores it of its first 508. */
+void locator_check(const uint8_t *octets, size_t length, struct locator_check *check);
+
+/* Takes a filter apart into its clauses: 0, or 5 to 8. */
+uint8_t locator_take_apart(const uint8_t *filter, size_t filter_length, struct locator_request *request);
+
+/* Judges the values of a filter's clauses and gives the version asked: 0, or 9 or 10. */
+uint8_t locator_judge_values(const uint8_t *filter, size_t filter_length, const struct locator_request *request,
+                             uint32_t *version);
+
+/*
+ * Writes a filter of the clauses present, whose octets lie in the source; what lies outside it is not there. 0, or 6 where
+ * no clause is present, 5, or 19 by out_room. *length is how many octets of out were written; the rest stays as it was.
+ */
+uint8_t locator_write_filter(const uint8_t *source, size_t source_length, const struct locator_request *request,
+                             uint8_t *out, size_t out_room, size_t *length);
+
+/*
+ * Answers a client's ping from a table image: 0, or 1 to 19. The client is its IPv4 address in dotted order. The first
+ * answer->length octets of reply are the reply; the rest stays as it was. LOCATOR_REPLY_MOST octets are room for every reply.
+ */
+uint8_t locator_answer_ping(const uint8_t *image, size_t image_length, const uint8_t client[4], const uint8_t *filter,
+                            size_t filter_length, uint8_t *reply, size_t reply_room, struct locator_answer *answer);
+
+/* Read a received reply in its form: 0, or 31 to 35. version is what the ping asked for in NtVer; it decides only in an EX. */
+uint8_t locator_read_nt40(const uint8_t *reply, size_t reply_length, struct locator_reading *reading);
+uint8_t locator_read_response(const uint8_t *reply, size_t reply_length, struct locator_reading *reading);
+uint8_t locator_read_ex(const uint8_t *reply, size_t reply_length, uint32_t version, struct locator_reading *reading);
+
+/*
+ * The text of the name that starts at an offset of a reply, labels joined by dots: 0, or 31 or 33. All of text is written:
+ * the first *length octets are the name, zeros follow. It is not a C string: the longest name leaves no room for a zero.
+ */
+uint8_t locator_name_text(const uint8_t *reply, size_t reply_length, size_t start, uint8_t text[LOCATOR_TEXT_MOST],
+                          size_t *length);
+
+#undef LOCATOR_ASSERT
+
+#ifdef __cplusplus
+}
+#endif
+
+#endif

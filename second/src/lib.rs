@@ -1,0 +1,19 @@
+//! The parts of the second program, for its own tool and for the programs that measure against it.
+
+#![forbid(unsafe_code)]
+
+pub mod answers;
+pub mod choose;
+pub mod compare;
+pub mod filter;
+pub mod generate;
+pub mod image;
+pub mod lines;
+pub mod long;
+pub mod octets;
+pub mod reader;
+pub mod reply;
+pub mod table;
+#[cfg(test)]
+mod tests;
+pub mod walk;
