@@ -560,13 +560,12 @@ const CASES: [&str; 81] = [
 /// Every refusal with little room and with much, and each before those that come later.
 fn required_refusals() -> Vec<String> {
     let mut cases = Vec::new();
-    for number in 1..=18 {
+    for number in (1..=9).chain(11..=18) {
         cases.extend(["little", "much"].map(|room| format!("refused with {number}, {room} room")));
     }
     // Of one clause one number is given, so that pairs of one clause cannot be.
-    let later: [(u8, &[u8]); 9] = [
+    let later: [(u8, &[u8]); 8] = [
         (9, &[11, 12, 13, 14, 15, 16]),
-        (10, &[11, 12, 13, 14, 15, 16, 18]),
         (11, &[13, 14, 15, 16, 18]),
         (12, &[13, 14, 15, 16, 18]),
         (13, &[15, 16, 18]),

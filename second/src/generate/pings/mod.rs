@@ -8,12 +8,12 @@ use super::elements::{and, equality, nested, version_6};
 use super::requests::{Asked, Requests};
 use super::sample::{fill_up, sample, Size};
 use crate::choose::{ClientAddress, Form};
-use crate::filter::ClauseName;
+use crate::filter::{take_apart, ClauseName};
 use crate::image::{Image, ServerBlock};
 use crate::reply::answer_ping;
 
 pub fn add_all(requests: &mut Requests, chance: &mut Chance) {
-    let mut pings = Pings { requests, image: Vec::new(), refused: 0 };
+    let mut pings = Pings { requests, image: Vec::new(), in_turn: 0 };
     add_bad_tables(&mut pings);
     add_samples_of_document_01(&mut pings);
     add_filter_refusals(&mut pings, chance);
@@ -23,11 +23,11 @@ pub fn add_all(requests: &mut Requests, chance: &mut Chance) {
     add_random(&mut pings, chance);
 }
 
-/// The lines so far, the image that stands, and how many pings were refused.
+/// The lines so far, the image that stands, and how many pings had little room or much, in turn.
 struct Pings<'r> {
     requests: &'r mut Requests,
     image: Vec<u8>,
-    refused: usize,
+    in_turn: usize,
 }
 
 const NO_CLIENT: [u8; 4] = [0; 4];
@@ -61,14 +61,15 @@ impl Pings<'_> {
     }
 
     /// A ping with room for its answer and two octets that stay as they are. A refused one has little room or much,
-    /// in turn.
+    /// in turn; so has one without NtVer, since before #101 it was refused and its line stays as it was.
     fn filter(&mut self, client: [u8; 4], filter: &[u8]) {
+        let with_version = take_apart(filter).is_ok_and(|clauses| clauses.nt_ver.is_some());
         let room = match self.length(client, filter) {
-            0 => {
-                self.refused += 1;
-                [2, 128][self.refused % 2]
+            length if length != 0 && with_version => length + 2,
+            _ => {
+                self.in_turn += 1;
+                [2, 128][self.in_turn % 2]
             }
-            length => length + 2,
         };
         self.requests.ping(client, filter, room);
     }
@@ -134,7 +135,7 @@ fn add_samples_of_document_01(pings: &mut Pings) {
 }
 
 fn add_filter_refusals(pings: &mut Pings, chance: &mut Chance) {
-    pings.note("refusals 5 to 10 by the filter alone");
+    pings.note("refusals 5 to 9 by the filter alone, and no NtVer");
     pings.table(&Image::base());
     for length in [2049, 2050, 2048, 2047] {
         pings.filter(NO_CLIENT, &vec![0; length]);
