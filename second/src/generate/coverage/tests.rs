@@ -69,6 +69,22 @@ fn trails_lead_to_what_the_walk_answers() {
 }
 
 #[test]
+fn the_retired_number_is_counted_in_every_kind_of_answer() {
+    let given: [(&[u8], &str); 3] = [
+        (b"values a3080404557365720400", "values 10 00000000"),
+        (b"ping 00000000 a3080404557365720400 1", "ping 10 0 0 none a5"),
+        (b"filter a3080404557365720400", "filter 10 . . . . . . . ."),
+    ];
+    let mut coverage = Coverage::default();
+    for (count, (request, answer)) in given.into_iter().enumerate() {
+        assert_eq!(coverage.retired_answers(), count);
+        coverage.observe(request, answer);
+    }
+    assert_eq!(coverage.retired_answers(), 3);
+    assert!(coverage.text().ends_with(", 3 answers have the retired number\n"));
+}
+
+#[test]
 fn a_filter_cut_inside_a_length_is_observed() {
     let mut coverage = Coverage::default();
     coverage.observe(b"filter a3020482", "filter 6 . . . . . . . .");
