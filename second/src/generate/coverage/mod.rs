@@ -13,6 +13,7 @@ mod tests;
 mod trace;
 mod trail;
 mod walks;
+mod without_version;
 
 use std::collections::BTreeMap;
 
@@ -121,6 +122,7 @@ pub fn required() -> Vec<String> {
     cases.extend(tables::required());
     cases.extend(samples::required());
     cases.extend(required_of_pings());
+    cases.extend(without_version::required());
     cases.extend(filters::required());
     cases.extend(reads::required());
     cases.extend(walks::required());
@@ -133,7 +135,7 @@ pub fn required_numbers() -> Vec<String> {
     NUMBERS_BY_KIND.into_iter().flat_map(of_kind).collect()
 }
 
-/// The cases of pings but for document 01's own samples.
+/// The cases of pings but for document 01's own samples and those without NtVer.
 pub fn required_of_pings() -> Vec<String> {
     pings::required()
 }

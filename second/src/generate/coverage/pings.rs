@@ -3,6 +3,7 @@
 use super::super::pings::reply_to;
 use super::places::name_places;
 use super::samples::sample_met;
+use super::without_version::{self, Line};
 use super::Met;
 use crate::choose::Form;
 use crate::filter::{judge_values, take_apart, ClauseName, Clauses};
@@ -29,6 +30,7 @@ pub fn add_cases(image: &[u8], request: &[&str], answer: &[&str], met: &mut Met)
         met.add(sample);
     }
     let room: usize = room.parse().ok()?;
+    without_version::add_cases(&Line { image, client, filter: &filter, room, answer }, met);
     if !["0", "19"].contains(number) {
         met.add_if(room < 30, format!("refused with {number}, little room"));
         met.add_if(room > 100, format!("refused with {number}, much room"));

@@ -2,6 +2,7 @@
 
 mod choosing;
 mod names;
+mod without_version;
 
 use super::chance::Chance;
 use super::elements::{and, equality, nested, version_6};
@@ -78,12 +79,19 @@ impl Pings<'_> {
         self.filter(client, &asked.filter());
     }
 
-    /// A ping with just the room it needs, and with one octet less.
+    /// A ping with just the room it needs, and with one octet less; a refused one with little room and with much.
+    fn tight(&mut self, client: [u8; 4], filter: &[u8]) {
+        let rooms = match self.length(client, filter) {
+            0 => [2, 128],
+            length => [length, length - 1],
+        };
+        for room in rooms {
+            self.requests.ping(client, filter, room);
+        }
+    }
+
     fn ask_tight(&mut self, client: [u8; 4], asked: &Asked) {
-        let filter = asked.filter();
-        let length = self.length(client, &filter);
-        self.requests.ping(client, &filter, length);
-        self.requests.ping(client, &filter, length.saturating_sub(1));
+        self.tight(client, &asked.filter());
     }
 }
 
@@ -103,6 +111,7 @@ fn add_bad_tables(pings: &mut Pings) {
         for filter in &filters[..2] {
             pings.filter(NO_CLIENT, filter);
         }
+        pings.ask_tight(NO_CLIENT, &Asked::default().with_user(b"ann"));
     }
     pings.table(&good);
     // A table line of another shape leaves the table that stands.
