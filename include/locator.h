@@ -28,7 +28,7 @@ extern "C" {
 #define LOCATOR_ASSERT(claim) _Static_assert(claim, #claim)
 #endif
 
-/* What a call returns. locator_answer_ping judges by 1 to 19 in this order. */
+/* What a call returns. locator_answer_ping judges by 1 to 9, then 11 to 19, in this order. */
 enum locator_number {
     LOCATOR_DONE = 0,
 
@@ -44,7 +44,6 @@ enum locator_number {
     LOCATOR_UNKNOWN_CLAUSE = 7,   /* a clause has another name than the eight */
     LOCATOR_DUPLICATE_CLAUSE = 8, /* two clauses have one name */
     LOCATOR_CLAUSE_VALUE = 9,     /* NtVer, AAC or User has no such value */
-    LOCATOR_NO_VERSION = 10,      /* no NtVer clause */
 
     /* the context asked for */
     LOCATOR_GUID_LENGTH = 11,       /* DomainGuid is not of 16 octets */
@@ -167,7 +166,7 @@ void locator_check(const uint8_t *octets, size_t length, struct locator_check *c
 /* Takes a filter apart into its clauses: 0, or 5 to 8. */
 uint8_t locator_take_apart(const uint8_t *filter, size_t filter_length, struct locator_request *request);
 
-/* Judges the values of a filter's clauses and gives the version asked: 0, or 9 or 10. */
+/* Judges the values of a filter's clauses and gives the version asked: 0, or 9. A filter without NtVer asks for version 1. */
 uint8_t locator_judge_values(const uint8_t *filter, size_t filter_length, const struct locator_request *request,
                              uint32_t *version);
 
@@ -179,7 +178,7 @@ uint8_t locator_write_filter(const uint8_t *source, size_t source_length, const 
                              uint8_t *out, size_t out_room, size_t *length);
 
 /*
- * Answers a client's ping from a table image: 0, or 1 to 19. The client is its IPv4 address in dotted order. The first
+ * Answers a client's ping from a table image: 0, or 1 to 9 or 11 to 19. The client is its IPv4 address in dotted order. The first
  * answer->length octets of reply are the reply; the rest stays as it was. LOCATOR_REPLY_MOST octets are room for every reply.
  */
 uint8_t locator_answer_ping(const uint8_t *image, size_t image_length, const uint8_t client[4], const uint8_t *filter,

@@ -1,4 +1,4 @@
-//! The answer numbers of document 01, "Answer numbers".
+//! The answer numbers of document 01, "Answer numbers", but for the one that #101 retired.
 
 /// Why a call refused, by the order in which the cases are judged.
 #[derive(Clone, Copy, Debug, PartialEq, Eq)]
@@ -12,7 +12,6 @@ pub enum Refusal {
     UnknownClause,
     DuplicateClause,
     ClauseValue,
-    NoVersion,
     GuidLength,
     GuidNotHeld,
     DnsDomainEmpty,
@@ -37,7 +36,6 @@ impl Refusal {
             Refusal::UnknownClause => 7,
             Refusal::DuplicateClause => 8,
             Refusal::ClauseValue => 9,
-            Refusal::NoVersion => 10,
             Refusal::GuidLength => 11,
             Refusal::GuidNotHeld => 12,
             Refusal::DnsDomainEmpty => 13,

@@ -85,7 +85,7 @@ pub struct Choice<'a> {
     pub next_closest_site: Option<Site<'a>>,
 }
 
-/// Chooses the answer to a filter whose values passed 9 and 10: refusals 11 to 18, in that order.
+/// Chooses the answer to a filter whose values passed 9: refusals 11 to 18, in that order.
 pub fn choose<'a>(
     table: &Table<'a>,
     client: ClientAddress,

@@ -5,6 +5,8 @@ use crate::octets::{equal_folded, is_user_text, u16_big_endian_at, u32_whole};
 
 pub const LONGEST_FILTER: usize = 2048;
 const DEEPEST_AND: usize = 4;
+/// What an absent NtVer reads as (#101).
+const VERSION_WITHOUT_NT_VER: u32 = 1;
 
 const TAG_AND: u8 = 0xA0;
 const TAG_EQUALITY: u8 = 0xA3;
@@ -117,17 +119,15 @@ pub fn take_apart(filter: &[u8]) -> Result<Clauses<'_>, Refusal> {
     Ok(clauses)
 }
 
-/// Judges the values of all clauses by 9, then by 10, and gives the version asked for.
+/// Judges the values of all clauses by 9, and gives the version asked for.
 pub fn judge_values(clauses: &Clauses) -> Result<u32, Refusal> {
-    let four_octets = |value: Option<&[u8]>| value.is_none_or(|octets| octets.len() == 4);
-    let good = four_octets(clauses.nt_ver) && four_octets(clauses.aac) && clauses.user.is_none_or(is_user_text);
-    require(good, Refusal::ClauseValue)?;
-    version_asked(clauses).ok_or(Refusal::NoVersion)
+    let others_good = clauses.aac.is_none_or(|octets| octets.len() == 4) && clauses.user.is_none_or(is_user_text);
+    version_asked(clauses).filter(|_| others_good).ok_or(Refusal::ClauseValue)
 }
 
-/// The version bits v of values that passed 9; none without NtVer.
+/// The version bits v; none where NtVer is there and not of four octets.
 fn version_asked(clauses: &Clauses) -> Option<u32> {
-    clauses.nt_ver.and_then(u32_whole)
+    clauses.nt_ver.map_or(Some(VERSION_WITHOUT_NT_VER), u32_whole)
 }
 
 /// The equalities in filter order; none where the filter is not of the shape.
@@ -291,9 +291,8 @@ mod tests {
     }
 
     #[test]
-    fn values_give_9_over_all_clauses_and_then_10() {
-        for nt_ver in [None, Some(&[6, 0, 0, 0][..])] {
-            let version = nt_ver.map(|_| 6).ok_or(Refusal::NoVersion);
+    fn values_give_9_over_all_clauses() {
+        for (nt_ver, version) in [(None, Ok(1)), (Some(&[6, 0, 0, 0][..]), Ok(6))] {
             let rest = Clauses { nt_ver, ..Clauses::default() };
             let wrong = Err(Refusal::ClauseValue);
             assert_eq!(judge_values(&rest), version);

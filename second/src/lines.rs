@@ -385,7 +385,7 @@ mod tests {
         assert_eq!(answer("a016a30904054e745665720400a30904054e747665720400"), "values 8 00000000\n");
         assert_eq!(answer("a30904054e745665720400"), "values 9 00000000\n");
         assert_eq!(answer("a309040455736572040100"), "values 9 00000000\n");
-        assert_eq!(answer("a3080404557365720400"), "values 10 00000000\n");
+        assert_eq!(answer("a3080404557365720400"), "values 0 00000001\n");
         for other in ["", ".", "=", "a3 ", "A3", "- -"] {
             assert_eq!(answer(other), "?\n");
         }

@@ -36,15 +36,16 @@ fn main() -> ExitCode {
 }
 
 /// Makes the stored lines, and writes them below a folder or shows what they cover; fails where a required case is
-/// met by no line.
+/// met by no line, or an answer has the retired number.
 fn generate_vectors(folder: Option<&Path>) -> io::Result<()> {
     let coverage = generate::generate(folder)?;
     if folder.is_none() {
         stdout().write_all(coverage.text().as_bytes())?;
     }
-    match coverage.missing().as_slice() {
-        [] => Ok(()),
-        missing => Err(io::Error::other(format!("no stored line meets:\n{}", missing.join("\n")))),
+    match (coverage.missing().as_slice(), coverage.retired_answers()) {
+        ([], 0) => Ok(()),
+        ([], answers) => Err(io::Error::other(format!("{answers} stored answers have the retired number"))),
+        (missing, _) => Err(io::Error::other(format!("no stored line meets:\n{}", missing.join("\n")))),
     }
 }
 

@@ -166,7 +166,7 @@ fn three_contexts() -> Image {
 }
 
 #[test]
-fn refusals_1_to_10_in_order() {
+fn refusals_1_to_9_in_order() {
     let client = ClientAddress::from_octets([0; 4]);
     let answered = |image: &[u8], filter: &[u8]| {
         answer_ping(image, client, filter, &mut [0; ROOM]).map_or_else(Refusal::number, |_| 0)
@@ -187,8 +187,63 @@ fn refusals_1_to_10_in_order() {
     assert_eq!(answered(&good, b"\xA0\x14\xA3\x08\x04\x04User\x04\x00\xA3\x08\x04\x04uSER\x04\x00"), 8);
     let base = Image::base();
     assert_eq!(number(&base, &Clauses { user: Some(&[0x80]), ..Clauses::default() }), 9);
-    assert_eq!(number(&base, &Clauses { nt_ver: Some(&[]), ..Clauses::default() }), 9);
-    assert_eq!(number(&base, &Clauses { user: Some(b"a"), ..Clauses::default() }), 10);
+    for length in [0, 3, 5] {
+        assert_eq!(number(&base, &version(&[1, 0, 0, 0, 0][..length])), 9);
+    }
+}
+
+/// Clauses other than NtVer, good and bad, in every way that 11 to 17 or a user can come by.
+fn clauses_without_version() -> Vec<Clauses<'static>> {
+    let none = Clauses::default();
+    let texts: [Option<&[u8]>; 4] = [Some(b""), Some(b"LAB.example"), Some(b"none"), Some(b"corp.example")];
+    let sids: [Option<&[u8]>; 3] = [Some(b""), Some(&[1, 0, 0, 0, 0, 0, 0, 5]), Some(&[1, 0, 0, 0, 0, 0, 0, 6])];
+    let users: [Option<&[u8]>; 5] = [Some(b""), Some(b"ANN"), Some(b"a..b"), Some(&[0x80]), Some(&[b'a'; 64])];
+    let aacs: [Option<&[u8]>; 3] = [Some(b""), Some(&[0x10, 0, 0, 0]), Some(&[0xFF; 5])];
+    let mut found = vec![Clauses { host: Some(b""), ..none }, Clauses { dns_host_name: Some(b"h"), ..none }];
+    found.extend(texts.map(|dns_domain| Clauses { dns_domain, ..none }));
+    found.extend(sids.map(|domain_sid| Clauses { domain_sid, dns_domain: texts[1], ..none }));
+    found.extend(sids.map(|domain_sid| Clauses { domain_sid, ..none }));
+    found.extend([&[][..], &[0; 16], &[9; 17]].map(|octets| Clauses { domain_guid: Some(octets), ..none }));
+    found.extend(users.map(|user| Clauses { user, ..none }));
+    found.extend(users.map(|user| Clauses { user, aac: aacs[1], ..none }));
+    found.extend(aacs.map(|aac| Clauses { aac, ..none }));
+    found
+}
+
+#[test]
+fn an_absent_nt_ver_is_version_1() {
+    let mut images = vec![Image::base(), three_contexts(), two_sites()];
+    for (roles, state) in (0..16).flat_map(|state| [0, 1, 0x200, 0xFFF].map(|roles| (roles, state))) {
+        images.push(Image::small(&ServerBlock { roles, state, ..ServerBlock::default() }));
+    }
+    for image in &images {
+        for clauses in clauses_without_version() {
+            let answer = ping(image, &clauses);
+            assert_eq!(answer, ping(image, &Clauses { nt_ver: Some(&[1, 0, 0, 0]), ..clauses }));
+            assert!(answer.is_ok_and(|(_, form)| form == Form::Nt40) || number(image, &clauses) != 0);
+        }
+    }
+}
+
+/// The form is NT40, so that 18 is not among them.
+#[test]
+fn without_nt_ver_9_and_11_to_17_are_given() {
+    let image = three_contexts();
+    let mut numbers: Vec<u8> = clauses_without_version().iter().map(|clauses| number(&image, clauses)).collect();
+    numbers.sort();
+    numbers.dedup();
+    assert_eq!(numbers, [0, 9, 11, 12, 13, 14, 15, 16, 17]);
+}
+
+#[test]
+fn without_nt_ver_every_pause_holds_back() {
+    let host = Clauses { host: Some(b"h"), ..Clauses::default() };
+    for (roles, state) in [(1, 7), (0, 7), (1, 4), (1, 2), (0, 2), (1, 14)] {
+        let image = Image::small(&ServerBlock { roles, state, ..ServerBlock::default() });
+        assert_eq!(opcode(&image, &host), 20, "{roles} {state}");
+    }
+    assert_eq!(opcode(&Image::base(), &host), 19);
+    assert_eq!(opcode(&Image::base(), &Clauses { user: Some(b"ann"), ..Clauses::default() }), 21);
 }
 
 #[test]

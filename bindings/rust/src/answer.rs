@@ -65,7 +65,7 @@ impl<'image> Table<'image> {
         }
     }
 
-    /// Answers a client's ping, or refuses it by 5 to 19. The image is not judged again.
+    /// Answers a client's ping, or refuses it by 5 to 9 or 11 to 19. The image is not judged again.
     pub fn answer(&self, client: Ipv4Addr, filter: &[u8], reply: &mut [u8]) -> Result<Answer, Refusal> {
         Answer::of(self.image.answer_ping(client.octets(), filter, reply))
     }
@@ -81,7 +81,7 @@ pub fn judge(image: &[u8]) -> Result<(), Refusal> {
     Refusal::of(ffi::judge(image))
 }
 
-/// Answers a client's ping from a table image of any octets, which is judged first; or refuses it by 1 to 19.
+/// Answers a client's ping from a table image of any octets, which is judged first; or refuses it by 1 to 9 or 11 to 19.
 /// Who answers more than one ping from an image makes a [`Table`] of it.
 pub fn answer_ping(image: &[u8], client: Ipv4Addr, filter: &[u8], reply: &mut [u8]) -> Result<Answer, Refusal> {
     Answer::of(ffi::answer_ping(image, client.octets(), filter, reply))

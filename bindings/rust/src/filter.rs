@@ -69,7 +69,7 @@ pub fn take_apart(filter: &[u8]) -> Result<Request, Refusal> {
     Ok(Request::of(&request))
 }
 
-/// The version that a filter's clauses ask for, or 9 or 10 by their values.
+/// The version that a filter's clauses ask for, or 9 by their values. Without NtVer it is 1.
 pub fn judge_values(filter: &[u8], request: &Request) -> Result<u32, Refusal> {
     let (number, version) = ffi::judge_values(filter, &request.members());
     Refusal::of(number)?;

@@ -25,8 +25,6 @@ pub enum Refusal {
     DuplicateClause = 8,
     /// NtVer, AAC or User has no such value.
     ClauseValue = 9,
-    /// There is no NtVer clause.
-    NoVersion = 10,
     /// DomainGuid is not of 16 octets.
     GuidLength = 11,
     /// No context has the DomainGuid.
@@ -58,7 +56,7 @@ pub enum Refusal {
 }
 
 /// Each refusal, with its meaning.
-const MEANINGS: [(Refusal, &str); 24] = [
+const MEANINGS: [(Refusal, &str); 23] = [
     (Refusal::ImageLength, "the image is not 2 to 128 whole blocks"),
     (Refusal::BlockCheck, "a block's check is wrong"),
     (Refusal::BlockLayout, "a block's layout is wrong"),
@@ -68,7 +66,6 @@ const MEANINGS: [(Refusal, &str); 24] = [
     (Refusal::UnknownClause, "a clause has an unknown name"),
     (Refusal::DuplicateClause, "two clauses have one name"),
     (Refusal::ClauseValue, "NtVer, AAC or User has no such value"),
-    (Refusal::NoVersion, "there is no NtVer clause"),
     (Refusal::GuidLength, "DomainGuid is not of 16 octets"),
     (Refusal::GuidNotHeld, "no context has the DomainGuid"),
     (Refusal::DnsNameEmpty, "DnsDomain is empty"),

@@ -188,7 +188,7 @@ fn what_is_written_is_taken_apart_again() {
     assert_eq!(taken.domain_guid.unwrap().octets(&filter), Some(&[7; 16][..]));
     assert_eq!((taken.dns_domain, taken.aac), (None, None));
     assert_eq!(judge_values(&filter, &taken), Ok(0x0102_0304));
-    assert_eq!(judge_values(&filter, &Request { nt_ver: None, ..taken }), Err(Refusal::NoVersion));
+    assert_eq!(judge_values(&filter, &Request { nt_ver: None, ..taken }), Ok(1));
     assert_eq!(take_apart(&[0; FILTER_MOST + 1]), Err(Refusal::FilterLength));
 }
 

@@ -1,3 +1,4 @@
 pub mod Refusal
+pub mod Retired
 pub mod Try
 pub mod Wire

@@ -3,7 +3,7 @@ use mathlib.Core.Path.{_≡_}
 use Prim.Native.Nat.{ℕ}
 use Rattle.answers.specs.declared.Refusal.{Refusal}
 use Rattle.answers.specs.declared.Refusal.the-variants.{ImageLength, BlockCheck, BlockLayout, TableWhole}
-use Rattle.answers.specs.declared.Refusal.the-variants.{FilterLength, FilterShape, UnknownClause, DuplicateClause, ClauseValue, NoVersion}
+use Rattle.answers.specs.declared.Refusal.the-variants.{FilterLength, FilterShape, UnknownClause, DuplicateClause, ClauseValue}
 use Rattle.answers.specs.declared.Refusal.the-variants.{GuidLength, GuidNotHeld, DnsNameEmpty, DnsNameNotHeld}
 use Rattle.answers.specs.declared.Refusal.the-variants.{SidShape, SidNotHeld, SidOfAnother, UserLabelEmpty, NoRoom}
 use Rattle.answers.specs.declared.Refusal.the-variants.{ReplyCut, ReplyOpcode, ReplyText, ReplyFixed, ReplyLeftOver}
@@ -18,7 +18,6 @@ number FilterShape = 6
 number UnknownClause = 7
 number DuplicateClause = 8
 number ClauseValue = 9
-number NoVersion = 10
 number GuidLength = 11
 number GuidNotHeld = 12
 number DnsNameEmpty = 13

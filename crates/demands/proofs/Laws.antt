@@ -3,6 +3,7 @@ pub mod Reading
 pub mod Demand1
 pub mod Derivation
 pub mod Sound
+pub mod WithoutVersion
 pub mod Forms
 pub mod ReplyLaw
 pub mod Demand2Calls

@@ -53,13 +53,13 @@ abbrev pub ForFilter : ℕ → Type 0
 ForFilter = FromTo 5 8
 
 abbrev pub ForValues : ℕ → Type 0
-ForValues = FromTo 9 10
+ForValues = FromTo 9 9
 
 abbrev pub ForWriting : ℕ → Type 0
 ForWriting = OneOf (6 ∷ 5 ∷ 19 ∷ [])
 
 abbrev pub ForPing : ℕ → Type 0
-ForPing = FromTo 1 19
+ForPing n = within 1 9 n || within 11 19 n ≡ true
 
 abbrev pub ForReply : ℕ → Type 0
 ForReply = FromTo 31 35
@@ -68,7 +68,7 @@ abbrev pub ForName : ℕ → Type 0
 ForName = OneOf (31 ∷ 33 ∷ [])
 
 abbrev pub ForAny : ℕ → Type 0
-ForAny n = within 1 19 n || within 31 35 n ≡ true
+ForAny n = within 1 9 n || within 11 19 n || within 31 35 n ≡ true
 
 pub record Demand1 : Type 0 where
   -- it refuses nothing, and has its field to make the list whole

@@ -1,5 +1,6 @@
 pub mod Calls
 pub mod Demand1
+pub mod WithoutVersion
 pub mod Derivation
 pub mod ReplyLaw
 pub mod Demand2Calls

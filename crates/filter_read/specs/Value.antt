@@ -1,14 +1,15 @@
--- Document 01, "Answer numbers" 9 and 10: the values of a request's clauses, judged over the whole filter.
+-- Document 01, "Answer numbers" 9: the values of a request's clauses, judged over the whole filter. Document 02, #101: the version asked.
 use mathlib.Core.Path.{_≡_}
 use mathlib.Core.Bool.{Bool, not, _||_}
 use mathlib.Core.List.{List}
-use mathlib.Core.Option.{Option, none, some, Option·map, Option·getD}
+use mathlib.Core.Option.{Option, Option·map, Option·getD}
 use Prim.Native.Nat.{ℕ}
 use lib.Dec.{eqb}
 use lib.ListN.{length}
-use Rattle.answers.specs.declared.Refusal.the-variants.{ClauseValue, NoVersion}
+use Rattle.answers.specs.declared.Refusal.the-variants.{ClauseValue}
 use Rattle.answers.specs.Refusal.{number}
 use Rattle.answers.specs.Try.{Try, refused, good, refusedIf, _>>=_}
+use Rattle.answers.specs.Wire.{NETLOGON-NT-VERSION-1}
 use Rattle.octets.specs.Lists.{holds}
 use Rattle.octets.specs.Number.{little}
 use Rattle.unicode.specs.UserName.{isUserName}
@@ -38,9 +39,9 @@ wrongValue s r =
     || holds (λ x. not (isNumber x)) (octetsOf s (r .«aac»))
     || holds (λ x. not (isUserName x)) (octetsOf s (r .«user»))
 
--- the version asked, where there is one
-unfoldable pub versionAsked : List ℕ → Request → Option ℕ
-versionAsked s r = Option·map little (octetsOf s (r .«nt_ver»))
+-- the version asked: the number of NtVer, and 1 where it is absent
+unfoldable pub versionAsked : List ℕ → Request → ℕ
+versionAsked s r = Option·getD (Option·map little (octetsOf s (r .«nt_ver»))) NETLOGON-NT-VERSION-1
 
 abbrev pub pingOf : List ℕ → Request → ℕ → Ping
 pingOf s r v =
@@ -53,15 +54,10 @@ pingOf s r v =
       version = v;
     }
 
--- 10: no NtVer
-abbrev pub withVersion : List ℕ → Request → Option ℕ → Try Ping
-withVersion s r none = refused NoVersion
-withVersion s r (some v) = good (pingOf s r v)
-
 unfoldable pub pingIn : List ℕ → Request → Try Ping
-pingIn s r = refusedIf (wrongValue s r) ClauseValue (withVersion s r (versionAsked s r))
+pingIn s r = refusedIf (wrongValue s r) ClauseValue (good (pingOf s r (versionAsked s r)))
 
--- 5 to 10: the ping of a filter
+-- 5 to 9: the ping of a filter
 unfoldable pub pingFrom : List ℕ → Try Ping
 pingFrom filter = do
   r ← requestIn filter

@@ -1,4 +1,4 @@
-// A filter, read: document 01, "The filter" and "Answer numbers" 5 to 10.
+// A filter, read: document 01, "The filter" and "Answer numbers" 5 to 9.
 pub mod ping;
 pub mod read;
 pub mod value;

@@ -26,7 +26,7 @@ pub struct RawPing {
     pub version: u32,
 }
 
-// What reading a filter gives: its ping, or 5 to 10.
+// What reading a filter gives: its ping, or 5 to 9.
 pub enum PingRead {
     Ping(RawPing),
     Refused(Refusal),

@@ -8,13 +8,14 @@ ghost use Rattle.filter.specs.Request.{octetsOf};
 ghost use Rattle.filter_read.specs.Value.{isNumber, judgedNumber, judgedVersion, JudgeValuesPromise};
 use answers::Refusal;
 use answers::number_of;
+use answers::wire::NETLOGON_NT_VERSION_1;
 use filter::request::Clause;
 use filter::request::Request;
 use octets::number::u32_at;
 use octets::part::part;
 use unicode::user_name::is_user_name;
 
-// What judging a request's values gives: the version asked for, or 9 or 10.
+// What judging a request's values gives: the version asked for, or 9.
 pub enum Judged {
     Version(u32),
     Refused(Refusal),
@@ -73,7 +74,7 @@ fn is_wrong_user(s: &[u8], clause: Clause) -> bool
     !is_user_name(value)
 }
 
-// The values of a request: 9 over the whole filter, then 10, else the version asked for.
+// The values of a request: 9 over the whole filter, else the version asked for, 1 where none is given.
 pub fn judge_values(s: &[u8], request: Request) -> Judged
     ensures { λ r. ⌜ JudgeValuesPromise (now (s .entry)) request r ⌝ }
 {
@@ -90,7 +91,7 @@ pub fn judge_values(s: &[u8], request: Request) -> Judged
         return Judged::Refused(Refusal::ClauseValue);
     }
     let Clause::Present { start, len } = nt_ver else {
-        return Judged::Refused(Refusal::NoVersion);
+        return Judged::Version(NETLOGON_NT_VERSION_1);
     };
     Judged::Version(clause_number(s, start, len))
 }

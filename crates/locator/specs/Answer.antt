@@ -1,5 +1,5 @@
 -- Document 01, "Answer numbers": the answer in three layers, and the whole as one function of table image, caller, filter and room. The first layer, the
--- table of an image (1 to 4), is `tableIn`, the second, the ping of a filter (5 to 10), is `pingFrom`.
+-- table of an image (1 to 4), is `tableIn`, the second, the ping of a filter (5 to 9), is `pingFrom`.
 use Rattle.octets.specs.Buffer.{over}
 use mathlib.Core.Path.{_≡_}
 use mathlib.Core.Bool.{Bool, true, false, _&&_}

@@ -13,17 +13,16 @@ fn say_table_refusal(number: u8) {
     }
 }
 
-// 5 to 10.
+// 5 to 9.
 fn say_filter_refusal(number: u8) {
     match number {
         5 => say(b"the filter is over 2,048 octets long"),
         6 => say(b"the filter is not of the shape that is read"),
         7 => say(b"the filter has a clause of another name"),
         8 => say(b"the filter has a clause twice"),
-        9 => say(
+        _ => say(
             b"NtVer or AAC is not 4 octets, or User is over 63, not UTF-8 or has a zero octet",
         ),
-        _ => say(b"the filter has no NtVer"),
     }
 }
 
@@ -54,7 +53,7 @@ fn say_reply_refusal(number: u8) {
 fn say_refusal(number: u8) {
     match number {
         0..=4 => say_table_refusal(number),
-        5..=10 => say_filter_refusal(number),
+        5..=9 => say_filter_refusal(number),
         11..=17 => say_context_refusal(number),
         18 => say(b"the reply would be EX, and a part of User between dots is empty"),
         19 => say(b"the reply is longer than the buffer"),

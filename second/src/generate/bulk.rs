@@ -143,11 +143,12 @@ impl Lines<'_> {
     }
 }
 
-/// Clauses that suit the table, but for some of them here and there; clauses by chance alone; or none.
+/// Clauses that suit the table, but for some of them here and there, or for NtVer; clauses by chance alone; or none.
 fn asked(chance: &mut Chance, table: &Sample) -> Asked {
     let asked = table.asked(chance);
     match chance.below(50) {
-        0..=32 => asked,
+        0..=30 => asked,
+        31..=32 => asked.without(ClauseName::NtVer),
         33..=34 => random_asked(chance),
         35..=36 => asked.with_user(chance.pick(&["a..b", ".a", "a.", ".", ""]).as_bytes()),
         37 => asked.with(ClauseName::Host, &vec![b'h'; 1900 + chance.below(200)]),
@@ -161,7 +162,7 @@ fn asked(chance: &mut Chance, table: &Sample) -> Asked {
     }
 }
 
-/// Values that are refused with 9 to 18, on most tables.
+/// Values that are refused with 9 or with 11 to 18, on most tables.
 const WRONG: [(ClauseName, &[u8]); 10] = [
     (ClauseName::NtVer, b""),
     (ClauseName::DomainGuid, b"short"),
@@ -299,9 +300,22 @@ mod tests {
         coverage
     }
 
+    fn assert_pings_without_version(coverage: &Coverage) {
+        for number in (1..=9).chain(11..=17) {
+            let refused = ["little", "much"].map(|room| format!("no NtVer: refused with {number}, {room} room"));
+            assert!(refused.iter().any(|case| coverage.count(case) != 0), "{number}");
+        }
+        for (case, times) in [("NT4 wanted", 50), ("NT4 not wanted", 500), ("room of one octet less", 100)] {
+            let count = coverage.count(&format!("no NtVer: {case}"));
+            assert!(count >= times, "{case} {count}");
+        }
+    }
+
+    /// By as many lines as the gate puts through both programs, and from the same seed.
     #[test]
     fn pings_meet_their_cases_and_replies_every_number() {
-        let coverage = observed(60_000);
+        let coverage = observed(150_000);
+        assert_pings_without_version(&coverage);
         let missing: Vec<String> = required_numbers()
             .into_iter()
             .chain(required_of_pings())

@@ -111,6 +111,16 @@ mod tests {
     }
 
     #[test]
+    fn no_stored_answer_has_the_retired_number() {
+        let coverage = generate(None).unwrap();
+        assert_eq!(coverage.retired_answers(), 0);
+        let answers = String::from_utf8(stored().answers).unwrap();
+        let number = coverage::RETIRED_NUMBER.to_string();
+        let numbered = answers.lines().filter(|answer| !answer.starts_with("check ") && !answer.starts_with("walk "));
+        assert!(numbered.flat_map(|answer| answer.split(' ').nth(1)).all(|given| given != number));
+    }
+
+    #[test]
     fn without_lines_every_required_case_is_missing() {
         assert_eq!(Coverage::default().missing(), coverage::required());
     }

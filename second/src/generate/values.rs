@@ -1,4 +1,4 @@
-//! Values lines: the version asked, refusals 9 and 10, and 5 to 8 before them.
+//! Values lines: the version asked, refusal 9, and 5 to 8 before it.
 
 use super::chance::Chance;
 use super::elements::{and, element_with, equality, nested, version_6, AND, EQUALITY, LENGTH_FORMS, STRING};

@@ -10,6 +10,9 @@ module _ {A : Type 0} where
   pub refused-not-good : (r : Refusal) (a : A) → refused r ≡ good a → ⊥
   refused-not-good r a e = let z : _≡_ {A = ℕ} 0 1 = cc in omega arith
 
+  pub good-same : {a b : A} → good a ≡ good b → a ≡ b
+  good-same e = cc
+
   -- not refused: the test failed, and what followed was good
   pub refusedIf-good : (b : Bool) (r : Refusal) (rest : Try A) (a : A) → refusedIf b r rest ≡ good a → (b ≡ false) × (rest ≡ good a)
   refusedIf-good true r rest a e = absurd (refused-not-good r a e)

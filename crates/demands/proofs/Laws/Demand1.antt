@@ -6,7 +6,7 @@ use Prim.Native.Nat.{ℕ}
 use lib.ListN.{length, take}
 use Rattle.answers.specs.declared.Refusal.{Refusal}
 use Rattle.answers.specs.declared.Refusal.the-variants.{ImageLength, BlockCheck, BlockLayout, TableWhole}
-use Rattle.answers.specs.declared.Refusal.the-variants.{FilterLength, FilterShape, UnknownClause, DuplicateClause, ClauseValue, NoVersion}
+use Rattle.answers.specs.declared.Refusal.the-variants.{FilterLength, FilterShape, UnknownClause, DuplicateClause, ClauseValue}
 use Rattle.answers.specs.declared.Refusal.the-variants.{GuidLength, GuidNotHeld, DnsNameEmpty, DnsNameNotHeld}
 use Rattle.answers.specs.declared.Refusal.the-variants.{SidShape, SidNotHeld, SidOfAnother, UserLabelEmpty, NoRoom}
 use Rattle.answers.specs.declared.Refusal.the-variants.{ReplyCut, ReplyOpcode, ReplyText, ReplyFixed, ReplyLeftOver}
@@ -21,7 +21,7 @@ use Rattle.filter_read.specs.declared.read.Taken.the-variants as taken
 use Rattle.filter_read.specs.declared.value.Judged.{Judged}
 use Rattle.filter_read.specs.declared.value.Judged.the-variants as judged
 use Rattle.filter_read.specs.Taken.{judgedClauses, requestIn, takenAs, takenNumber}
-use Rattle.filter_read.specs.Value.{Ping, withVersion, versionAsked, pingIn, pingFrom, judgedValues, judgedNumber}
+use Rattle.filter_read.specs.Value.{Ping, pingIn, pingFrom, judgedValues, judgedNumber}
 use Rattle.filter_write.specs.declared.write.Written.{Written}
 use Rattle.filter_write.specs.declared.write.Written.the-variants as written
 use Rattle.filter_write.specs.Write.{filterFor, writtenAs, writtenOctets, writtenLength, writtenNumber}
@@ -70,13 +70,9 @@ module _ (P : Refusal → Type 0) where
       clauses none = b
       clauses (some fs) = search (only-if P)
 
-  ping-only : P ClauseValue → P NoVersion → (s : List ℕ) (r : Request) → Only P Any (pingIn s r)
+  ping-only : P ClauseValue → (s : List ℕ) (r : Request) → Only P Any (pingIn s r)
   unfolding pingIn
-  ping-only a b s r = search (only-if P, version (versionAsked s r))
-    where
-      version : (o : Option ℕ) → Only P Any (withVersion s r o)
-      version none = b
-      version (some v) = tt
+  ping-only a s r = search (only-if P)
 
   filter-only : P FilterShape → P FilterLength → P NoRoom → (source : List ℕ) (r : Request) (room : ℕ) → Only P Any (filterFor source r room)
   unfolding filterFor
@@ -99,7 +95,7 @@ answer-only : (image : List ℕ) (caller : Caller) (filter : List ℕ) (room : �
 unfolding answerTo pingFrom answerOver
 answer-only image caller filter room =
     only-then (By ForPing) Any (tableIn image) _ (table-only (By ForPing) refl refl refl refl image) (λ t.
-    only-then (By ForPing) Any (pingFrom filter) _ (only-then (By ForPing) Any (requestIn filter) _ (request-only (By ForPing) refl refl refl refl filter) (ping-only (By ForPing) refl refl filter)) (λ p.
+    only-then (By ForPing) Any (pingFrom filter) _ (only-then (By ForPing) Any (requestIn filter) _ (request-only (By ForPing) refl refl refl refl filter) (ping-only (By ForPing) refl filter)) (λ p.
     only-then (By ForPing) Any (contextIn t p) _ (context-only (By ForPing) refl refl refl refl refl refl refl refl t p) (reply-only (By ForPing) refl refl t caller p room)))
 
 -- ---- the calls
@@ -115,7 +111,6 @@ number-known FilterShape = refl
 number-known UnknownClause = refl
 number-known DuplicateClause = refl
 number-known ClauseValue = refl
-number-known NoVersion = refl
 number-known GuidLength = refl
 number-known GuidNotHeld = refl
 number-known DnsNameEmpty = refl
@@ -147,7 +142,7 @@ demand-1 =
       «judge_values» =
           λ filter request j r p e.
           subst (λ (x : Judged). ForValues (judgedNumber x)) (sym e) (
-          only-returned judgedValues judged.Refused (λ q r h. cc) (λ a r h. cc) (By ForValues) Any (pingIn filter request) (ping-only (By ForValues) refl refl filter request) j r p e .0);
+          only-returned judgedValues judged.Refused (λ q r h. cc) (λ a r h. cc) (By ForValues) Any (pingIn filter request) (ping-only (By ForValues) refl filter request) j r p e .0);
       «write_filter» =
           λ source request before after w r p e.
           let t : Try (List ℕ) = filterFor source request (length before) in

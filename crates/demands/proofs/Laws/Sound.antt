@@ -13,7 +13,7 @@ use Rattle.answers.specs.declared.Form.the-variants.{Ex}
 use Rattle.answers.specs.declared.Refusal.the-variants.{GuidLength, GuidNotHeld, DnsNameEmpty, DnsNameNotHeld, SidShape, SidNotHeld, SidOfAnother, UserLabelEmpty, NoRoom, TableWhole}
 use Rattle.answers.specs.Try.{good}
 use Rattle.answers.specs.Wire.{NETLOGON-NT-VERSION-5EX-WITH-IP, NETLOGON-NT-VERSION-WITH-CLOSEST-SITE, opcodesOf}
-use Rattle.answers.proofs.Laws.Try.{refusedIf-good, good-then, refused-not-good}
+use Rattle.answers.proofs.Laws.Try.{refusedIf-good, good-same, good-then, refused-not-good}
 use Rattle.filter_read.specs.Value.{Ping}
 use Rattle.unicode.specs.UserName.{isUserName}
 use Rattle.unicode.proofs.Laws.UserName.{user-name-short, user-name-spoken}
@@ -215,8 +215,9 @@ reply-sound t caller p c form g k u w =
 pub record Replied (t : Table) (caller : Caller) (p : Ping) (c : Context) (a : Outcome) : Type 0 where
   pub octets : a .octets ≡ octetsIn (a .form) (replyFor t caller p c (a .form))
   pub user : wrongUser (a .form) p ≡ false
+  pub form : a .form ≡ formOf (t .server) (p .version)
 
-replied : (t : Table) (caller : Caller) (p : Ping) (room : ℕ) (c : Context) (a : Outcome) → replyTo t caller p room c ≡ good a → Replied t caller p c a
+pub replied : (t : Table) (caller : Caller) (p : Ping) (room : ℕ) (c : Context) (a : Outcome) → replyTo t caller p room c ≡ good a → Replied t caller p c a
 unfolding replyTo
 replied t caller p room c a e =
     let form : Form = formOf (t .server) (p .version) in
@@ -225,10 +226,7 @@ replied t caller p room c a e =
     let b = refusedIf-good (wrongUser form p) UserLabelEmpty _ a e in
     let d = refusedIf-good (ltb room (length octets)) NoRoom _ a (b .1) in
     let q : good whole ≡ good a = d .1 in
-    subst (Replied t caller p c) (same whole a q) (record { octets = refl; user = b .0 })
-  where
-    same : (x y : Outcome) → good x ≡ good y → x ≡ y
-    same x y q = cc
+    subst (Replied t caller p c) (good-same q) (record { octets = refl; user = b .0; form = refl })
 
 module _ {t : Table} {caller : Caller} {p : Ping} {room : ℕ} {a : Outcome} (d : Derivation t caller p room a) where
   said-octets : a .octets ≡ octetsIn (a .form) (said d)

@@ -2,13 +2,13 @@
 use mathlib.Core.Path.{_≡_, refl, sym, ap, subst}
 use mathlib.Core.Bool.{Bool, true, false, not, _||_}
 use mathlib.Core.List.{List}
-use mathlib.Core.Option.{Option, none, some}
+use mathlib.Core.Option.{Option}
 use Prim.Native.Nat.{ℕ}
 use native.Mathlib.Omega.{arith}
 use Rattle.answers.specs.declared.Refusal.{Refusal}
-use Rattle.answers.specs.declared.Refusal.the-variants.{ClauseValue, NoVersion}
+use Rattle.answers.specs.declared.Refusal.the-variants.{ClauseValue}
 use Rattle.answers.specs.Try.{Try, refused, good, refusedIf}
-use Rattle.answers.proofs.Laws.Try.{refusedIf-good, refused-not-good, good-then}
+use Rattle.answers.proofs.Laws.Try.{refusedIf-good, good-same, good-then}
 use Rattle.octets.specs.Lists.{holds}
 use Rattle.octets.proofs.Laws.Lists.{neither-right}
 use Rattle.unicode.specs.UserName.{isUserName}
@@ -17,21 +17,20 @@ use Rattle.filter.specs.Request.{octetsOf}
 use Rattle.filter_read.specs.declared.read.Taken.the-variants as taken
 use Rattle.filter_read.specs.declared.value.Judged.the-variants as judged
 use Rattle.filter_read.specs.Taken.{requestIn, takenAs}
-use Rattle.filter_read.specs.Value.{Ping, isNumber, wrongValue, versionAsked, pingOf, withVersion, pingIn, pingFrom, judgedValues}
+use Rattle.filter_read.specs.Value.{Ping, isNumber, wrongValue, versionAsked, pingOf, pingIn, pingFrom, judgedValues}
 
 -- a version: 9 found nothing, and the ping has that version
 pub version-judged : (s : List ℕ) (r : Request) (v : ℕ) → judged.Version v ≡ judgedValues (pingIn s r) → (wrongValue s r ≡ false) × (pingIn s r ≡ good (pingOf s r v))
 unfolding pingIn
-version-judged s r v e = go (wrongValue s r) (versionAsked s r) refl e
+version-judged s r v e = go (wrongValue s r) refl e
   where
     never : (x : Refusal) → judged.Version v ≡ judged.Refused x → ⊥
     never x q = let z : _≡_ {A = ℕ} 0 1 = cc in omega arith
 
-    go : (b : Bool) (o : Option ℕ) → wrongValue s r ≡ b → judged.Version v ≡ judgedValues (refusedIf b ClauseValue (withVersion s r o))
-        → (wrongValue s r ≡ false) × (refusedIf b ClauseValue (withVersion s r o) ≡ good (pingOf s r v))
-    go true o q k = absurd (never ClauseValue k)
-    go false none q k = absurd (never NoVersion k)
-    go false (some w) q k = let z : v ≡ w = cc in (q, ap (λ (n : ℕ). good (pingOf s r n)) (sym z))
+    go : (b : Bool) → wrongValue s r ≡ b → judged.Version v ≡ judgedValues (refusedIf b ClauseValue (good (pingOf s r (versionAsked s r))))
+        → (wrongValue s r ≡ false) × (refusedIf b ClauseValue (good (pingOf s r (versionAsked s r))) ≡ good (pingOf s r v))
+    go true q k = absurd (never ClauseValue k)
+    go false q k = let z : v ≡ versionAsked s r = cc in (q, ap (λ (n : ℕ). good (pingOf s r n)) (sym z))
 
 pub refused-judged : (t : Try Ping) (x : Refusal) → judged.Refused x ≡ judgedValues t → t ≡ refused x
 refused-judged (refused y) x e = let z : x ≡ y = cc in ap refused (sym z)
@@ -51,13 +50,10 @@ unfolding pingIn wrongValue
 valued-user s r p e =
     let asked : Option (List ℕ) = octetsOf s (r .«user») in
     let numbers : Bool = holds (λ x. not (isNumber x)) (octetsOf s (r .«nt_ver»)) || holds (λ x. not (isNumber x)) (octetsOf s (r .«aac»)) in
-    let a = refusedIf-good (wrongValue s r) ClauseValue (withVersion s r (versionAsked s r)) p e in
-    subst (λ (o : Option (List ℕ)). holds (λ x. not (isUserName x)) o ≡ false) (same-user (versionAsked s r) (a .1))
+    let a = refusedIf-good (wrongValue s r) ClauseValue (good (pingOf s r (versionAsked s r))) p e in
+    let same : pingOf s r (versionAsked s r) ≡ p = good-same (a .1) in
+    subst (λ (o : Option (List ℕ)). holds (λ x. not (isUserName x)) o ≡ false) (ap (λ (x : Ping). x .user) same)
     (neither-right numbers (holds (λ x. not (isUserName x)) asked) (a .0))
-  where
-    same-user : (v : Option ℕ) → withVersion s r v ≡ good p → octetsOf s (r .«user») ≡ p .user
-    same-user none q = absurd (refused-not-good NoVersion p q)
-    same-user (some v) q = let k : pingOf s r v ≡ p = cc in ap (λ (x : Ping). x .user) k
 
 pub ping-user : (filter : List ℕ) (p : Ping) → pingFrom filter ≡ good p → holds (λ x. not (isUserName x)) (p .user) ≡ false
 unfolding pingFrom

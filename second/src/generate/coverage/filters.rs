@@ -31,7 +31,7 @@ pub fn required() -> Vec<String> {
 pub fn add_cases(filter: &[u8], answer: &[&str], met: &mut Met) {
     let number = answer[1];
     let path = path(filter);
-    let ands = path.iter().filter(|(tag, _)| *tag == AND).count();
+    let ands = ands_of(&path);
     let good = number == "0";
     met.add_if(if ands > 4 { number == "6" } else { good }, format!("filter: {ands} ANDs"));
     met.add_if(good && filter.len() == 2_048, "filter: 2,048 octets");
@@ -70,6 +70,15 @@ fn add_lengths(path: &[(u8, usize)], met: &mut Met) {
     }
 }
 
+fn ands_of(path: &[(u8, usize)]) -> usize {
+    path.iter().filter(|(tag, _)| *tag == AND).count()
+}
+
+/// How many ANDs stand around a filter's first equality.
+pub fn ands_to_first_equality(filter: &[u8]) -> usize {
+    ands_of(&path(filter))
+}
+
 /// The tags from the outermost element down to the first equality's strings, each with the octets of its length.
 fn path(filter: &[u8]) -> Vec<(u8, usize)> {
     let mut found = Vec::new();
@@ -89,7 +98,7 @@ fn path(filter: &[u8]) -> Vec<(u8, usize)> {
 }
 
 /// The spellings of a clause's name that stand as strings in a filter.
-fn spellings(filter: &[u8], name: ClauseName) -> Vec<Vec<u8>> {
+pub fn spellings(filter: &[u8], name: ClauseName) -> Vec<Vec<u8>> {
     let spelled = name.spelled();
     let length = spelled.len() as u8;
     let is_name = |string: &&[u8]| string[0] == length && string[1..].eq_ignore_ascii_case(spelled);

@@ -3,6 +3,7 @@
 use super::super::pings::reply_to;
 use super::places::name_places;
 use super::samples::sample_met;
+use super::without_version::{self, Line};
 use super::Met;
 use crate::choose::Form;
 use crate::filter::{judge_values, take_apart, ClauseName, Clauses};
@@ -29,6 +30,7 @@ pub fn add_cases(image: &[u8], request: &[&str], answer: &[&str], met: &mut Met)
         met.add(sample);
     }
     let room: usize = room.parse().ok()?;
+    without_version::add_cases(&Line { image, client, filter: &filter, room, answer }, met);
     if !["0", "19"].contains(number) {
         met.add_if(room < 30, format!("refused with {number}, little room"));
         met.add_if(room > 100, format!("refused with {number}, much room"));
@@ -560,13 +562,12 @@ const CASES: [&str; 81] = [
 /// Every refusal with little room and with much, and each before those that come later.
 fn required_refusals() -> Vec<String> {
     let mut cases = Vec::new();
-    for number in 1..=18 {
+    for number in (1..=9).chain(11..=18) {
         cases.extend(["little", "much"].map(|room| format!("refused with {number}, {room} room")));
     }
     // Of one clause one number is given, so that pairs of one clause cannot be.
-    let later: [(u8, &[u8]); 9] = [
+    let later: [(u8, &[u8]); 8] = [
         (9, &[11, 12, 13, 14, 15, 16]),
-        (10, &[11, 12, 13, 14, 15, 16, 18]),
         (11, &[13, 14, 15, 16, 18]),
         (12, &[13, 14, 15, 16, 18]),
         (13, &[15, 16, 18]),

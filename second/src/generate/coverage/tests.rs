@@ -5,6 +5,7 @@ use super::super::{lines_of, KINDS};
 use super::trace::trace;
 use super::trail::{trail, End, Trail};
 use super::Coverage;
+use crate::image::Image;
 use crate::lines::{form_of_word, octets_of_word, word_of_octets, Answerer};
 
 /// The words and the answers of all stored lines of a kind, and of some in bulk, but for those of another shape.
@@ -66,6 +67,56 @@ fn trails_lead_to_what_the_walk_answers() {
         };
         assert_eq!(answer, expected, "{words:?}");
     }
+}
+
+#[test]
+fn the_retired_number_is_counted_in_every_kind_of_answer() {
+    let given: [(&[u8], &str); 3] = [
+        (b"values a3080404557365720400", "values 10 00000000"),
+        (b"ping 00000000 a3080404557365720400 1", "ping 10 0 0 none a5"),
+        (b"filter a3080404557365720400", "filter 10 . . . . . . . ."),
+    ];
+    let mut coverage = Coverage::default();
+    for (count, (request, answer)) in given.into_iter().enumerate() {
+        assert_eq!(coverage.retired_answers(), count);
+        coverage.observe(request, answer);
+    }
+    assert_eq!(coverage.retired_answers(), 3);
+    assert!(coverage.text().ends_with(", 3 answers have the retired number\n"));
+}
+
+/// How often a ping on document 01's base table meets a case, by the answer given.
+fn met_on_base_table(request: &str, answer: &str, case: &str) -> usize {
+    let mut coverage = Coverage::default();
+    coverage.observe(format!("table {}", word_of_octets(&Image::base().octets())).as_bytes(), "table 0");
+    coverage.observe(request.as_bytes(), answer);
+    coverage.count(case)
+}
+
+#[test]
+fn without_nt_ver_only_the_answer_due_meets_a_case() {
+    let host = "ping 00000000 a3090404486f7374040168 30";
+    let reply = "13004400430031000000000043004f0052005000000001000000ffffffff";
+    let answer = format!("ping 0 30 1 nt40 {reply}");
+    for case in ["Host alone", "room of its length", "NT4 not wanted", "opcode 19, no PDC, nothing paused"] {
+        let case = format!("no NtVer: {case}");
+        assert_eq!(met_on_base_table(host, &answer, &case), 1, "{case}");
+        assert_eq!(met_on_base_table(host, &answer.replace("nt40", "response"), &case), 0, "{case}");
+        assert_eq!(met_on_base_table(host, &answer.replace("ffffffff", "fffffffe"), &case), 0, "{case}");
+        let versioned = "ping 00000000 a30d04054e74566572040401000000 30";
+        assert_eq!(met_on_base_table(versioned, &answer, &case), 0, "{case}");
+    }
+    let little_room = host.replace(" 30", " 29");
+    let refused = format!("ping 19 0 0 none {}", "a5".repeat(29));
+    assert_eq!(met_on_base_table(&little_room, &refused, "no NtVer: room of one octet less"), 1);
+    assert_eq!(met_on_base_table(host, &refused, "no NtVer: room of one octet less"), 0);
+}
+
+#[test]
+fn an_empty_nt_ver_meets_its_case_with_9_alone() {
+    let request = "ping 00000000 a30904054e745665720400 1";
+    assert_eq!(met_on_base_table(request, "ping 9 0 0 none a5", "NtVer of 0 octets: 9"), 1);
+    assert_eq!(met_on_base_table(request, "ping 19 0 0 none a5", "NtVer of 0 octets: 9"), 0);
 }
 
 #[test]

@@ -1,7 +1,7 @@
 //! Pings by what is chosen: forms, rooms, roles, states, contexts, users and sites.
 
 use super::super::requests::Asked;
-use super::{Pings, ENOUGH, NO_CLIENT};
+use super::{without_version, Pings, ENOUGH, NO_CLIENT};
 use crate::filter::ClauseName;
 use crate::image::{guid, ContextBlock, Image, Record, ServerBlock};
 
@@ -13,6 +13,7 @@ pub fn add_all(pings: &mut Pings) {
     add_contexts(pings);
     add_orders(pings);
     add_users(pings);
+    without_version::add_all(pings);
     add_sites(pings);
     add_next_closest(pings);
 }
@@ -48,6 +49,7 @@ fn add_nt4_wanted(pings: &mut Pings) {
     }
     pings.ask(NO_CLIENT, &Asked::version(6).with_user(b"a."));
     pings.ask(NO_CLIENT, &Asked::version(0x0100_0006).with_user(b"a."));
+    pings.ask_tight(NO_CLIENT, &Asked::default().with_user(b"a."));
 }
 
 fn add_roles(pings: &mut Pings) {
@@ -70,18 +72,20 @@ fn add_states(pings: &mut Pings) {
         for version in [0x0, 0x2, 0x8, 0x5000_0000, 0x5000_0002, 0x5000_0008] {
             pings.ask(NO_CLIENT, &Asked::version(version).with_user(b"x"));
         }
+        pings.ask_tight(NO_CLIENT, &Asked::default().with(ClauseName::Host, b"h"));
+        pings.ask_tight(NO_CLIENT, &Asked::default().with_user(b"x"));
     }
 }
 
 /// The longest SID.
-const SID_OF_2: [u8; 68] = {
+pub const SID_OF_2: [u8; 68] = {
     let mut sid = [7; 68];
     sid[0] = 1;
     sid[1] = 15;
     sid
 };
 /// The shortest SID.
-const SID_OF_5: [u8; 8] = [1, 0, 0, 0, 0, 0, 0, 5];
+pub const SID_OF_5: [u8; 8] = [1, 0, 0, 0, 0, 0, 0, 5];
 
 /// Contexts 2 (default, SID), 5 (SID), 7 (no SID), 8 (application), 9 (application without NetBIOS name).
 fn five_contexts(default_context: u16) -> Image {

@@ -2,18 +2,19 @@
 
 mod choosing;
 mod names;
+mod without_version;
 
 use super::chance::Chance;
 use super::elements::{and, equality, nested, version_6};
 use super::requests::{Asked, Requests};
 use super::sample::{fill_up, sample, Size};
 use crate::choose::{ClientAddress, Form};
-use crate::filter::ClauseName;
+use crate::filter::{take_apart, ClauseName};
 use crate::image::{Image, ServerBlock};
 use crate::reply::answer_ping;
 
 pub fn add_all(requests: &mut Requests, chance: &mut Chance) {
-    let mut pings = Pings { requests, image: Vec::new(), refused: 0 };
+    let mut pings = Pings { requests, image: Vec::new(), in_turn: 0 };
     add_bad_tables(&mut pings);
     add_samples_of_document_01(&mut pings);
     add_filter_refusals(&mut pings, chance);
@@ -23,11 +24,11 @@ pub fn add_all(requests: &mut Requests, chance: &mut Chance) {
     add_random(&mut pings, chance);
 }
 
-/// The lines so far, the image that stands, and how many pings were refused.
+/// The lines so far, the image that stands, and how many pings had little room or much, in turn.
 struct Pings<'r> {
     requests: &'r mut Requests,
     image: Vec<u8>,
-    refused: usize,
+    in_turn: usize,
 }
 
 const NO_CLIENT: [u8; 4] = [0; 4];
@@ -61,14 +62,15 @@ impl Pings<'_> {
     }
 
     /// A ping with room for its answer and two octets that stay as they are. A refused one has little room or much,
-    /// in turn.
+    /// in turn; so has one without NtVer, since before #101 it was refused and its line stays as it was.
     fn filter(&mut self, client: [u8; 4], filter: &[u8]) {
+        let with_version = take_apart(filter).is_ok_and(|clauses| clauses.nt_ver.is_some());
         let room = match self.length(client, filter) {
-            0 => {
-                self.refused += 1;
-                [2, 128][self.refused % 2]
+            length if length != 0 && with_version => length + 2,
+            _ => {
+                self.in_turn += 1;
+                [2, 128][self.in_turn % 2]
             }
-            length => length + 2,
         };
         self.requests.ping(client, filter, room);
     }
@@ -77,12 +79,19 @@ impl Pings<'_> {
         self.filter(client, &asked.filter());
     }
 
-    /// A ping with just the room it needs, and with one octet less.
+    /// A ping with just the room it needs, and with one octet less; a refused one with little room and with much.
+    fn tight(&mut self, client: [u8; 4], filter: &[u8]) {
+        let rooms = match self.length(client, filter) {
+            0 => [2, 128],
+            length => [length, length - 1],
+        };
+        for room in rooms {
+            self.requests.ping(client, filter, room);
+        }
+    }
+
     fn ask_tight(&mut self, client: [u8; 4], asked: &Asked) {
-        let filter = asked.filter();
-        let length = self.length(client, &filter);
-        self.requests.ping(client, &filter, length);
-        self.requests.ping(client, &filter, length.saturating_sub(1));
+        self.tight(client, &asked.filter());
     }
 }
 
@@ -102,6 +111,7 @@ fn add_bad_tables(pings: &mut Pings) {
         for filter in &filters[..2] {
             pings.filter(NO_CLIENT, filter);
         }
+        pings.ask_tight(NO_CLIENT, &Asked::default().with_user(b"ann"));
     }
     pings.table(&good);
     // A table line of another shape leaves the table that stands.
@@ -134,7 +144,7 @@ fn add_samples_of_document_01(pings: &mut Pings) {
 }
 
 fn add_filter_refusals(pings: &mut Pings, chance: &mut Chance) {
-    pings.note("refusals 5 to 10 by the filter alone");
+    pings.note("refusals 5 to 9 by the filter alone, and no NtVer");
     pings.table(&Image::base());
     for length in [2049, 2050, 2048, 2047] {
         pings.filter(NO_CLIENT, &vec![0; length]);
