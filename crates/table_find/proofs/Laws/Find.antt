@@ -1,9 +1,12 @@
--- Each lookup of the table is the search by its key.
+-- The name as it is compared, by its cases; and each lookup of the table is the search by its key.
 use mathlib.Core.Path.{_≡_, sym, ap, _∙_}
-use mathlib.Core.Bool.{Bool, _&&_}
+use mathlib.Core.Bool.{Bool, true, false, _&&_}
 use mathlib.Core.List.{List, map, flatMap}
 use mathlib.Core.Option.{Option·map}
-use Prim.Native.Nat.{ℕ}
+use Prim.Native.Nat.{ℕ, _-_, _≤_, _<_}
+use lib.Dec.{eqb}
+use lib.ListN.{length, take, getD}
+use borrow.Author.Tests.{le-leb, lt-leb}
 use Rattle.octets.specs.Lists.{first, keep}
 use Rattle.octets.proofs.Laws.Lists.{first-map, first-keep}
 use Rattle.table.specs.declared.Caller.{Caller}
@@ -22,9 +25,28 @@ use Rattle.table.specs.Table.{isUsed, bodies, recordsOf, tableOf}
 use Rattle.table_find.specs.declared.search.ContextKey.{ContextKey}
 use Rattle.table_find.specs.declared.search.SiteKey.{SiteKey}
 use Rattle.table_find.specs.declared.search.Key.the-variants as key
-use Rattle.table_find.specs.Find.{contextsSearched, accountByName, inSubnet, subnetFor}
+use Rattle.table_find.specs.Find.{nameCompared, contextsSearched, accountByName, inSubnet, subnetFor}
 use Rattle.table_find.specs.Internal.Key.{isContext, isSite}
 use Rattle.table_find.specs.Internal.Search.{firstIn}
+
+module _ (s : List ℕ) where
+  pub compared-short : length s < 2 → nameCompared s ≡ s
+  unfolding nameCompared
+  compared-short h = rw (lt-leb 2 (length s) h)
+
+  module _ (h : 2 ≤ length s) where
+    pub compared-other : eqb (getD s (length s - 1) 0) 46 ≡ false → nameCompared s ≡ s
+    unfolding nameCompared
+    compared-other e = rw (le-leb 2 (length s) h, e)
+
+    module _ (e : eqb (getD s (length s - 1) 0) 46 ≡ true) where
+      pub compared-dots : eqb (getD s (length s - 2) 0) 46 ≡ true → nameCompared s ≡ s
+      unfolding nameCompared
+      compared-dots d = rw (le-leb 2 (length s) h, e, d)
+
+      pub compared-dot : eqb (getD s (length s - 2) 0) 46 ≡ false → nameCompared s ≡ take (length s - 1) s
+      unfolding nameCompared
+      compared-dot d = rw (le-leb 2 (length s) h, e, d)
 
 module _ (asked : List ℕ) (blocks : List (List ℕ)) where
   -- a search in the used records of a kind, read as f does
