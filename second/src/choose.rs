@@ -137,8 +137,18 @@ fn context_by_guid<'a>(table: &Table<'a>, guid: Option<&[u8]>) -> Result<Option<
 fn context_by_dns_name<'a>(table: &Table<'a>, name: Option<&[u8]>) -> Result<Option<Context<'a>>, Refusal> {
     let Some(name) = name else { return Ok(None) };
     require(!name.is_empty(), Refusal::DnsDomainEmpty)?;
+    let name = without_closing_dot(name);
     let held = contexts_searched(table).find(|context| same_dns_name(context.dns_name, name));
     held.copied().map(Some).ok_or(Refusal::DnsDomainNotHeld)
+}
+
+/// A DnsDomain value as it is compared (#107): without a closing dot that comes after another octet than a dot. No name
+/// of a table ends in a dot, so that a value which keeps its dots finds no context.
+fn without_closing_dot(value: &[u8]) -> &[u8] {
+    match value.split_last() {
+        Some((b'.', before)) if before.last().is_some_and(|octet| *octet != b'.') => before,
+        _ => value,
+    }
 }
 
 /// Refusals 15, 16 and 17. A context without SID matches none.
@@ -244,4 +254,31 @@ fn next_closest_site<'a>(table: &Table<'a>, version: u32, client_site: Option<Si
     let asked = version & VERSION_WITH_CLOSEST_SITE != 0 && table.server.roles & ROLE_LEVEL_2008 != 0;
     let number = client_site?.next_closest.filter(|_| asked)?;
     table.site(number).copied()
+}
+
+#[cfg(test)]
+mod tests {
+    use super::*;
+
+    #[test]
+    fn one_closing_dot_is_left_out() {
+        let longest = [b'a'; 253];
+        let cases: [(&[u8], &[u8]); 5] = [
+            (b"a.", b"a"),
+            (b"Corp.Example.", b"Corp.Example"),
+            (b".a.", b".a"),
+            (b"\0.", b"\0"),
+            (&[&longest[..], b"."].concat(), &longest),
+        ];
+        for (value, compared) in cases {
+            assert_eq!(without_closing_dot(value), compared);
+        }
+    }
+
+    #[test]
+    fn every_other_value_stays_as_it_is() {
+        for value in [&b""[..], b".", b"..", b"...", b"a", b"a..", b"a...", b".a", b"a.b", b"a,", b"a\xAE", b"\0"] {
+            assert_eq!(without_closing_dot(value), value);
+        }
+    }
 }

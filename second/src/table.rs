@@ -341,7 +341,8 @@ fn all_references_exist(records: &Records) -> bool {
         && records.subnets.iter().all(|subnet| subnet.site.is_none_or(site_exists))
 }
 
-/// How a DNS name held in the table is compared with another one.
+/// How a DNS name held in the table is compared with another one, of the table or asked for. A closing dot is no matter
+/// of it, since no name of a table has one.
 pub fn same_dns_name(held: &[u8], other: &[u8]) -> bool {
     equal_folded(held, other)
 }

@@ -286,6 +286,101 @@ fn the_application_flag_is_of_the_dns_clause() {
     assert_eq!(flags(&image, [0; 4], &by_both), 0x598);
 }
 
+/// All values of up to so many octets from a few.
+fn values_of(octets: &[u8], longest: usize) -> Vec<Vec<u8>> {
+    let mut values = vec![Vec::new()];
+    let mut from = 0;
+    for _ in 0..longest {
+        let to = values.len();
+        for place in from..to {
+            values.extend(octets.iter().map(|octet| [&values[place][..], &[*octet]].concat()).collect::<Vec<_>>());
+        }
+        from = to;
+    }
+    values
+}
+
+/// The context that a DnsDomain value alone leads to, or the number.
+fn context_of(image: &Image, value: &[u8]) -> Result<ContextNumber, u8> {
+    let clauses = Clauses { dns_domain: Some(value), ..version(VERSION_0) };
+    let client = ClientAddress::from_octets([0; 4]);
+    let answer = answer_ping(&image.octets(), client, &filter_of(&clauses), &mut [0; ROOM]);
+    answer.map(|answer| answer.context).map_err(Refusal::number)
+}
+
+/// No name of a table ends in a dot, so that a context is named by its name and by that with a dot, and by nothing else.
+#[test]
+fn a_context_is_named_with_one_closing_dot_or_without() {
+    let names: [&[u8]; 4] = [b"a", b"Aa", b"a.a", b"-"];
+    let mut image = Image::base();
+    for (number, dns_name) in (2..).zip(names) {
+        image.push_context(&ContextBlock {
+            number,
+            guid: guid(16 * number as u8),
+            dns_name,
+            ..ContextBlock::default()
+        });
+    }
+    let values = values_of(b".aA-\0", 5);
+    assert_eq!(values.len(), 1 + 5 + 25 + 125 + 625 + 3_125);
+    let mut found = 0;
+    for value in values {
+        let is_of =
+            |name: &&[u8]| value.eq_ignore_ascii_case(name) || value.eq_ignore_ascii_case(&[name, &b"."[..]].concat());
+        let expected = match names.iter().position(|name| is_of(&name)) {
+            Some(place) => Ok(ContextNumber(2 + place as u16)),
+            None if value.is_empty() => Err(13),
+            None => Err(14),
+        };
+        found += usize::from(expected.is_ok());
+        assert_eq!(context_of(&image, &value), expected, "{value:02x?}");
+    }
+    assert_eq!(found, 2 * (2 + 4 + 4 + 1));
+}
+
+#[test]
+fn the_longest_name_is_found_with_a_dot_too() {
+    let longest = [&[b'a'; 63][..], &[b'b'; 63], &[b'c'; 63], &[b'd'; 61]].join(&b'.');
+    let mut image = Image::base();
+    image.push_context(&ContextBlock { number: 2, guid: guid(80), dns_name: &longest, ..ContextBlock::default() });
+    let value = |before: &str, after: &str| [before.as_bytes(), &longest, after.as_bytes()].concat();
+    assert_eq!((longest.len(), context_of(&image, &value("", ""))), (253, Ok(ContextNumber(2))));
+    assert_eq!(context_of(&image, &value("", ".")), Ok(ContextNumber(2)));
+    assert_eq!(context_of(&image, &value("", ".").to_ascii_uppercase()), Ok(ContextNumber(2)));
+    for (before, after) in [("", ".."), (".", ""), (".", "."), ("", "-")] {
+        assert_eq!(context_of(&image, &value(before, after)), Err(14), "{before:?} {after:?}");
+    }
+}
+
+#[test]
+fn the_closing_dot_counts_for_14_the_flag_and_the_context_used() {
+    let image = three_contexts();
+    let dotted = Clauses { dns_domain: Some(b"App.example."), ..version(VERSION_6) };
+    assert_eq!(flags(&image, [0; 4], &dotted), 0x598);
+    assert_eq!(flags(&image, [0; 4], &Clauses { domain_guid: Some(&guid(1)), ..dotted }), 0x598);
+    let other = Clauses { dns_domain: Some(b"LAB.example."), ..version(VERSION_6) };
+    assert_eq!(flags(&image, [0; 4], &Clauses { domain_guid: Some(&guid(0x40)), ..other }), 0x198);
+    let sid: &[u8] = &[1, 0, 0, 0, 0, 0, 0, 5];
+    assert_eq!(number(&image, &Clauses { domain_sid: Some(sid), ..other }), 0);
+    assert_eq!(number(&image, &Clauses { domain_sid: Some(sid), ..dotted }), 17);
+    for value in [&b"."[..], b"..", b"lab.example..", b"none."] {
+        let clauses = Clauses { dns_domain: Some(value), domain_guid: Some(&guid(1)), ..version(VERSION_6) };
+        assert_eq!(number(&image, &clauses), 14);
+    }
+    assert_eq!(number(&image, &Clauses { dns_domain: Some(b""), ..version(VERSION_6) }), 13);
+}
+
+/// A dot at the end of a name in the table is still a fault of layout, and no two names are the same for a dot.
+#[test]
+fn names_in_the_table_have_no_closing_dot() {
+    let with_name = |dns_name: &[u8]| {
+        let mut image = Image::base();
+        image.push_context(&ContextBlock { number: 2, guid: guid(80), dns_name, ..ContextBlock::default() });
+        number_of(&read_table(&image.octets()))
+    };
+    assert_eq!([&b"corp.example."[..], b"corp.example", b"corp-example", b"a."].map(with_name), [3, 4, 0, 3]);
+}
+
 #[test]
 fn each_role_sets_its_flag() {
     let expected = [0x199, 0x19C, 0x1B8, 0x1D8, 0x898, 0x398, 0x2198, 0x4198, 0x8198, 0x198, 0x1198, 0x198];

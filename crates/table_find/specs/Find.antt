@@ -1,8 +1,10 @@
 -- Document 01, "Choosing the answer": what is looked up in the table.
-use mathlib.Core.Bool.{Bool, _&&_}
+use mathlib.Core.Bool.{Bool, cond, not, _&&_}
 use mathlib.Core.List.{List, [], _∷_}
 use mathlib.Core.Option.{Option, none, some}
-use Prim.Native.Nat.{ℕ}
+use Prim.Native.Nat.{ℕ, _-_}
+use lib.Dec.{eqb, leb}
+use lib.ListN.{length, take, getD}
 use Rattle.octets.specs.Lists.{first, holds}
 use Rattle.octets.specs.Text.{same}
 use Rattle.table.specs.declared.Caller.{Caller}
@@ -24,9 +26,15 @@ contextsSearched t = t .contexts
 unfoldable pub contextByGuid : Table → List ℕ → Option Context
 contextByGuid t guid = first (λ c. same (c .guid) guid) (contextsSearched t)
 
+-- the name as it is compared: a DnsDomain value of two octets or more whose last octet is a dot, and whose last but one is not, is compared without that dot
+unfoldable pub nameCompared : List ℕ → List ℕ
+nameCompared asked =
+    let n = length asked in
+    cond (leb 2 n && eqb (getD asked (n - 1) 0) 46 && not (eqb (getD asked (n - 2) 0) 46)) (take (n - 1) asked) asked
+
 -- a DnsDomain value names a context
 unfoldable pub isNamedBy : List ℕ → Context → Bool
-isNamedBy asked c = sameDnsName (c .dns) asked
+isNamedBy asked c = sameDnsName (c .dns) (nameCompared asked)
 
 unfoldable pub contextByDnsName : Table → List ℕ → Option Context
 contextByDnsName t asked = first (isNamedBy asked) (contextsSearched t)

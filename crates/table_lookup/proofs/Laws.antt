@@ -1,1 +1,2 @@
 pub mod ClientSite
+pub mod ClosingDot

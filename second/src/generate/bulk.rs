@@ -146,6 +146,7 @@ impl Lines<'_> {
 /// Clauses that suit the table, but for some of them here and there, or for NtVer; clauses by chance alone; or none.
 fn asked(chance: &mut Chance, table: &Sample) -> Asked {
     let asked = table.asked(chance);
+    let asked = if chance.once_in(4) { with_dots(chance, asked) } else { asked };
     match chance.below(50) {
         0..=30 => asked,
         31..=32 => asked.without(ClauseName::NtVer),
@@ -160,6 +161,19 @@ fn asked(chance: &mut Chance, table: &Sample) -> Asked {
             asked.with(name, &random_value(chance, name))
         }
     }
+}
+
+/// The clauses with dots at the ends of DnsDomain where there is one, mostly with one at its end, or with dots alone.
+fn with_dots(chance: &mut Chance, asked: Asked) -> Asked {
+    let Some(name) = asked.clauses().dns_domain.map(<[u8]>::to_vec) else { return asked };
+    let dotted = match chance.below(9) {
+        0..=3 => [&name[..], b"."].concat(),
+        4 | 5 => [&name[..], b".."].concat(),
+        6 => [b".", &name[..]].concat(),
+        7 => [b".", &name[..], b"."].concat(),
+        _ => vec![b'.'; 1 + chance.below(3)],
+    };
+    asked.with(ClauseName::DnsDomain, &dotted)
 }
 
 /// Values that are refused with 9 or with 11 to 18, on most tables.
@@ -311,11 +325,25 @@ mod tests {
         }
     }
 
+    fn assert_closing_dots(coverage: &Coverage) {
+        let shapes = ["n.., n of 1 octets, held: 14", ".n, n of 1 octets, held: 14", ".n., n of 1 octets, held: 14"];
+        let alone = ["of 1 dots alone: 14", "of 2 dots alone: 14", "of 3 dots alone: 14"];
+        for case in ["n., n of 1 octets, held: found", "n., n of 253 octets, held: found"].into_iter().chain(shapes) {
+            assert!(coverage.count(&format!("DnsDomain {case}")) >= 5, "{case}");
+        }
+        assert!(alone.iter().all(|case| coverage.count(&format!("DnsDomain {case}")) >= 5));
+        for form in Form::ALL.map(word_of_form) {
+            let found = coverage.count(&format!("dotted name: found in {form}"));
+            assert!(found >= 200, "{form} {found}");
+        }
+    }
+
     /// By as many lines as the gate puts through both programs, and from the same seed.
     #[test]
     fn pings_meet_their_cases_and_replies_every_number() {
         let coverage = observed(150_000);
         assert_pings_without_version(&coverage);
+        assert_closing_dots(&coverage);
         let missing: Vec<String> = required_numbers()
             .into_iter()
             .chain(required_of_pings())

@@ -8,7 +8,7 @@ use lib.Dec.{eqb}
 use lib.ListN.{length, length-append}
 use borrow.Author.Tests.{eqb-true}
 use Rattle.octets.specs.Label.{toFirst, onDot, parts, labels, joined}
-use Rattle.octets.proofs.Laws.Lists.{Every}
+use Rattle.octets.proofs.Laws.Lists.{Every, every-weaken}
 
 -- the octet that parts labels
 abbrev pub dot : ℕ
@@ -152,3 +152,30 @@ pub joined-shorter : (l : List ℕ) (ls : List (List ℕ)) → 1 ≤ length l �
 unfolding joined
 joined-shorter l [] h = omega arith
 joined-shorter l (m ∷ ls) h = simp length-append (omega arith)
+
+-- ---- a text that ends in a dot has an empty label behind it
+
+-- no label but the first may be empty
+abbrev RestFilled : List (List ℕ) → Type 0
+RestFilled [] = Unit
+RestFilled (l ∷ ls) = Every (λ m. 1 ≤ length m) ls
+
+rest-empty : (s : List ℕ) → RestFilled (parts (s ++ (dot ∷ []))) → ⊥
+unfolding parts
+rest-empty [] h = let n : _≤_ 1 0 = h .0 in omega arith
+rest-empty (x ∷ xs) h = go (eqb x dot) (parts (xs ++ (dot ∷ []))) (rest-empty xs) h
+  where
+    go : (t : Bool) (ps : List (List ℕ)) → (RestFilled ps → ⊥) → RestFilled (onDot t x ps) → ⊥
+    go true [] n h = n tt
+    go true (l ∷ ls) n h = n (h .1)
+    go false [] n h = n tt
+    go false (l ∷ ls) n h = n h
+
+rest-filled : (ls : List (List ℕ)) → Plain ls → RestFilled ls
+rest-filled [] p = tt
+rest-filled (l ∷ ls) p = every-weaken (λ m. (1 ≤ length m) × (length m ≤ 63) × Dotless m) (λ m. 1 ≤ length m) (λ m q. q .0) ls (p .1)
+
+pub no-closing-dot : (s : List ℕ) → Plain (labels (s ++ (dot ∷ []))) → ⊥
+unfolding labels
+no-closing-dot [] p = rest-empty [] (rest-filled (parts (dot ∷ [])) p)
+no-closing-dot (x ∷ xs) p = rest-empty (x ∷ xs) (rest-filled (parts (x ∷ xs ++ (dot ∷ []))) p)

@@ -1,6 +1,7 @@
 //! Which cases lines meet: the answer numbers, the rules, and the ways to an answer. What a line meets is found from the
 //! line and its answer and not from how it was made, so that a line that misses its aim leaves its case missing.
 
+mod closing_dot;
 mod filters;
 mod pings;
 pub mod places;
@@ -123,6 +124,7 @@ pub fn required() -> Vec<String> {
     cases.extend(samples::required());
     cases.extend(required_of_pings());
     cases.extend(without_version::required());
+    cases.extend(closing_dot::required());
     cases.extend(filters::required());
     cases.extend(reads::required());
     cases.extend(walks::required());
@@ -135,7 +137,7 @@ pub fn required_numbers() -> Vec<String> {
     NUMBERS_BY_KIND.into_iter().flat_map(of_kind).collect()
 }
 
-/// The cases of pings but for document 01's own samples and those without NtVer.
+/// The cases of pings but for document 01's own samples, those without NtVer and those of closing dots.
 pub fn required_of_pings() -> Vec<String> {
     pings::required()
 }

@@ -1,6 +1,7 @@
 //! The cases of ping lines: each refusal by its causes and before later ones, and each way to an answer.
 
 use super::super::pings::reply_to;
+use super::closing_dot;
 use super::places::name_places;
 use super::samples::sample_met;
 use super::without_version::{self, Line};
@@ -30,7 +31,9 @@ pub fn add_cases(image: &[u8], request: &[&str], answer: &[&str], met: &mut Met)
         met.add(sample);
     }
     let room: usize = room.parse().ok()?;
-    without_version::add_cases(&Line { image, client, filter: &filter, room, answer }, met);
+    let line = Line { image, client, filter: &filter, room, answer };
+    without_version::add_cases(&line, met);
+    closing_dot::add_cases(&line, met);
     if !["0", "19"].contains(number) {
         met.add_if(room < 30, format!("refused with {number}, little room"));
         met.add_if(room > 100, format!("refused with {number}, much room"));
@@ -85,8 +88,10 @@ fn refusals_alone(table: &Table, clauses: &Clauses) -> Vec<u8> {
     numbers
 }
 
-fn is_named(context: &Context, name: &[u8]) -> bool {
-    context.dns_name.eq_ignore_ascii_case(name)
+/// No name of a table ends in a dot, so that these two spellings are all that name a context.
+pub fn is_named(context: &Context, name: &[u8]) -> bool {
+    let dotted = [context.dns_name, b"."].concat();
+    context.dns_name.eq_ignore_ascii_case(name) || dotted.eq_ignore_ascii_case(name)
 }
 
 fn sid_fault(sid: &[u8]) -> Option<&'static str> {
@@ -264,7 +269,8 @@ impl Ping<'_> {
             _ => "both, which differ",
         };
         met.add(format!("context by {way}"));
-        let other_case = by_name.is_some_and(|context| clauses.dns_domain != Some(context.dns_name));
+        let starts_as_held = |name: &[u8]| by_name.is_some_and(|context| name.starts_with(context.dns_name));
+        let other_case = by_name.is_some() && !clauses.dns_domain.is_some_and(starts_as_held);
         met.add_if(other_case, "context by DnsDomain in another case");
         met.add_if(clauses.domain_sid.is_some(), "answered with the SID of the context used");
         met.add_if(used.netbios_name.is_empty(), format!("{}: no NetBIOS name", word_of_form(form)));

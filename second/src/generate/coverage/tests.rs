@@ -1,6 +1,7 @@
 //! The trails and traces are a third way to the answers, held here to the reader's and the walk's.
 
 use super::super::bulk::write_lines;
+use super::super::elements::equality;
 use super::super::{lines_of, KINDS};
 use super::trace::trace;
 use super::trail::{trail, End, Trail};
@@ -117,6 +118,23 @@ fn an_empty_nt_ver_meets_its_case_with_9_alone() {
     let request = "ping 00000000 a30904054e745665720400 1";
     assert_eq!(met_on_base_table(request, "ping 9 0 0 none a5", "NtVer of 0 octets: 9"), 1);
     assert_eq!(met_on_base_table(request, "ping 19 0 0 none a5", "NtVer of 0 octets: 9"), 0);
+}
+
+#[test]
+fn a_closing_dot_meets_its_case_with_the_due_answer_alone() {
+    let named = |name: &[u8]| format!("ping 00000000 {} 30", word_of_octets(&equality(b"DnsDomain", name)));
+    let reply = "13004400430031000000000043004f0052005000000001000000ffffffff";
+    let found = format!("ping 0 30 1 nt40 {reply}");
+    let not_held = format!("ping 14 0 0 none {}", "a5".repeat(30));
+    let (one_dot, two_dots) = (named(b"Corp.example."), named(b"corp.example.."));
+    let case = "DnsDomain n., n of 12 octets, held in another case: found";
+    assert_eq!(met_on_base_table(&one_dot, &found, case), 1);
+    assert_eq!(met_on_base_table(&one_dot, &found.replace("30 1", "30 2"), case), 0);
+    assert_eq!(met_on_base_table(&one_dot, &not_held, case), 0);
+    let case = "DnsDomain n.., n of 12 octets, held: 14";
+    assert_eq!(met_on_base_table(&two_dots, &not_held, case), 1);
+    assert_eq!(met_on_base_table(&two_dots, &found, case), 0);
+    assert_eq!(met_on_base_table(&named(b".."), &not_held, "DnsDomain of 2 dots alone: 14"), 1);
 }
 
 #[test]

@@ -1,6 +1,7 @@
 //! Ping lines, each group after the table line that it stands on.
 
 mod choosing;
+mod closing_dot;
 mod names;
 mod without_version;
 
@@ -9,7 +10,7 @@ use super::elements::{and, equality, nested, version_6};
 use super::requests::{Asked, Requests};
 use super::sample::{fill_up, sample, Size};
 use crate::choose::{ClientAddress, Form};
-use crate::filter::{take_apart, ClauseName};
+use crate::filter::{take_apart, ClauseName, Clauses};
 use crate::image::{Image, ServerBlock};
 use crate::reply::answer_ping;
 
@@ -22,6 +23,7 @@ pub fn add_all(requests: &mut Requests, chance: &mut Chance) {
     names::add_all(&mut pings);
     add_largest_table(&mut pings, chance);
     add_random(&mut pings, chance);
+    closing_dot::add_all(&mut pings);
 }
 
 /// The lines so far, the image that stands, and how many pings had little room or much, in turn.
@@ -33,6 +35,12 @@ struct Pings<'r> {
 
 const NO_CLIENT: [u8; 4] = [0; 4];
 const ENOUGH: usize = 4096;
+
+/// Whether a ping that is answered now was so by document 01 alone, by which NtVer must be there and a closing dot not.
+fn answered_from_the_start(filter: &[u8]) -> bool {
+    let dotted = |clauses: &Clauses| clauses.dns_domain.is_some_and(|name| name.ends_with(b"."));
+    take_apart(filter).is_ok_and(|clauses| clauses.nt_ver.is_some() && !dotted(&clauses))
+}
 
 /// A reply with its form, none where the ping is refused.
 pub fn reply_to(image: &[u8], client: [u8; 4], filter: &[u8]) -> Option<(Form, Vec<u8>)> {
@@ -62,11 +70,10 @@ impl Pings<'_> {
     }
 
     /// A ping with room for its answer and two octets that stay as they are. A refused one has little room or much,
-    /// in turn; so has one without NtVer, since before #101 it was refused and its line stays as it was.
+    /// in turn; so has one that was refused before #101 or #107, so that its line stays as it was.
     fn filter(&mut self, client: [u8; 4], filter: &[u8]) {
-        let with_version = take_apart(filter).is_ok_and(|clauses| clauses.nt_ver.is_some());
         let room = match self.length(client, filter) {
-            length if length != 0 && with_version => length + 2,
+            length if length != 0 && answered_from_the_start(filter) => length + 2,
             _ => {
                 self.in_turn += 1;
                 [2, 128][self.in_turn % 2]

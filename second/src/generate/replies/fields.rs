@@ -89,9 +89,7 @@ fn add_fixed_fields(requests: &mut Requests) {
             changed[place] ^= 0x04;
             requests.read(form, version, &changed);
             // A field that is not all there is 31 even where its first octets are wrong.
-            for end in [place + 1, place + 2, place + 4] {
-                requests.read(form, version, &changed[..end.min(reply.len() - 1)]);
-            }
+            requests.read(form, version, &changed[..(place + 1).min(reply.len() - 1)]);
         }
     }
 }
@@ -147,11 +145,13 @@ fn add_name_8(requests: &mut Requests) {
     for after in after_names {
         let plain = with_guid(Form::Ex, &GUID, &[&[0; 8], after].concat());
         let addressed = with_guid(Form::Ex, &GUID, &[&[0; 8], &ADDRESS[..], after].concat());
-        for version in [5, 0x15, 0x14, 0x35, 0x115, 0x1500_0000, 0x0100_0015] {
+        for version in [5, 0x15] {
             requests.read(Form::Ex, 0x04, &with_version(plain.clone(), version));
-            requests.read(Form::Ex, 0x14, &with_version(plain.clone(), version));
             requests.read(Form::Ex, 0x18, &with_version(addressed.clone(), version));
             requests.read(Form::Ex, 0x08, &with_version(addressed.clone(), version));
+        }
+        for version in [5, 0x15, 0x14, 0x35, 0x115, 0x1500_0000, 0x0100_0015] {
+            requests.read(Form::Ex, 0x14, &with_version(plain.clone(), version));
         }
     }
     for after in [&b"\x00"[..], b"\xC0\x02", b"\x01n\x00", b"\x02nn\x00"] {

@@ -25,7 +25,8 @@ pub struct Received {
 pub fn add_reads(requests: &mut Requests, chance: &mut Chance) {
     let replies = written_replies();
     add_good(requests, &replies);
-    add_truncated(requests, &replies);
+    // With name 8 a cut hides the version, so that one EX reply is without it.
+    add_truncated(requests, &replies[..4]);
     add_left_over(requests, &replies);
     add_mutated(requests, chance, &replies);
     names::add_all(requests);
@@ -100,7 +101,7 @@ fn add_left_over(requests: &mut Requests, replies: &[Received]) {
 }
 
 fn add_mutated(requests: &mut Requests, chance: &mut Chance, replies: &[Received]) {
-    requests.note("replies with one octet changed, at every offset");
+    requests.note("replies with one octet changed, or one taken out");
     // An EX reply with the address and name 8, a RESPONSE reply and an NT40 reply.
     for reply in &replies[1..4] {
         for place in 0..reply.octets.len() {
@@ -109,7 +110,10 @@ fn add_mutated(requests: &mut Requests, chance: &mut Chance, replies: &[Received
                 0 => changed[place] ^ 1 << chance.below(8),
                 _ => *chance.pick(&[0x00, 0x01, 0x3F, 0x40, 0x80, 0xC0, 0xD8, 0xDC, 0xFF]),
             };
-            requests.read(reply.form, reply.version, &changed);
+            // Drawn for every octet and stored for one in four; `fields` changes each octet of short replies.
+            if place % 4 == 0 {
+                requests.read(reply.form, reply.version, &changed);
+            }
         }
     }
     for reply in replies {
@@ -132,7 +136,7 @@ fn add_random(requests: &mut Requests, chance: &mut Chance) {
             requests.read(form, version_bits(chance), &[&[opcode, 0, 0, 0], &rest[..]].concat());
         }
     }
-    for _ in 0..12 {
+    for _ in 0..6 {
         let size = Size { contexts: 2, account_blocks: 1, sites: 4, subnets: 6 };
         let table = sample(chance, size);
         let asked = table.asked(chance);

@@ -51,6 +51,8 @@ impl Names<'_> {
         let at = self.at;
         for aim in (0..26).chain(at - 1..at + 16) {
             self.read(&[&pointer(aim)]);
+        }
+        for aim in at - 1..at + 16 {
             self.read(&[b"\x01x\x00", &[&b"\x01y"[..], &pointer(aim)].concat()]);
         }
         for aim in [60, 100, 255, 256, 0x3FFF] {
@@ -82,7 +84,7 @@ impl Names<'_> {
     fn add_labels_over_pointers(&mut self) {
         self.requests.note("labels that reach over the pointer that leads to them");
         let at = self.at;
-        for length in at - 24..at + 6 {
+        for length in at - 18..at - 8 {
             let mut reply = with_names(self.form, &[&pointer(16), b"\x01z\x00"]);
             reply[16] = length as u8;
             self.read_octets(&reply);
@@ -153,7 +155,7 @@ impl Names<'_> {
     fn add_limits(&mut self) {
         self.requests.note("names of 255 octets and of 256, whole, cut, and by way of pointers");
         let three = labels(&[63, 63, 63]);
-        for last in 59..=63 {
+        for last in 60..=62 {
             let name = [three.clone(), labels(&[last])].concat();
             self.read(&[&[&name[..], b"\x00"].concat()]);
             for cut in [193, 194, name.len()] {

@@ -8,18 +8,22 @@ use super::{name_like, written_replies};
 use crate::choose::Form;
 
 pub fn add_walks(requests: &mut Requests, chance: &mut Chance) {
-    requests.note("walks from every offset of replies");
-    for reply in written_replies().into_iter().take(3) {
-        for offset in 0..=reply.octets.len() {
-            requests.walk(offset, &reply.octets);
-        }
+    requests.note("walks from every offset of an EX reply, and into the texts of a RESPONSE reply");
+    let replies = written_replies();
+    let (ex, response) = (&replies[1], &replies[2]);
+    for offset in 0..=ex.octets.len() {
+        requests.walk(offset, &ex.octets);
+    }
+    // Units of a text that are walked as a label, the user's dot among them.
+    for offset in [6, 14] {
+        requests.walk(offset, &response.octets);
     }
     add_own_runs(requests);
     add_beyond_limits(requests);
     add_after_pointers(requests);
     requests.note("walks on random octets");
     requests.walk(0, &[]);
-    for _ in 0..250 {
+    for _ in 0..100 {
         let octets = name_like(chance, 40);
         requests.walk(chance.below(octets.len() + 1), &octets);
     }
@@ -48,7 +52,8 @@ fn add_own_runs(requests: &mut Requests) {
 fn add_beyond_limits(requests: &mut Requests) {
     requests.note("walks by hand: no limit of octets, labels or pointers");
     let in_text = response_with_chain(20);
-    for offset in 0..in_text.len() {
+    // By threes, so that pointers and their second octets take turns.
+    for offset in (0..in_text.len()).step_by(3) {
         requests.walk(offset, &in_text);
     }
     for pointers in [15, 16, 17, 300] {
