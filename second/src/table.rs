@@ -374,6 +374,20 @@ mod tests {
         assert_eq!(block_check(&[0; 508]), (1, 0x01FC));
     }
 
+    /// Of n octets, a is 1 and their sum, and b is n and each octet as often as it and those after it are many.
+    #[test]
+    fn the_check_by_its_formulas() {
+        for count in [0, 1, 2, 15, 16, 17, 31, 32, 33, 496, 507, 508, 509] {
+            let octets: Vec<u8> = (0..count).map(|place: usize| (place * place * 7 + 251 * place) as u8).collect();
+            for octets in [octets, vec![0; count], vec![255; count]] {
+                let a = 1 + octets.iter().map(|&octet| usize::from(octet)).sum::<usize>();
+                let times = |place: usize| count - place;
+                let b = count + (0..count).map(|place| times(place) * usize::from(octets[place])).sum::<usize>();
+                assert_eq!(block_check(&octets), (a as u16, b as u16), "{count}");
+            }
+        }
+    }
+
     #[test]
     fn lengths_give_1() {
         for length in [0, 511, 512, 1023, 1025, 65_536 + 512, 65_535] {

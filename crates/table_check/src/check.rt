@@ -1,11 +1,11 @@
 // The check of each block.
 ghost use mathlib.Core.Path.{_≡_};
-ghost use Prim.Native.Nat.{_+_, _*_, _%_, _≤_};
+ghost use Prim.Native.Nat.{_+_, _*_, _%_, _≤_, _<_};
 ghost use lib.ListN.{length};
 ghost use Rattle.octets.specs.Lists.{all};
 ghost use Rattle.table.specs.Block.{imageMost, blocksOf};
 ghost use Rattle.table_check.specs.Check.{goodCheck, CheckOfPromise};
-use octets::number::wide;
+ghost use Rattle.table_check.specs.Step.{sum, counted};
 use octets::part::part;
 use table::BlockPlace;
 use table::block::BLOCK_SIZE;
@@ -13,47 +13,69 @@ use table::block::CHECK;
 use table::block::block_at;
 use table::field::u16_in;
 
+// How many octets a step takes.
+const STEP: usize = 16;
+
 // The two sums of a check.
 pub struct Check {
     pub a: u32,
     pub b: u32,
 }
 
-// A sum modulo 65,536.
-fn grown_by(sum: u16, x: u32) -> u16
-    requires { ⌜ x ≤ 16777216 ⌝ }
-    ensures { λ r. ⌜ r ≡ (sum + x) % 65536 ⌝ }
-{
-    (((sum as u32) + x) % 65536) as u16
+// What a step takes of its octets: their sum, and each as often as it is counted.
+struct Sums {
+    sum: u16,
+    counted: u16,
 }
 
-// An octet, as often as octets are left.
-fn weighed(x: u8, left: u16) -> u32
-    ensures { λ r. ⌜ (r ≡ x * left) × (r ≤ 16777216) ⌝ }
+// An octet as often as it is counted.
+fn weighed(x: u8, times: u16) -> u16
+    requires { ⌜ times ≤ 16 ⌝ }
+    ensures { λ r. ⌜ (r ≡ times * x) × (r ≤ 4080) ⌝ }
 {
-    wide(x) * (left as u32)
+    times * (x as u16)
 }
 
-// b takes each octet at once as often as it will count, so that no sum waits for another and the compiler adds several at a time: it is the
-// definition's b so far, and its a for each octet left.
+// No sum of a step's octets leaves 16 bits: so the compiler adds several at a time.
+fn sums_of(octets: &[u8]) -> Sums
+    requires { ⌜ length (now octets) ≤ 16 ⌝ }
+    ensures { λ r. ⌜ (r .sum ≡ sum (now (octets .entry))) × (r .counted ≡ counted (now (octets .entry))) ⌝ }
+{
+    let mut sum: u16 = 0;
+    let mut counted: u16 = 0;
+    let mut left = octets.len() as u16;
+    let mut i = 0;
+    while i < octets.len() {
+        sum += octets[i] as u16;
+        counted += weighed(octets[i], left);
+        left -= 1;
+        i += 1;
+    }
+    Sums { sum, counted }
+}
+
+// A step over n octets, with one remainder for each sum.
+fn step(check: Check, sums: Sums, n: usize) -> Check
+    requires { ⌜ (check .a < 65536) × (check .b < 65536) × (n ≤ 16) ⌝ }
+    ensures { λ r. ⌜ (r .a ≡ (check .a + sums .sum) % 65536) × (r .b ≡ (check .b + n * check .a + sums .counted) % 65536) ⌝ }
+{
+    Check {
+        a: (check.a + (sums.sum as u32)) % 65536,
+        b: (check.b + (n as u32) * check.a + (sums.counted as u32)) % 65536,
+    }
+}
+
 pub fn check_of(octets: &[u8]) -> Check
     ensures { λ r. ⌜ CheckOfPromise (now (octets .entry)) r ⌝ }
 {
-    let n = (octets.len() % 65536) as u16;
-    let mut a: u16 = 1;
-    let mut b = n;
-    let mut left = n;
+    let mut check = Check { a: 1, b: 0 };
     let mut i = 0;
-    while i < octets.len() {
-        a = grown_by(a, wide(octets[i]));
-        b = grown_by(b, weighed(octets[i], left));
-        left = grown_by(left, 65535);
-        i += 1;
+    while STEP <= octets.len() - i {
+        check = step(check, sums_of(&octets[i..i + STEP]), STEP);
+        i += STEP;
     }
-    Check {
-        a: a as u32,
-        b: b as u32,
-    }
+    let left = octets.len() - i;
+    step(check, sums_of(&octets[i..]), left)
 }
 
 pub fn good_check(block: &[u8]) -> bool

@@ -4,6 +4,7 @@
 use std::io::{self, Write};
 
 use super::chance::Chance;
+use super::checks::random_octets;
 use super::elements::{and, equality, nested};
 use super::filters::random_filter;
 use super::pings::reply_to;
@@ -41,6 +42,7 @@ fn group(chance: &mut Chance) -> Vec<Vec<u8>> {
     }
     lines.add_good(|requests, _| requests.table_octets(&image));
     lines.add_sometimes(2, |requests, _| requests.check(&image[..CHECKED_LENGTH]));
+    lines.add_sometimes(3, |requests, chance| requests.check(&random_octets(chance)));
     for _ in 0..24 {
         lines.add_asked(&table, &image);
     }

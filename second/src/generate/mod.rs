@@ -120,6 +120,19 @@ mod tests {
         assert!(numbered.flat_map(|answer| answer.split(' ').nth(1)).all(|given| given != number));
     }
 
+    /// Those of another count of octets have no check and are not among them.
+    #[test]
+    fn at_least_250_checks_are_stored_and_none_twice() {
+        assert!(generate(None).unwrap().count("check given") >= 250);
+        let requests = stored().requests;
+        let mut checks: Vec<&[u8]> =
+            requests.split(|&octet| octet == b'\n').filter(|line| line.starts_with(b"check ")).collect();
+        let count = checks.len();
+        checks.sort();
+        checks.dedup();
+        assert_eq!(checks.len(), count);
+    }
+
     #[test]
     fn without_lines_every_required_case_is_missing() {
         assert_eq!(Coverage::default().missing(), coverage::required());

@@ -1,6 +1,7 @@
 //! Which cases lines meet: the answer numbers, the rules, and the ways to an answer. What a line meets is found from the
 //! line and its answer and not from how it was made, so that a line that misses its aim leaves its case missing.
 
+mod checks;
 mod closing_dot;
 mod filters;
 mod pings;
@@ -61,7 +62,10 @@ impl Coverage {
         let answer: Vec<&str> = answer.split(' ').collect();
         let (kind, number) = (*answer.first()?, *answer.get(1)?);
         match kind {
-            "check" => met.add("check given"),
+            "check" => {
+                met.add("check given");
+                checks::add_cases(&request, &answer, met)?;
+            }
             "walk" => walks::add_cases(&request, &answer, met)?,
             _ => met.add(format!("{kind} {number}")),
         }
@@ -120,6 +124,7 @@ pub const RETIRED_NUMBER: u8 = 10;
 pub fn required() -> Vec<String> {
     let mut cases = required_numbers();
     cases.extend(["check given", "a line of another shape"].map(str::to_string));
+    cases.extend(checks::required());
     cases.extend(tables::required());
     cases.extend(samples::required());
     cases.extend(required_of_pings());

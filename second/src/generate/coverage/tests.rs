@@ -138,6 +138,20 @@ fn a_closing_dot_meets_its_case_with_the_due_answer_alone() {
 }
 
 #[test]
+fn a_check_meets_its_cases_with_both_sums_right_alone() {
+    let mut octets = [0; 508];
+    octets[475] = 255;
+    let request = format!("check {}", word_of_octets(&octets));
+    for (answer, times) in [("check 256 8923", 1), ("check 256 8924", 0), ("check 257 8923", 0), ("check 8923 256", 0)]
+    {
+        let mut coverage = Coverage::default();
+        coverage.observe(request.as_bytes(), answer);
+        assert_eq!(coverage.count("check given"), 1);
+        assert_eq!(coverage.count("check: FFh alone at place 475"), times, "{answer}");
+    }
+}
+
+#[test]
 fn a_filter_cut_inside_a_length_is_observed() {
     let mut coverage = Coverage::default();
     coverage.observe(b"filter a3020482", "filter 6 . . . . . . . .");

@@ -1,27 +1,24 @@
-use mathlib.Core.Path.{ap}
-use Prim.Native.Nat.{ℕ, _*_, _≤_}
+use mathlib.Core.Path.{refl}
+use Prim.Native.Nat.{_*_, _≤_}
 use native.Mathlib.Omega.{arith}
 use native.Mathlib.Nat.{mul-le-mul-right}
 use borrow.Author.Needs.{needs}
 use Rattle.table_check.proofs.check.weighed.Statement.{statement}
 use Rattle.table_check.proofs.check.weighed.Tie as tie
 
-wide-requires : tie.Need-wide-requires
-wide-requires c κs = search needs
-
 mul-result : tie.Need-mul-result
 mul-result c =
-    let left = c .before .args .left in
-    let x = c .wide .result in
-    let m : x * left ≤ 256 * left = mul-le-mul-right left (omega (arith, c .wide .ensures .1)) in
+    let times = c .args .times in
+    let x = c .args .x in
+    let m : times * x ≤ 16 * x = mul-le-mul-right x (c .pre) in
     omega (arith, m)
 
 returns : tie.Need-returns
 returns c =
-    let left = c .before .args .left in
-    let x = c .wide .result in
-    let m : x * left ≤ 256 * left = mul-le-mul-right left (omega (arith, c .wide .ensures .1)) in
-    (ap (λ (k : ℕ). k * left) (c .wide .ensures .0), omega (arith, m))
+    let times = c .args .times in
+    let x = c .args .x in
+    let m : times * x ≤ 16 * x = mul-le-mul-right x (c .pre) in
+    (refl, omega (arith, m))
 
 pub weighed-spec : {M : Type 1} → statement M
-weighed-spec = tie.close (tie.spec wide-requires mul-result returns)
+weighed-spec = tie.close (tie.spec mul-result returns)
