@@ -1,8 +1,8 @@
 use mathlib.Core.Path.{sym, _∙_}
-use Rattle.table_sort.proofs.Laws.AccountKey.{sorted-rising, sorted-duplicate, in-pairs}
+use Rattle.table_sort.proofs.Laws.OrderLikeness.{sorted-rising, sorted-duplicate, in-pairs}
 use borrow.Author.Needs.{needs}
-use Rattle.table_sort.proofs.unique.are_accounts_unique.Statement.{statement}
-use Rattle.table_sort.proofs.unique.are_accounts_unique.Tie as tie
+use Rattle.table_sort.proofs.unique.are_unique.Statement.{statement}
+use Rattle.table_sort.proofs.unique.are_unique.Tie as tie
 
 sort-requires : tie.Need-sort-requires
 sort-requires c κs = search needs
@@ -19,6 +19,9 @@ enum-told-2 c = search needs
 enum-told-3 : tie.Need-enum-told-3
 enum-told-3 c = search needs
 
+likeness-of-requires : tie.Need-likeness-of-requires
+likeness-of-requires c κs = search needs
+
 all-unique-requires : tie.Need-all-unique-requires
 all-unique-requires c κs = search needs
 
@@ -28,7 +31,7 @@ same-length c = search needs
 returns : tie.Need-returns
 returns c =
     let a = c .before .before .before .before .before .before .before .before .before .before .args in
-    sorted-rising (a .image .now) (a .offsets .now) _ (c .before .before .before .before .before .before .sort .ensures) (sym (c .enum-told .given .1) ∙ c .before .before .compare-neighbours .ensures)
+    sorted-rising (a .order) (a .image .now) (a .offsets .now) _ (c .before .before .before .before .before .before .sort .ensures) (sym (c .enum-told .given .1) ∙ c .before .before .compare-neighbours .ensures)
 
 same-length-2 : tie.Need-same-length-2
 same-length-2 c = search needs
@@ -36,18 +39,19 @@ same-length-2 c = search needs
 returns-2 : tie.Need-returns-2
 returns-2 c =
     let a = c .before .before .before .before .before .before .before .before .before .before .args in
-    sorted-duplicate (a .image .now) (a .offsets .now) _ (c .before .before .before .before .before .before .sort .ensures) (sym (c .enum-told2 .given .1) ∙ c .before .before .compare-neighbours .ensures)
+    sorted-duplicate (a .order) (a .image .now) (a .offsets .now) _ (c .before .before .before .before .before .before .sort .ensures) (sym (c .enum-told2 .given .1) ∙ c .before .before .compare-neighbours .ensures)
 
 same-length-3 : tie.Need-same-length-3
 same-length-3 c = search needs
 
 returns-3 : tie.Need-returns-3
 returns-3 c =
-    let a = c .before .before .before .before .before .before .before .before .before .before .before .before .args in
-    c .all-unique .ensures ∙ in-pairs (a .image .now) (a .offsets .now) _ (c .before .before .before .before .before .before .before .before .sort .ensures)
+    let a = c .before .before .before .before .before .before .before .before .before .before .before .before .before .args in
+    rw (c .before .likeness-of .ensures) at (c .all-unique .ensures)
+    ∙ in-pairs (a .order) (a .image .now) (a .offsets .now) _ (c .before .before .before .before .before .before .before .before .before .sort .ensures)
 
-pub are-accounts-unique-spec : {M : Type 1} → statement M
-are-accounts-unique-spec =
+pub are-unique-spec : {M : Type 1} → statement M
+are-unique-spec =
     tie.close
     (tie.spec
     sort-requires
@@ -55,6 +59,7 @@ are-accounts-unique-spec =
     enum-told
     enum-told-2
     enum-told-3
+    likeness-of-requires
     all-unique-requires
     same-length
     returns
