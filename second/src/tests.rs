@@ -328,7 +328,7 @@ fn a_context_is_named_with_one_closing_dot_or_without() {
     for value in values {
         let is_of =
             |name: &&[u8]| value.eq_ignore_ascii_case(name) || value.eq_ignore_ascii_case(&[name, &b"."[..]].concat());
-        let expected = match names.iter().position(|name| is_of(&name)) {
+        let expected = match names.iter().position(is_of) {
             Some(place) => Ok(ContextNumber(2 + place as u16)),
             None if value.is_empty() => Err(13),
             None => Err(14),

@@ -66,7 +66,7 @@ pub fn with_nets(sites: u16, nets: &[Net]) -> Image {
 pub fn full_table() -> Vec<Net> {
     let nets = (0..MOST as u32).map(|place| {
         let group = place / 9 * 211 % 579;
-        let inside = 0x0A00_0000 | group << 8 | group * 37 & 0xFF;
+        let inside = 0x0A00_0000 | group << 8 | (group * 37) & 0xFF;
         Net::around(inside, 24 + (place * 5 % 9) as u8, (place % 8) as u16)
     });
     nets.collect()
