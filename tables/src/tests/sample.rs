@@ -47,7 +47,9 @@ pub fn random_table(chance: &mut Chance) -> Table {
     let site_records = sites.iter().map(|number| site(chance, &sites, *number)).collect();
     blocks.extend(scattered(chance, Kind::Sites, site_records));
     let mut taken = BTreeSet::new();
-    let subnets = (0..chance.below(150)).map(|_| subnet(chance, &sites)).filter(|subnet| taken.insert((subnet.address, subnet.prefix)));
+    let subnets = (0..chance.below(150))
+        .map(|_| subnet(chance, &sites))
+        .filter(|subnet| taken.insert((subnet.address, subnet.prefix)));
     let subnets = subnets.map(Record::Subnet).collect();
     blocks.extend(scattered(chance, Kind::Subnets, subnets));
     for end in (1..blocks.len()).rev() {
