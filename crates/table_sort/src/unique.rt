@@ -4,6 +4,7 @@ ghost use Rattle.octets.specs.Lists.{unique};
 ghost use Rattle.table_records.specs.Internal.Alike.{alikeAt};
 ghost use Rattle.table_sort.specs.Internal.Neighbours.{neighboursBy};
 ghost use Rattle.table_sort.specs.Internal.OrderLikeness.{likenessOf};
+ghost use Rattle.table_sort.specs.Internal.Reordered.{Reordered};
 ghost use Rattle.table_compare.specs.Internal.OrderKey.{compareAt};
 use crate::sort::sort;
 use table_compare::compare::Order;
@@ -43,11 +44,20 @@ fn likeness_of(order: Order) -> Likeness
     }
 }
 
+// A table kept in order is not sorted again.
+fn put_in_order(image: &[u8], offsets: &mut [u16], order: Order)
+    ensures { λ _. ⌜ Reordered (now (offsets .entry)) (now (offsets .exit)) ⌝ }
+{
+    if let Neighbours::Unsorted = compare_neighbours(image, offsets, order) {
+        sort(image, offsets, order);
+    }
+}
+
 // A list that the sort left unsorted would be compared in pairs: slow, and right all the same.
 pub fn are_unique(image: &[u8], offsets: &mut [u16], order: Order) -> bool
     ensures { λ r. ⌜ r ≡ unique (alikeAt (likenessOf order) (now (image .entry))) (now (offsets .entry)) ⌝ }
 {
-    sort(image, offsets, order);
+    put_in_order(image, offsets, order);
     match compare_neighbours(image, offsets, order) {
         Neighbours::Rising => true,
         Neighbours::Duplicate => false,
