@@ -4,8 +4,8 @@ ghost use Rattle.octets.specs.Lists.{any, unique};
 ghost use Rattle.table.specs.Account.{accountOf};
 ghost use Rattle.table.specs.Context.{contextOf};
 ghost use Rattle.table.specs.SameName.{sameSid};
-ghost use Rattle.table.specs.Subnet.{subnetOf};
-ghost use Rattle.table_records.specs.Internal.Alike.{contextsAlike, accountsAlike, subnetsAlike, alikeBy, recordKindOf, likeAt, alikeAt};
+ghost use Rattle.table.specs.Subnet.{sameNetwork, subnetOf};
+ghost use Rattle.table_records.specs.Internal.Alike.{contextsAlike, accountsAlike, alikeBy, recordKindOf, likeAt, alikeAt};
 use octets::text::same_octets;
 use table::account;
 use table::context;
@@ -67,7 +67,7 @@ fn are_accounts_alike(a: &[u8], b: &[u8]) -> bool
 
 // Subnets of different sites may be alike.
 fn are_subnets_alike(a: &[u8], b: &[u8]) -> bool
-    ensures { λ r. ⌜ r ≡ subnetsAlike (subnetOf (now (a .entry))) (subnetOf (now (b .entry))) ⌝ }
+    ensures { λ r. ⌜ r ≡ sameNetwork (subnetOf (now (a .entry))) (subnetOf (now (b .entry))) ⌝ }
 {
     let x = address_number(subnet::address(a));
     let y = address_number(subnet::address(b));

@@ -1,19 +1,18 @@
 -- Document 01, "The table image": the table as a whole.
 use mathlib.Core.Bool.{Bool, not, _&&_}
 use mathlib.Core.List.{List}
-use lib.Dec.{eqb, leb}
+use lib.Dec.{leb}
 use lib.ListN.{length}
 use Rattle.octets.specs.Lists.{all, any, unique, holds, noneOr}
 use Rattle.octets.specs.Text.{same, within}
 use Rattle.table.specs.declared.ContextNumber.{ContextNumber}
 use Rattle.table.specs.declared.SiteNumber.{SiteNumber}
 use Rattle.table.specs.Account.{Account}
-use Rattle.table.specs.Address.{addressNumber}
 use Rattle.table.specs.Context.{Context}
 use Rattle.table.specs.Countings.{sameContext, sameSite}
 use Rattle.table.specs.Site.{Site}
 use Rattle.table.specs.SameName.{sameSid, sameDnsName, sameAccountName}
-use Rattle.table.specs.Subnet.{Subnet}
+use Rattle.table.specs.Subnet.{Subnet, sameNetwork}
 use Rattle.table.specs.Table.{Table}
 
 -- context numbers, GUIDs, SIDs and DNS names are unique
@@ -31,9 +30,9 @@ accountsUnique = unique (λ a b. sameContext (a .context) (b .context) && sameAc
 unfoldable pub sitesUnique : List Site → Bool
 sitesUnique = unique (λ s t. sameSite (s .number) (t .number))
 
--- no two subnets have one address and prefix, whatever their sites
+-- no two subnets have one address and prefix
 unfoldable pub subnetsUnique : List Subnet → Bool
-subnetsUnique = unique (λ n m. eqb (addressNumber (n .address)) (addressNumber (m .address)) && eqb (n .prefix) (m .prefix))
+subnetsUnique = unique sameNetwork
 
 -- the context, or the site, of a number exists
 unfoldable pub hasContext : Table → ContextNumber → Bool

@@ -17,16 +17,13 @@ use Rattle.table.specs.declared.SiteNumber.{SiteNumber}
 use Rattle.table.specs.Address.{addressNumber, networkOf, isPrefixOnly, sharePrefix}
 use Rattle.table.specs.Countings.{sameSite}
 use Rattle.table.specs.Site.{Site}
-use Rattle.table.specs.Subnet.{Subnet}
+use Rattle.table.specs.Subnet.{Subnet, sameNetwork}
 use Rattle.table.specs.Table.{Table, tableFrom}
 use Rattle.table_find.specs.Find.{inSubnet, nearer, nearest, subnetFor, siteByNumber, siteIfAny, siteOfSubnet, siteFor, clientSite}
 use Rattle.table_whole.specs.Judgement.{tableIn}
 use Rattle.table_whole.specs.Whole.{subnetsUnique}
 use Rattle.table_whole.proofs.Laws.Judgement.{PrefixOnly, accepted, accepted-subnets, accepted-prefixes}
 use Rattle.table_lookup.specs.NearestSubnet.{Among, Decides, NearestIn, NearestSubnet, SameSubnets, SubnetOrder}
-
-alike : Subnet → Subnet → Bool
-alike n m = eqb (addressNumber (n .address)) (addressNumber (m .address)) && eqb (n .prefix) (m .prefix)
 
 -- ---- one of several
 
@@ -45,8 +42,8 @@ later x n ns a = record { before = x ∷ a .before; behind = a .behind; stands =
 
 module _ (address : ℕ) where
   -- two that hold the address with one prefix have one network
-  one-network : (n m : Subnet) → PrefixOnly n → PrefixOnly m → inSubnet address n ≡ true → inSubnet address m ≡ true → n .prefix ≡ m .prefix → alike n m ≡ true
-  unfolding alike inSubnet sharePrefix isPrefixOnly
+  one-network : (n m : Subnet) → PrefixOnly n → PrefixOnly m → inSubnet address n ≡ true → inSubnet address m ≡ true → n .prefix ≡ m .prefix → sameNetwork n m ≡ true
+  unfolding sameNetwork inSubnet sharePrefix isPrefixOnly
   one-network n m p q h k e =
       let x : networkOf (n .prefix) address ≡ addressNumber (n .address) = eqb-true _ _ h ∙ eqb-true _ _ p in
       let y : networkOf (m .prefix) address ≡ addressNumber (m .address) = eqb-true _ _ k ∙ eqb-true _ _ q in
@@ -102,7 +99,7 @@ module _ (address : ℕ) where
   all-between p (x ∷ before) n behind e f = rw (both-left (p x) (all p (before ++ behind)) e) (all-between p before n behind (both-right (p x) (all p (before ++ behind)) e) f)
 
   -- one more in front of those of which it is known
-  module _ (x : Subnet) (ns : List Subnet) (apart : any (alike x) ns ≡ false) (own : PrefixOnly x) (others : Every PrefixOnly ns) where
+  module _ (x : Subnet) (ns : List Subnet) (apart : any (sameNetwork x) ns ≡ false) (own : PrefixOnly x) (others : Every PrefixOnly ns) where
     passed : (m : Subnet) → Decides address m ns → below (m .prefix) x ≡ true → Decides address m (x ∷ ns)
     unfolding all later
     passed m d b = record { among = later x m ns (d .among); holding = d .holding; nearest = rw b (d .nearest) }
@@ -117,8 +114,8 @@ module _ (address : ℕ) where
         where
           go : (b : Bool) → eqb (x .prefix) (m .prefix) ≡ b → m .prefix < x .prefix
           go true q =
-              let same : alike x m ≡ true = one-network x m own (every-among PrefixOnly ns m others (d .among)) h (d .holding) (eqb-true (x .prefix) (m .prefix) q) in
-              absurd (false≢true (sym (any-among (alike x) ns m apart (d .among)) ∙ same))
+              let same : sameNetwork x m ≡ true = one-network x m own (every-among PrefixOnly ns m others (d .among)) h (d .holding) (eqb-true (x .prefix) (m .prefix) q) in
+              absurd (false≢true (sym (any-among (sameNetwork x) ns m apart (d .among)) ∙ same))
           go false q = let n : x .prefix ≡ m .prefix → ⊥ = eqb-false (x .prefix) (m .prefix) q in omega (arith, k, n)
 
       all-shorter : m .prefix ≤ x .prefix → all (below (x .prefix)) ns ≡ true
@@ -152,12 +149,12 @@ module _ (address : ℕ) where
         go false h f = passed n (rest n f) (rw h)
         go true h f = chosen h (nearest (keep (inSubnet address) ns)) refl f
 
-  decided : (ns : List Subnet) → unique alike ns ≡ true → Every PrefixOnly ns → (n : Subnet) → nearest (keep (inSubnet address) ns) ≡ some n → Decides address n ns
+  decided : (ns : List Subnet) → unique sameNetwork ns ≡ true → Every PrefixOnly ns → (n : Subnet) → nearest (keep (inSubnet address) ns) ≡ some n → Decides address n ns
   unfolding nearest keep unique
   decided [] u g n e = absurd (none-not-some n e)
   decided (x ∷ ns) u g n e =
-      let rest : unique alike ns ≡ true = both-right (not (any (alike x) ns)) (unique alike ns) u in
-      one-more x ns (not-true (any (alike x) ns) (both-left (not (any (alike x) ns)) (unique alike ns) u)) (g .0) (g .1) (decided ns rest (g .1)) n e
+      let rest : unique sameNetwork ns ≡ true = both-right (not (any (sameNetwork x) ns)) (unique sameNetwork ns) u in
+      one-more x ns (not-true (any (sameNetwork x) ns) (both-left (not (any (sameNetwork x) ns)) (unique sameNetwork ns) u)) (g .0) (g .1) (decided ns rest (g .1)) n e
 
 -- ---- the table
 
@@ -165,8 +162,8 @@ module _ (image : List ℕ) (t : Table) (e : tableIn image ≡ good t) where
   own : tableFrom image ≡ t
   own = good-same (sym (accepted image t e) ∙ e)
 
-  subnets-apart : unique alike (t .subnets) ≡ true
-  unfolding subnetsUnique alike
+  subnets-apart : unique sameNetwork (t .subnets) ≡ true
+  unfolding subnetsUnique
   subnets-apart = ap (λ (x : Table). subnetsUnique (x .subnets)) (sym own) ∙ accepted-subnets image (accepted image t e)
 
   prefixes : Every PrefixOnly (t .subnets)

@@ -2,17 +2,15 @@
 use mathlib.Core.Bool.{Bool, _&&_, _||_}
 use mathlib.Core.List.{List}
 use Prim.Native.Nat.{ℕ}
-use lib.Dec.{eqb}
 use Rattle.octets.specs.Text.{same}
 use Rattle.table.specs.declared.record.RecordKind.{RecordKind}
 use Rattle.table.specs.declared.record.RecordKind.the-variants as kind
 use Rattle.table.specs.Account.{Account, accountOf}
-use Rattle.table.specs.Address.{addressNumber}
 use Rattle.table.specs.Context.{Context, contextOf}
 use Rattle.table.specs.Countings.{sameContext}
 use Rattle.table.specs.Internal.RecordAt.{recordAt}
 use Rattle.table.specs.SameName.{sameSid, sameAccountName, sameDnsName}
-use Rattle.table.specs.Subnet.{Subnet, subnetOf}
+use Rattle.table.specs.Subnet.{sameNetwork, subnetOf}
 use Rattle.table_records.specs.declared.alike.Likeness.{Likeness}
 use Rattle.table_records.specs.declared.alike.Likeness.the-variants.{Contexts, Accounts, Subnets}
 
@@ -22,13 +20,10 @@ contextsAlike c d = sameContext (c .number) (d .number) || same (c .guid) (d .gu
 abbrev pub accountsAlike : Account → Account → Bool
 accountsAlike a b = sameContext (a .context) (b .context) && sameAccountName (a .name) (b .name)
 
-abbrev pub subnetsAlike : Subnet → Subnet → Bool
-subnetsAlike n m = eqb (addressNumber (n .address)) (addressNumber (m .address)) && eqb (n .prefix) (m .prefix)
-
 abbrev pub alikeBy : Likeness → List ℕ → List ℕ → Bool
 alikeBy Contexts a b = contextsAlike (contextOf a) (contextOf b)
 alikeBy Accounts a b = accountsAlike (accountOf a) (accountOf b)
-alikeBy Subnets a b = subnetsAlike (subnetOf a) (subnetOf b)
+alikeBy Subnets a b = sameNetwork (subnetOf a) (subnetOf b)
 
 abbrev pub recordKindOf : Likeness → RecordKind
 recordKindOf Contexts = kind.Context

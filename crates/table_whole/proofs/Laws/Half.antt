@@ -26,11 +26,11 @@ use Rattle.table.specs.Countings.{sameContext, sameSite}
 use Rattle.table.specs.Format.{recordsIn}
 use Rattle.table.specs.SameName.{sameSid, sameDnsName}
 use Rattle.table.specs.Site.{siteOf}
-use Rattle.table.specs.Subnet.{subnetFormat, subnetOf}
+use Rattle.table.specs.Subnet.{subnetFormat, sameNetwork, subnetOf}
 use Rattle.table.specs.Table.{Table, isUsed, bodies, recordsOf, tableOf, tableFrom}
 use Rattle.table.specs.Internal.RecordAt.{recordAt}
 use Rattle.table_records.specs.declared.alike.Likeness.the-variants.{Contexts, Accounts, Subnets}
-use Rattle.table_records.specs.Internal.Alike.{alikeAt, contextsAlike, subnetsAlike}
+use Rattle.table_records.specs.Internal.Alike.{alikeAt, contextsAlike}
 use Rattle.table_whole.specs.Whole.{contextsUnique, accountsUnique, sitesUnique, subnetsUnique, hasContext, hasSite, refersRightly, goodWhole}
 use Rattle.table_whole.specs.Internal.Half.{AllOf, SiteMarks, goodAccounts, goodContexts, contextHalf, goodNext, goodSubnets, goodReferences, goodSites, siteHalf}
 use Rattle.table_refer.specs.Internal.Mark.{Marked, sameSiteAt}
@@ -172,7 +172,7 @@ module _ (image sites : List ℕ) (e : AllOf kind.Site image sites) where
 -- subnets by themselves
 pub subnets-unique : (image subnets : List ℕ) → AllOf kind.Subnet image subnets → unique (alikeAt Subnets image) subnets ≡ subnetsUnique (tableFrom image .subnets)
 unfolding tableOf subnetsUnique
-subnets-unique image subnets e = unique-at subnetOf kind.Subnet image subnets e subnetsAlike
+subnets-unique image subnets e = unique-at subnetOf kind.Subnet image subnets e sameNetwork
 
 -- the two halves and the subnets by themselves are the whole
 halves : (t : Table) → ((contextHalf t && siteHalf t) && subnetsUnique (t .subnets)) ≡ goodWhole t

@@ -3,6 +3,7 @@ use mathlib.Core.Bool.{Bool, _&&_}
 use Prim.Native.Nat.{ℕ}
 use lib.Dec.{eqb}
 use Rattle.table.specs.Address.{addressNumber}
+use Rattle.table.specs.Subnet.{sameNetwork}
 use borrow.Author.Needs.{needs}
 use Rattle.table_records.proofs.alike.are_subnets_alike.Statement.{statement}
 use Rattle.table_records.proofs.alike.are_subnets_alike.Tie as tie
@@ -26,6 +27,7 @@ prefix-requires-2 : tie.Need-prefix-requires-2
 prefix-requires-2 c κs = search needs
 
 returns : tie.Need-returns
+unfolding sameNetwork
 returns c =
     let x = c .before .before .before .before .address-number .ensures ∙ ap addressNumber (c .before .before .before .before .before .address .ensures) in
     let y = c .before .before .address-number2 .ensures ∙ ap addressNumber (c .before .before .before .address2 .ensures) in
