@@ -9,7 +9,7 @@ ghost use Rattle.table.specs.Block.{blockSize, blockAt, blocksOf, bodySize};
 ghost use Rattle.table.specs.Subnet.{subnetFormat, subnetOf};
 ghost use Rattle.table_whole.specs.Judgement.{Accepted};
 ghost use Rattle.table_find.specs.Internal.Found.{LiesIn, subnetAt};
-ghost use Rattle.table_find.specs.Internal.Nearest.{longer, nearerHeld, nearestInBody, nearestInBlock, nearestIn};
+ghost use Rattle.table_find.specs.Internal.Nearest.{longer, nearestInBody, nearestInBlock, nearestIn};
 use octets::part::part;
 use table::BlockPlace;
 use table::block::BLOCK_SIZE;
@@ -40,18 +40,6 @@ fn longer_prefix(image: &[u8], best: Found, offset: usize) -> Found
     }
 }
 
-// The nearest after the record at an offset was looked at.
-fn nearer(image: &[u8], best: Found, offset: usize, address: u32) -> Found
-    requires { ⌜ (offset + subnetFormat .width ≤ length (now image)) × LiesIn (now image) kind.Subnet best ⌝ }
-    ensures { λ r. ⌜ subnetAt (now (image .entry)) r ≡ nearerHeld address (subnetAt (now (image .entry)) best) (cut (now (image .entry)) offset (subnetFormat .width)) ⌝ }
-    ensures { λ r. ⌜ LiesIn (now (image .entry)) kind.Subnet r ⌝ }
-{
-    if is_holder(part(image, offset, subnet::FORMAT.width), address) {
-        return longer_prefix(image, best, offset);
-    }
-    best
-}
-
 // The nearest after the body at an offset.
 fn nearest_in_body(image: &[u8], start: Found, body: usize, address: u32) -> Found
     requires { ⌜ (body + bodySize ≤ length (now image)) × LiesIn (now image) kind.Subnet start ⌝ }
@@ -62,9 +50,12 @@ fn nearest_in_body(image: &[u8], start: Found, body: usize, address: u32) -> Fou
     let mut left = subnet::FORMAT.count;
     let mut offset = body;
     while 0 < left {
-        best = nearer(image, best, offset, address);
+        let here = offset;
         offset += subnet::FORMAT.width;
         left -= 1;
+        if is_holder(part(image, here, subnet::FORMAT.width), address) {
+            best = longer_prefix(image, best, here);
+        }
     }
     best
 }
