@@ -1,15 +1,15 @@
 // The nearest subnet that holds an address: one pass over the subnets, in which a later one takes the place of one with a shorter prefix.
 ghost use mathlib.Core.Path.{_≡_};
 ghost use mathlib.Core.Option.{none};
-ghost use Prim.Native.Nat.{_+_, _≤_, _<_, _/_};
+ghost use Prim.Native.Nat.{_+_, _≤_};
 ghost use lib.ListN.{length};
 ghost use Rattle.octets.specs.Lists.{cut};
 ghost use Rattle.table.specs.declared.record.RecordKind.the-variants as kind;
-ghost use Rattle.table.specs.Block.{blockSize, blockAt, blocksOf, bodySize};
+ghost use Rattle.table.specs.Block.{blocksOf, bodySize};
 ghost use Rattle.table.specs.Subnet.{subnetFormat, subnetOf};
 ghost use Rattle.table_whole.specs.Judgement.{Accepted};
 ghost use Rattle.table_find.specs.Internal.Found.{LiesIn, subnetAt};
-ghost use Rattle.table_find.specs.Internal.Nearest.{longer, nearestInBody, nearestInBlock, nearestIn};
+ghost use Rattle.table_find.specs.Internal.Nearest.{longer, nearestInBody, nearestIn};
 use octets::part::part;
 use table::BlockPlace;
 use table::block::BLOCK_SIZE;
@@ -60,19 +60,6 @@ fn nearest_in_body(image: &[u8], start: Found, body: usize, address: u32) -> Fou
     best
 }
 
-// The nearest after the block at a place; a block of another kind has none.
-fn nearest_in_block(image: &[u8], best: Found, place: BlockPlace, address: u32) -> Found
-    requires { ⌜ (place .0 < length (now image) / blockSize) × LiesIn (now image) kind.Subnet best ⌝ }
-    ensures { λ r. ⌜ subnetAt (now (image .entry)) r ≡ nearestInBlock address (subnetAt (now (image .entry)) best) (blockAt (now (image .entry)) place) ⌝ }
-    ensures { λ r. ⌜ LiesIn (now (image .entry)) kind.Subnet r ⌝ }
-{
-    if kind_of(block_at(image, place)) != subnet::FORMAT.kind {
-        return best;
-    }
-    let block = BLOCK_SIZE * (place.0 as usize);
-    nearest_in_body(image, best, block + BODY, address)
-}
-
 // The nearest of an image.
 pub fn nearest_subnet(image: &[u8], address: u32) -> Found
     requires { ⌜ Accepted (now image) ⌝ }
@@ -83,8 +70,11 @@ pub fn nearest_subnet(image: &[u8], address: u32) -> Found
     let mut best = Found::Nothing;
     let mut i = 0;
     while i < blocks {
-        best = nearest_in_block(image, best, BlockPlace(i as u16), address);
+        let place = i;
         i += 1;
+        if kind_of(block_at(image, BlockPlace(place as u16))) == subnet::FORMAT.kind {
+            best = nearest_in_body(image, best, BLOCK_SIZE * place + BODY, address);
+        }
     }
     best
 }

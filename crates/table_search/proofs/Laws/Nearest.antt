@@ -56,13 +56,27 @@ module _ (address : ℕ) where
       go true = over-append best (recordsIn subnetFormat (body block)) (flatMap (recordsIn subnetFormat) (map body rest))
       go false = refl
 
-  -- what is left at a place
-  pub nearest-step : (best there : Option Subnet) (image : List ℕ) (i : ℕ) → i < length image / blockSize
-      → there ≡ nearestInBlock address best (blockAt image (blockPlace i))
+  -- what is left at a place: a block of subnets, and one of another kind
+  step : (best : Option Subnet) (image : List ℕ) (i : ℕ) → i < length image / blockSize
+      → nearestIn address (nearestInBlock address best (blockAt image (blockPlace i))) (drop (i + 1) (blocksOf image)) ≡ nearestIn address best (drop i (blocksOf image))
+  step best image i h = sym (ap (nearestIn address best) (blocks-step image i h) ∙ in-cons best (blockAt image (blockPlace i)) (drop (i + 1) (blocksOf image)))
+
+  pub in-block : (best there : Option Subnet) (image : List ℕ) (i : ℕ) → i < length image / blockSize
+      → eqb (kindIn (blockAt image (blockPlace i))) (subnetFormat .kind) ≡ true
+      → there ≡ nearestInBody address best (body (blockAt image (blockPlace i)))
       → nearestIn address there (drop (i + 1) (blocksOf image)) ≡ nearestIn address best (drop i (blocksOf image))
-  nearest-step best there image i h e =
-      ap (λ (o : Option Subnet). nearestIn address o (drop (i + 1) (blocksOf image))) e
-      ∙ sym (ap (nearestIn address best) (blocks-step image i h) ∙ in-cons best (blockAt image (blockPlace i)) (drop (i + 1) (blocksOf image)))
+  unfolding nearestInBlock
+  in-block best there image i h e f =
+      let made : there ≡ nearestInBlock address best (blockAt image (blockPlace i)) = rw e f in
+      ap (λ (o : Option Subnet). nearestIn address o (drop (i + 1) (blocksOf image))) made ∙ step best image i h
+
+  pub past-block : (best : Option Subnet) (image : List ℕ) (i : ℕ) → i < length image / blockSize
+      → eqb (kindIn (blockAt image (blockPlace i))) (subnetFormat .kind) ≡ false
+      → nearestIn address best (drop (i + 1) (blocksOf image)) ≡ nearestIn address best (drop i (blocksOf image))
+  unfolding nearestInBlock
+  past-block best image i h e =
+      let kept : best ≡ nearestInBlock address best (blockAt image (blockPlace i)) = rw e in
+      ap (λ (o : Option Subnet). nearestIn address o (drop (i + 1) (blocksOf image))) kept ∙ step best image i h
 
   pub nearest-end : (best : Option Subnet) (image : List ℕ) (i : ℕ) → length image / blockSize ≤ i → best ≡ nearestIn address best (drop i (blocksOf image))
   unfolding nearestIn bodies keep flatMap nearestOver

@@ -19,7 +19,7 @@ use Rattle.table_search.proofs.nearest.nearest_in_body.Statement.{state
 use Rattle.table_search.proofs.nearest.nearest_in_body.Tie as tie
 
 abbrev Inv-loop : tie.InvT-loop
-Inv-loop image body address best₀ left₀ offset₀ best left offset = 
+Inv-loop image body address best₀ left₀ offset₀ best left offset =
     (left * 12 + offset ≡ body + bodySize) × LiesIn image kind.Subnet best
     × (nearestOver address (subnetAt image best) (pieces left 12 (drop offset image)) ≡ nearestInBody address (subnetAt image best₀) (cut image body bodySize))
 
@@ -57,8 +57,8 @@ loop-again c =
       omega (arith, l .inv .0),
       c .longer-prefix .ensures .1,
       ap (λ (o : Option Subnet). nearestOver (a .address) o (pieces (l .left - 1) 12 (drop (l .offset + 12) (a .image .now)))) now
-      ∙ over-next (a .address) (subnetAt (a .image .now) (l .best)) (a .image .now) 12 (l .left) (l .offset) (c .before .before .before .before .before .loop-test .taken)
-      ∙ l .inv .2,
+          ∙ over-next (a .address) (subnetAt (a .image .now) (l .best)) (a .image .now) 12 (l .left) (l .offset) (c .before .before .before .before .before .loop-test .taken)
+          ∙ l .inv .2,
     )
 
 loop-less-2 : tie.Need-loop-less-2 Inv-loop μ-loop
@@ -74,12 +74,12 @@ loop-again-2 c =
       omega (arith, l .inv .0),
       l .inv .1,
       ap (λ (o : Option Subnet). nearestOver (a .address) o (pieces (l .left - 1) 12 (drop (l .offset + 12) (a .image .now)))) now
-      ∙ over-next (a .address) (subnetAt (a .image .now) (l .best)) (a .image .now) 12 (l .left) (l .offset) (c .before .before .before .before .loop-test .taken)
-      ∙ l .inv .2,
+          ∙ over-next (a .address) (subnetAt (a .image .now) (l .best)) (a .image .now) 12 (l .left) (l .offset) (c .before .before .before .before .loop-test .taken)
+          ∙ l .inv .2,
     )
 
 returns : tie.Need-returns Inv-loop μ-loop
-returns c = 
+returns c =
     let a = c .before .before .before .args in
     let l = c .before .loop in
     (over-end (a .address) (subnetAt (a .image .now) (l .best)) (a .image .now) 12 (l .left) (l .offset) (c .loop-test .left) ∙ l .inv .2, l .inv .1)
