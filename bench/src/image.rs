@@ -54,7 +54,12 @@ impl Image {
     }
 
     pub fn full_of_subnets() -> Image {
-        Image::full(SUBNETS, |k| subnet(k, 1))
+        Image::of_subnets(|k| k)
+    }
+
+    /// 128 blocks full of subnets, numbered so.
+    pub fn of_subnets(number: impl Fn(usize) -> usize) -> Image {
+        Image::full(SUBNETS, |k| subnet(number(k), 1))
     }
 
     /// 128 blocks full of accounts of these names.

@@ -8,12 +8,24 @@ pub fn long_name(k: usize) -> Vec<u8> {
     format!("{:059}{:04}", 0, k).into_bytes()
 }
 
+/// Orders of subnets, each number once.
+pub fn falling(k: usize) -> usize {
+    9_999 - k
+}
+
+pub fn mixed(k: usize) -> usize {
+    k * 7_919 % 10_007
+}
+
 /// Each image with what it is and the answer that it must get.
 fn images() -> Vec<(&'static str, Image, u8)> {
     vec![
         ("5 blocks", Image::five_blocks(), 0),
         ("128 blocks, sites", Image::full_of_sites(), 0),
         ("128 blocks, subnets", Image::full_of_subnets(), 0),
+        ("128 blocks, subnets in falling order", Image::of_subnets(falling), 0),
+        ("128 blocks, subnets in no order", Image::of_subnets(mixed), 0),
+        ("128 blocks, all subnets the same", Image::of_subnets(|_| 0), 4),
         ("128 blocks, ordinary accounts", Image::full_of_accounts(), 0),
         ("128 blocks, accounts that differ at the end", Image::of_users(|k| long_name(k * 7919 % 1000)), 0),
         ("128 blocks, the same in order", Image::of_users(long_name), 0),

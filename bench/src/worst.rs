@@ -1,6 +1,7 @@
 //! What each public call costs at worst: of several inputs that could be its worst, the one of the most instructions, with its time
 //! and the most stack that any of them takes.
-use crate::image::{Laden, Order};
+use crate::image::{Image, Laden, Order};
+use crate::judge::{falling, mixed};
 use crate::measure::{instructions, medians_of, run_counted, stack, Call};
 use crate::pings::{element, equality, worst_filter, CLIENT, EX_VERSION};
 use crate::replies::{longest, with_text, worst_ex, Name, LABELS_MOST, LETTER, LONG, PAIR};
@@ -59,8 +60,10 @@ fn tables() -> Vec<(String, Laden)> {
 
 fn judgements() -> Worst {
     let mut worst = Worst::new("judge");
-    for (input, table) in tables() {
-        let image = table.image();
+    let mut images: Vec<(String, Image)> = tables().into_iter().map(|(input, table)| (input, table.image())).collect();
+    images.push(("5,166 subnets, falling".into(), Image::of_subnets(falling)));
+    images.push(("5,166 subnets, mixed".into(), Image::of_subnets(mixed)));
+    for (input, image) in images {
         assert!(vinegarjar::judge(image.octets()).is_ok(), "{input}");
         worst.add(input, move || {
             black_box(&vinegarjar::judge(black_box(image.octets())));

@@ -180,13 +180,15 @@ fn is_usable(account: &Account, aac: u32) -> bool {
     account.control & ACCOUNT_DISABLED == 0 && aac & account.control & ACCOUNT_KINDS != 0
 }
 
-/// The client's site s: a lone site, or that of the first subnet holding the address.
+/// The client's site s: a lone site, or that of the nearest subnet holding the address (#102). Where that one has none,
+/// a shorter one does not step in.
 fn client_site<'a>(table: &Table<'a>, client: ClientAddress) -> Option<Site<'a>> {
     if let [only] = table.sites.as_slice() {
         return Some(*only);
     }
-    let subnet = table.subnets.iter().find(|subnet| client.lies_in(subnet))?;
-    table.site(subnet.site?).copied()
+    let holding = table.subnets.iter().filter(|subnet| client.lies_in(subnet));
+    let nearest = holding.max_by_key(|subnet| subnet.prefix_length())?;
+    table.site(nearest.site?).copied()
 }
 
 fn form_of(roles: u32, version: u32) -> Form {

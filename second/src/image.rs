@@ -181,6 +181,20 @@ impl Image {
         self.push(kind, &body);
     }
 
+    /// The first block of a kind with an unused record of a length, and that record's place among the block's records.
+    pub fn free_place(&self, kind: u8, length: usize) -> Option<(usize, usize)> {
+        let of_kind = self.blocks.iter().enumerate().filter(|(_, block)| block[0] == kind);
+        let mut free = of_kind.filter_map(|(place, block)| {
+            let mut records = block[4..CHECKED_LENGTH].chunks(length);
+            records.position(|record| record.iter().all(|&octet| octet == 0)).map(|record| (place, record))
+        });
+        free.next()
+    }
+
+    pub fn set_record(&mut self, block: usize, place: usize, record: &Record) {
+        self.set_all(block, place * record.octets.len(), &record.octets);
+    }
+
     /// Sets one octet of a block's body.
     pub fn set(&mut self, block: usize, at: usize, octet: u8) {
         self.set_all(block, at, &[octet]);

@@ -1,5 +1,7 @@
 //! The table image: check, layout, the whole, and its records (document 01, "The table image").
 
+use std::collections::BTreeSet;
+
 use crate::answers::{require, Refusal};
 use crate::octets::{
     all_zero, equal_folded, is_account_name, is_dns_name, is_netbios_name, is_site_name, sid_length, u16_at, u32_at,
@@ -62,6 +64,12 @@ pub struct Subnet {
     pub address: u32,
     pub mask: u32,
     pub site: Option<SiteNumber>,
+}
+
+impl Subnet {
+    pub fn prefix_length(&self) -> u32 {
+        self.mask.count_ones()
+    }
 }
 
 /// The records of an image whose layout is good, in table order, their references not yet looked up.
@@ -330,6 +338,14 @@ fn all_unique(records: &Records) -> bool {
         && no_two(&records.accounts, |one, other| {
             one.context == other.context && same_account_name(one.name, other.name)
         })
+        && no_subnet_twice(&records.subnets)
+}
+
+/// No two subnets with one address and prefix, whatever their sites (#102). A table can hold 5,208 subnets, which are
+/// too many to compare in pairs.
+fn no_subnet_twice(subnets: &[Subnet]) -> bool {
+    let mut seen = BTreeSet::new();
+    subnets.iter().all(|subnet| seen.insert((subnet.address, subnet.mask)))
 }
 
 fn all_references_exist(records: &Records) -> bool {
@@ -356,6 +372,7 @@ pub fn same_account_name(held: &[u8], other: &[u8]) -> bool {
 mod tests {
     use super::*;
     use crate::answers::number_of;
+    use crate::generate::nets::{full_table, with_nets, Net};
     use crate::image::{guid, ContextBlock, Image, Record};
 
     fn number(image: &Image) -> u8 {
@@ -473,6 +490,40 @@ mod tests {
         assert_eq!(subnet([10, 0, 0, 0], 8, 2, 1), 3);
         assert_eq!(subnet([10, 0, 0, 0], 8, 0, 1), 3);
         assert_eq!(subnet([10, 0, 0, 0], 8, 1, 2), 4);
+    }
+
+    #[test]
+    fn a_subnet_twice_gives_4_whatever_its_sites() {
+        let twice = |sites: u16, nets: &[Net]| number(&with_nets(sites, nets));
+        for (one, other) in [(1, 1), (1, 2), (0, 1), (0, 0)] {
+            for prefix in [0, 1, 16, 31, 32] {
+                let nets = [one, other].map(|site| Net::around(0xFFFF_FFFF, prefix, site));
+                assert_eq!(twice(2, &nets), 4, "{one} {other} {prefix}");
+            }
+        }
+        assert_eq!(twice(1, &[Net::around(0, 0, 0), Net::around(0, 0, 0)]), 4);
+        assert_eq!(twice(1, &[Net::around(0, 0, 0), Net::around(0, 1, 0)]), 0);
+        let campus = Net::around(0x0A14_0000, 16, 1);
+        assert_eq!(twice(2, &[campus, Net::around(0x0A14_0000, 28, 1)]), 0);
+        assert_eq!(twice(2, &[campus, Net::around(0x0A15_0000, 16, 1)]), 0);
+        let all_prefixes: Vec<Net> = (0..=32).map(|prefix| Net::around(0, prefix, 1)).collect();
+        assert_eq!(twice(2, &all_prefixes), 0);
+    }
+
+    #[test]
+    fn a_subnet_twice_is_found_among_5_208_and_after_3() {
+        let mut nets = full_table();
+        assert_eq!((nets.len(), number(&with_nets(7, &nets))), (5_208, 0));
+        for (one, other) in [(0, 5_207), (41, 42), (2_600, 2_601)] {
+            let kept = nets[other];
+            nets[other] = nets[one].of_site(0);
+            assert_eq!(number(&with_nets(7, &nets)), 4);
+            nets[other] = kept;
+        }
+        let mut image = with_nets(2, &[Net::around(0, 0, 0), Net::around(0, 0, 0)]);
+        assert_eq!(number(&image), 4);
+        image.set(4, 503, 1);
+        assert_eq!(number(&image), 3);
     }
 
     #[test]

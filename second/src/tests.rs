@@ -7,7 +7,8 @@ use crate::filter::{take_apart, write_filter, Clauses};
 use crate::generate::chance::Chance;
 use crate::generate::coverage::places::name_places;
 use crate::generate::coverage::samples::P1;
-use crate::generate::sample::{sample, Size};
+use crate::generate::nets::{with_nets, Net};
+use crate::generate::sample::{nested_sample, sample, Size};
 use crate::image::{guid, ContextBlock, Image, Record, ServerBlock};
 use crate::octets::u32_whole;
 use crate::reader::{read_reply, Fields, Name, ReadRefusal};
@@ -327,7 +328,7 @@ fn a_context_is_named_with_one_closing_dot_or_without() {
     for value in values {
         let is_of =
             |name: &&[u8]| value.eq_ignore_ascii_case(name) || value.eq_ignore_ascii_case(&[name, &b"."[..]].concat());
-        let expected = match names.iter().position(|name| is_of(&name)) {
+        let expected = match names.iter().position(is_of) {
             Some(place) => Ok(ContextNumber(2 + place as u16)),
             None if value.is_empty() => Err(13),
             None => Err(14),
@@ -394,7 +395,7 @@ fn each_role_sets_its_flag() {
     }
 }
 
-/// Two sites; the first subnet has no site, the second one the own site, the third one the other.
+/// Two sites; of the subnets in 10.0.0.0/8, which has the own site, one has none and one the other.
 fn two_sites() -> Image {
     let server = ServerBlock { roles: 0x800, ..ServerBlock::default() };
     let mut image = Image::with_server(&server, b"example");
@@ -410,21 +411,84 @@ fn two_sites() -> Image {
     image
 }
 
+/// The name of the client's site, empty where there is none.
+fn site_of(image: &Image, client: [u8; 4]) -> Vec<u8> {
+    let (reply, _) = ping_from(image, client, &version(VERSION_6), ROOM).unwrap();
+    let read = read_reply(Form::Ex, 6, &reply).unwrap();
+    names_of(&read.fields).remove(7).text()
+}
+
 #[test]
-fn the_first_subnet_decides() {
+fn the_nearest_subnet_decides() {
     let image = two_sites();
-    let site = |client: [u8; 4]| {
-        let (reply, _) = ping_from(&image, client, &version(VERSION_6), ROOM).unwrap();
-        let read = read_reply(Form::Ex, 6, &reply).unwrap();
-        names_of(&read.fields).remove(7).text()
-    };
-    assert_eq!(site([10, 1, 0, 1]), b"");
-    assert_eq!(site([10, 2, 0, 1]), b"HQ");
-    assert_eq!(site([11, 0, 0, 1]), b"corp");
-    assert_eq!(site([200, 0, 0, 1]), b"");
-    assert_eq!(flags(&image, [10, 2, 0, 1], &version(VERSION_6)) & 0x80, 0x80);
-    assert_eq!(flags(&image, [11, 0, 0, 1], &version(VERSION_6)) & 0x80, 0);
-    assert_eq!(flags(&image, [200, 0, 0, 1], &version(VERSION_6)) & 0x80, 0);
+    assert_eq!(site_of(&image, [10, 1, 0, 1]), b"");
+    assert_eq!(site_of(&image, [10, 2, 0, 1]), b"corp");
+    assert_eq!(site_of(&image, [10, 3, 0, 1]), b"HQ");
+    assert_eq!(site_of(&image, [11, 0, 0, 1]), b"corp");
+    assert_eq!(site_of(&image, [200, 0, 0, 1]), b"");
+    assert_eq!(flags(&image, [10, 3, 0, 1], &version(VERSION_6)) & 0x80, 0x80);
+    for client in [[10, 2, 0, 1], [10, 1, 0, 1], [11, 0, 0, 1], [200, 0, 0, 1]] {
+        assert_eq!(flags(&image, client, &version(VERSION_6)) & 0x80, 0);
+    }
+}
+
+/// Whatever the order of the subnets, a client's site is that of the longest prefix in common with it.
+#[test]
+fn the_order_of_subnets_is_no_matter() {
+    let inside = 0x5AA5_3CC3;
+    let nest: Vec<Net> = (0..=32).map(|prefix| Net::around(inside, prefix, u16::from(prefix % 8))).collect();
+    let falling: Vec<Net> = nest.iter().rev().copied().collect();
+    let mixed: Vec<Net> = (0..33).map(|place| nest[place * 10 % 33]).collect();
+    let images = [&nest, &falling, &mixed].map(|nets| with_nets(7, nets));
+    for bit in 0..33u32 {
+        for low in [0, 1, 0x0000_5555, 0x0AAA_AAAA, u32::MAX] {
+            let other_bit = 1u32.checked_shl(bit).unwrap_or(0);
+            let client = inside ^ other_bit ^ low & other_bit.saturating_sub(1);
+            let in_common = (inside ^ client).leading_zeros();
+            let expected = match in_common % 8 {
+                0 => Vec::new(),
+                site => vec![b'a' + site as u8 - 1],
+            };
+            for image in &images {
+                assert_eq!(site_of(image, client.to_be_bytes()), expected, "{client:08x}");
+            }
+        }
+    }
+}
+
+/// Held to every address's subnets in turn, on small random tables.
+#[test]
+fn random_nests_are_searched_for_the_longest_prefix() {
+    let mut chance = Chance::new(102);
+    let mut sites = 0;
+    for round in 0..300 {
+        let size = Size { contexts: 1, account_blocks: 0, sites: 2 + round % 5, subnets: round % 20 };
+        let sample = nested_sample(&mut chance, size, 1 + round % 2);
+        let octets = sample.image.octets();
+        let table = read_table(&octets).unwrap();
+        for _ in 0..10 {
+            let client = sample.client_at_an_end(&mut chance);
+            let address = u32::from_be_bytes(client);
+            let mut holding: Vec<_> = table.subnets.iter().filter(|one| address & one.mask == one.address).collect();
+            holding.sort_by_key(|subnet| subnet.mask.leading_ones());
+            let number = holding.last().and_then(|subnet| subnet.site);
+            let expected = number.and_then(|number| table.site(number)).map_or(b"".to_vec(), |site| site.name.to_vec());
+            let clauses = version(&[4, 0, 0, 1]);
+            let (reply, _) = ping_from(&sample.image, client, &clauses, ROOM).unwrap();
+            let read = read_reply(Form::Ex, 4, &reply).unwrap();
+            assert_eq!(names_of(&read.fields).remove(7).text(), expected);
+            sites += usize::from(holding.len() > 1 && holding[0].site != number);
+        }
+    }
+    assert!(sites > 500, "{sites}");
+}
+
+#[test]
+fn a_lone_site_is_the_clients_whatever_the_subnets() {
+    let image = with_nets(1, &[Net::around(0, 0, 0), Net::around(0x0A00_0000, 8, 1), Net::around(0x0A01_0000, 16, 0)]);
+    for client in [[10, 1, 0, 0], [10, 0, 0, 0], [9, 0, 0, 0]] {
+        assert_eq!(site_of(&image, client), b"a");
+    }
 }
 
 #[test]

@@ -59,7 +59,8 @@ fn judge_unique(records: &Records) -> Result<(), Fault> {
     unique(&records.sites, "site number", |site| Some(site.number))?;
     unique(&records.accounts, "account name in its context, case ignored,", |account| {
         Some((account.context, folded_account_name(&account.name)))
-    })
+    })?;
+    unique(&records.subnets, "address and prefix", |subnet| Some((subnet.address, subnet.prefix)))
 }
 
 /// An account name as it is compared.

@@ -1,13 +1,16 @@
 -- Document 01, "The table image", kind 6: a subnet, and its fields' offsets in the record.
+use mathlib.Core.Bool.{Bool, _&&_}
 use mathlib.Core.List.{List}
 use mathlib.Core.Option.{Option}
 use Prim.Native.Nat.{ℕ}
+use lib.Dec.{eqb}
 use lib.ListN.{getD}
 use Rattle.octets.specs.Lists.{cut}
 use Rattle.octets.specs.Number.{u16At}
 use Rattle.octets.specs.Sid.{ipv4Size}
 use Rattle.table.specs.declared.SiteNumber.{SiteNumber}
 use Rattle.table.specs.declared.record.RecordFormat.{RecordFormat}
+use Rattle.table.specs.Address.{addressNumber}
 use Rattle.table.specs.Countings.{siteOrNone}
 
 abbrev pub subnetFormat : RecordFormat
@@ -23,6 +26,10 @@ inUseOctet r = getD r 5 0
 
 abbrev pub subnetSiteOffset : ℕ
 subnetSiteOffset = 6
+
+-- one address and one prefix, whatever the sites
+unfoldable pub sameNetwork : Subnet → Subnet → Bool
+sameNetwork n m = eqb (addressNumber (n .address)) (addressNumber (m .address)) && eqb (n .prefix) (m .prefix)
 
 unfoldable pub subnetOf : List ℕ → Subnet
 subnetOf r = record { address = cut r 0 ipv4Size; prefix = getD r 4 0; site = siteOrNone (u16At r subnetSiteOffset) }

@@ -2,18 +2,32 @@
 ghost use mathlib.Core.Path.{_≡_};
 ghost use Rattle.table.specs.Address.{addressNumber, shareSize, networkOf, isPrefixOnly, sharePrefix};
 use octets::number::wide;
+use octets::size::IPV4_SIZE;
 use table::Caller;
 use table::address::ADDRESS_BITS;
 use table::field::octet_in;
 
-// An address as the number that prefixes are taken of.
-pub fn address_number(address: &[u8]) -> u32
+// Octets that are not there count as 0.
+fn short_number(address: &[u8]) -> u32
     ensures { λ r. ⌜ r ≡ addressNumber (now (address .entry)) ⌝ }
 {
     0x1000000 * wide(octet_in(address, 0))
         + 0x10000 * wide(octet_in(address, 1))
         + 0x100 * wide(octet_in(address, 2))
         + wide(octet_in(address, 3))
+}
+
+// An address as the number that prefixes are taken of. Its length is tested once, since many are compared.
+pub fn address_number(address: &[u8]) -> u32
+    ensures { λ r. ⌜ r ≡ addressNumber (now (address .entry)) ⌝ }
+{
+    if address.len() < IPV4_SIZE {
+        return short_number(address);
+    }
+    0x1000000 * wide(address[0])
+        + 0x10000 * wide(address[1])
+        + 0x100 * wide(address[2])
+        + wide(address[3])
 }
 
 // The same of a caller's address.

@@ -3,9 +3,9 @@ use mathlib.Core.Bool.{Bool, cond, not, _&&_}
 use mathlib.Core.List.{List, [], _∷_}
 use mathlib.Core.Option.{Option, none, some}
 use Prim.Native.Nat.{ℕ, _-_}
-use lib.Dec.{eqb, leb}
+use lib.Dec.{eqb, leb, ltb}
 use lib.ListN.{length, take, getD}
-use Rattle.octets.specs.Lists.{first, holds}
+use Rattle.octets.specs.Lists.{first, keep, holds}
 use Rattle.octets.specs.Text.{same}
 use Rattle.table.specs.declared.Caller.{Caller}
 use Rattle.table.specs.declared.ContextNumber.{ContextNumber}
@@ -63,9 +63,19 @@ siteByNumber t n = first (λ s. sameSite (s .number) n) (t .sites)
 unfoldable pub inSubnet : ℕ → Subnet → Bool
 inSubnet address n = sharePrefix (n .prefix) address (addressNumber (n .address))
 
--- the subnet that decides: the first in table order that holds the caller's address
+-- a subnet, or one of a longer prefix where there is one
+abbrev pub nearer : Subnet → Option Subnet → Option Subnet
+nearer n none = some n
+nearer n (some m) = cond (ltb (n .prefix) (m .prefix)) (some m) (some n)
+
+-- the subnet with the longest prefix; of equal ones the first
+unfoldable pub nearest : List Subnet → Option Subnet
+nearest [] = none
+nearest (n ∷ ns) = nearer n (nearest ns)
+
+-- the subnet that decides: the nearest of those that hold the caller's address
 unfoldable pub subnetFor : Table → Caller → Option Subnet
-subnetFor t caller = first (inSubnet (addressNumber (caller .address))) (t .subnets)
+subnetFor t caller = nearest (keep (inSubnet (addressNumber (caller .address))) (t .subnets))
 
 -- the site of a number that may be none
 abbrev pub siteIfAny : Table → Option SiteNumber → Option Site

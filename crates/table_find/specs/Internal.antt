@@ -1,3 +1,4 @@
 pub mod Key
 pub mod Search
 pub mod Found
+pub mod Nearest

@@ -9,7 +9,6 @@ use crate::context::holds_sid;
 use crate::context::is_named_by;
 use crate::context::is_numbered;
 use crate::site::is_site_numbered;
-use crate::subnet::holds_address;
 use octets::text::all_zero;
 use octets::text::same_octets;
 use table::ContextNumber;
@@ -39,12 +38,11 @@ pub enum SiteKey {
     OtherThan(SiteNumber),
 }
 
-// What a record is looked up by. An account's name stands in the octets asked for; a subnet is asked for by an address that it holds.
+// What a record is looked up by. An account's name stands in the octets asked for.
 pub enum Key {
     Context(ContextKey),
     Account(ContextNumber),
     Site(SiteKey),
-    Subnet(u32),
 }
 
 fn kind_for(key: Key) -> RecordKind
@@ -54,7 +52,6 @@ fn kind_for(key: Key) -> RecordKind
         Key::Context(_) => RecordKind::Context,
         Key::Account(_) => RecordKind::Account,
         Key::Site(_) => RecordKind::Site,
-        Key::Subnet(_) => RecordKind::Subnet,
     }
 }
 
@@ -92,7 +89,6 @@ fn is_asked_for(octets: &[u8], key: Key, asked: &[u8]) -> bool
         Key::Context(k) => is_context(octets, k, asked),
         Key::Account(n) => is_account(octets, n, asked),
         Key::Site(k) => is_site(octets, k),
-        Key::Subnet(address) => holds_address(octets, address),
     }
 }
 

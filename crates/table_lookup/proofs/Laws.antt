@@ -1,2 +1,3 @@
 pub mod ClientSite
 pub mod ClosingDot
+pub mod NearestSubnet

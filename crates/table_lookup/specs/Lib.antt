@@ -1,1 +1,2 @@
 pub mod ClosingDot
+pub mod NearestSubnet

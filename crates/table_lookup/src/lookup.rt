@@ -22,6 +22,7 @@ use table_find::search::ContextKey;
 use table_find::search::Found;
 use table_find::search::Key;
 use table_find::search::SiteKey;
+use table_search::nearest::nearest_subnet;
 use table_search::search::first_record;
 
 pub fn context_by_number(image: &[u8], number: ContextNumber) -> Found
@@ -106,7 +107,7 @@ pub fn subnet_for(image: &[u8], caller: Caller) -> Found
     ensures { λ r. ⌜ subnetAt (now (image .entry)) r ≡ subnetFor (tableFrom (now (image .entry))) caller ⌝ }
     ensures { λ r. ⌜ LiesIn (now (image .entry)) kind.Subnet r ⌝ }
 {
-    first_record(image, Key::Subnet(caller_number(caller)), &image[..0])
+    nearest_subnet(image, caller_number(caller))
 }
 
 // The site of the subnet that decides: none where there is no such subnet, or where it has none.

@@ -4,6 +4,7 @@ ghost use Rattle.octets.specs.Lists.{any, unique};
 ghost use Rattle.table.specs.Account.{accountOf};
 ghost use Rattle.table.specs.Context.{contextOf};
 ghost use Rattle.table.specs.SameName.{sameSid};
+ghost use Rattle.table.specs.Subnet.{sameNetwork, subnetOf};
 ghost use Rattle.table_records.specs.Internal.Alike.{contextsAlike, accountsAlike, alikeBy, recordKindOf, likeAt, alikeAt};
 use octets::text::same_octets;
 use table::account;
@@ -12,11 +13,14 @@ use table::record::RecordKind;
 use table::record::record_at;
 use table::same_name::same_account_name;
 use table::same_name::same_dns_name;
+use table::subnet;
+use table_address::address::address_number;
 
 // Which records are compared.
 pub enum Likeness {
     Contexts,
     Accounts,
+    Subnets,
 }
 
 fn record_kind_of(likeness: Likeness) -> RecordKind
@@ -25,6 +29,7 @@ fn record_kind_of(likeness: Likeness) -> RecordKind
     match likeness {
         Likeness::Contexts => RecordKind::Context,
         Likeness::Accounts => RecordKind::Account,
+        Likeness::Subnets => RecordKind::Subnet,
     }
 }
 
@@ -60,12 +65,22 @@ fn are_accounts_alike(a: &[u8], b: &[u8]) -> bool
     (x.0 == y.0) & same_account_name(account::name(a), account::name(b))
 }
 
+// Subnets of different sites may be alike.
+fn are_subnets_alike(a: &[u8], b: &[u8]) -> bool
+    ensures { λ r. ⌜ r ≡ sameNetwork (subnetOf (now (a .entry))) (subnetOf (now (b .entry))) ⌝ }
+{
+    let x = address_number(subnet::address(a));
+    let y = address_number(subnet::address(b));
+    (x == y) & (subnet::prefix(a) == subnet::prefix(b))
+}
+
 fn are_alike(a: &[u8], b: &[u8], likeness: Likeness) -> bool
     ensures { λ r. ⌜ r ≡ alikeBy likeness (now (a .entry)) (now (b .entry)) ⌝ }
 {
     match likeness {
         Likeness::Contexts => are_contexts_alike(a, b),
         Likeness::Accounts => are_accounts_alike(a, b),
+        Likeness::Subnets => are_subnets_alike(a, b),
     }
 }
 

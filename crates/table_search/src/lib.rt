@@ -1,2 +1,3 @@
 // The search for a record in an accepted image: document 01, "Choosing the answer".
+pub mod nearest;
 pub mod search;

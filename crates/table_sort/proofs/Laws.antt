@@ -1,3 +1,3 @@
 pub mod Reordered
 pub mod Neighbours
-pub mod AccountKey
+pub mod OrderLikeness

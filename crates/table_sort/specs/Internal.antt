@@ -1,2 +1,3 @@
 pub mod Reordered
 pub mod Neighbours
+pub mod OrderLikeness

@@ -1,11 +1,13 @@
-// Whether no two accounts are alike: sorted, those that are alike stand next to each other.
+// Whether no two records are alike: sorted, those that are alike stand next to each other.
 ghost use mathlib.Core.Path.{_≡_};
 ghost use Rattle.octets.specs.Lists.{unique};
 ghost use Rattle.table_records.specs.Internal.Alike.{alikeAt};
 ghost use Rattle.table_sort.specs.Internal.Neighbours.{neighboursBy};
-ghost use Rattle.table_compare.specs.Internal.AccountKey.{compareAt};
-ghost use Rattle.table_records.specs.declared.alike.Likeness.the-variants.{Accounts};
+ghost use Rattle.table_sort.specs.Internal.OrderLikeness.{likenessOf};
+ghost use Rattle.table_sort.specs.Internal.Reordered.{Reordered};
+ghost use Rattle.table_compare.specs.Internal.OrderKey.{compareAt};
 use crate::sort::sort;
+use table_compare::compare::Order;
 use table_compare::compare::Ordering;
 use table_compare::compare::compare_at;
 use table_records::alike::Likeness;
@@ -18,12 +20,12 @@ pub enum Neighbours {
     Unsorted,
 }
 
-fn compare_neighbours(image: &[u8], offsets: &[u16]) -> Neighbours
-    ensures { λ r. ⌜ r ≡ neighboursBy (compareAt (now (image .entry))) (now (offsets .entry)) ⌝ }
+fn compare_neighbours(image: &[u8], offsets: &[u16], order: Order) -> Neighbours
+    ensures { λ r. ⌜ r ≡ neighboursBy (compareAt order (now (image .entry))) (now (offsets .entry)) ⌝ }
 {
     let mut i = 1;
     while i < offsets.len() {
-        match compare_at(image, offsets[i - 1], offsets[i]) {
+        match compare_at(image, order, offsets[i - 1], offsets[i]) {
             Ordering::Less => i += 1,
             Ordering::Equal => return Neighbours::Duplicate,
             Ordering::Greater => return Neighbours::Unsorted,
@@ -32,14 +34,33 @@ fn compare_neighbours(image: &[u8], offsets: &[u16]) -> Neighbours
     Neighbours::Rising
 }
 
-// A list that the sort left unsorted would be compared in pairs: slow, and right all the same.
-pub fn are_accounts_unique(image: &[u8], offsets: &mut [u16]) -> bool
-    ensures { λ r. ⌜ r ≡ unique (alikeAt Accounts (now (image .entry))) (now (offsets .entry)) ⌝ }
+// What two records that compare as equal are.
+fn likeness_of(order: Order) -> Likeness
+    ensures { λ r. ⌜ r ≡ likenessOf order ⌝ }
 {
-    sort(image, offsets);
-    match compare_neighbours(image, offsets) {
+    match order {
+        Order::Accounts => Likeness::Accounts,
+        Order::Subnets => Likeness::Subnets,
+    }
+}
+
+// A table kept in order is not sorted again.
+fn put_in_order(image: &[u8], offsets: &mut [u16], order: Order)
+    ensures { λ _. ⌜ Reordered (now (offsets .entry)) (now (offsets .exit)) ⌝ }
+{
+    if let Neighbours::Unsorted = compare_neighbours(image, offsets, order) {
+        sort(image, offsets, order);
+    }
+}
+
+// A list that the sort left unsorted would be compared in pairs: slow, and right all the same.
+pub fn are_unique(image: &[u8], offsets: &mut [u16], order: Order) -> bool
+    ensures { λ r. ⌜ r ≡ unique (alikeAt (likenessOf order) (now (image .entry))) (now (offsets .entry)) ⌝ }
+{
+    put_in_order(image, offsets, order);
+    match compare_neighbours(image, offsets, order) {
         Neighbours::Rising => true,
         Neighbours::Duplicate => false,
-        Neighbours::Unsorted => all_unique(image, offsets, Likeness::Accounts),
+        Neighbours::Unsorted => all_unique(image, offsets, likeness_of(order)),
     }
 }

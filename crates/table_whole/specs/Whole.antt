@@ -12,6 +12,7 @@ use Rattle.table.specs.Context.{Context}
 use Rattle.table.specs.Countings.{sameContext, sameSite}
 use Rattle.table.specs.Site.{Site}
 use Rattle.table.specs.SameName.{sameSid, sameDnsName, sameAccountName}
+use Rattle.table.specs.Subnet.{Subnet, sameNetwork}
 use Rattle.table.specs.Table.{Table}
 
 -- context numbers, GUIDs, SIDs and DNS names are unique
@@ -28,6 +29,10 @@ accountsUnique = unique (λ a b. sameContext (a .context) (b .context) && sameAc
 
 unfoldable pub sitesUnique : List Site → Bool
 sitesUnique = unique (λ s t. sameSite (s .number) (t .number))
+
+-- no two subnets have one address and prefix
+unfoldable pub subnetsUnique : List Subnet → Bool
+subnetsUnique = unique sameNetwork
 
 -- the context, or the site, of a number exists
 unfoldable pub hasContext : Table → ContextNumber → Bool
@@ -54,3 +59,4 @@ goodWhole t =
     && accountsUnique (t .accounts)
     && refersRightly t
     && all (λ s. not (holds (sameSite (s .number)) (s .next))) (t .sites)
+    && subnetsUnique (t .subnets)

@@ -1,11 +1,11 @@
-// The table as a whole: contexts with their accounts, then sites with their subnets.
+// The table as a whole: contexts with their accounts, sites with what refers to them, then the subnets by themselves.
 ghost use mathlib.Core.Path.{_≡_};
 ghost use Prim.Native.Nat.{_≤_};
 ghost use Rattle.table.specs.Block.{blockSize, imageMost};
 ghost use lib.ListN.{length};
 ghost use Rattle.table.specs.Table.{tableFrom};
 ghost use Rattle.table.specs.declared.record.RecordKind.the-variants as kind;
-ghost use Rattle.table_whole.specs.Whole.{goodWhole};
+ghost use Rattle.table_whole.specs.Whole.{subnetsUnique, goodWhole};
 ghost use Rattle.table_whole.specs.Internal.Half.{AllOf, SiteMarks, goodAccounts, goodContexts, goodReferences, goodSites, contextHalf, siteHalf};
 use table::account;
 use table::block::BLOCKS_MOST;
@@ -13,6 +13,8 @@ use table::context;
 use table::record::RecordKind;
 use table::server;
 use table::site;
+use table::subnet;
+use table_compare::compare::Order;
 use table_records::alike::Likeness;
 use table_records::alike::all_unique;
 use table_records::offset::offsets_of;
@@ -23,7 +25,7 @@ use table_refer::refer::all_sites_refer;
 use table_refer::refer::all_subnets_refer;
 use table_refer::refer::are_in_contexts;
 use table_refer::refer::has_context;
-use table_sort::unique::are_accounts_unique;
+use table_sort::unique::are_unique;
 
 // Of each kind whose offsets are collected, as many records as the most blocks hold.
 const CONTEXTS_MOST: usize = context::FORMAT.count * BLOCKS_MOST;
@@ -32,12 +34,14 @@ const ACCOUNTS_MOST: usize = account::FORMAT.count * BLOCKS_MOST;
 
 const SITES_MOST: usize = site::FORMAT.count * BLOCKS_MOST;
 
+const SUBNETS_MOST: usize = subnet::FORMAT.count * BLOCKS_MOST;
+
 // The accounts: each one's context exists, and no two of a context have one name.
 fn are_accounts_good(image: &[u8], accounts: &mut [u16], contexts: &[u16]) -> bool
     requires { ⌜ AllOf kind.Account (now image) (now accounts) × AllOf kind.Context (now image) (now contexts) ⌝ }
     ensures { λ r. ⌜ r ≡ goodAccounts (tableFrom (now (image .entry))) ⌝ }
 {
-    are_in_contexts(image, accounts, contexts) & are_accounts_unique(image, accounts)
+    are_in_contexts(image, accounts, contexts) & are_unique(image, accounts, Order::Accounts)
 }
 
 fn good_accounts_of(image: &[u8], contexts: &[u16]) -> bool
@@ -114,6 +118,16 @@ fn is_site_half_good(image: &[u8]) -> bool
     are_sites_good(image, &sites[..count])
 }
 
+// No two subnets have one address and prefix. Called after the halves and not in one of them, so that the arrays do not add up.
+fn are_subnets_unique(image: &[u8]) -> bool
+    requires { ⌜ length (now image) ≤ imageMost ⌝ }
+    ensures { λ r. ⌜ r ≡ subnetsUnique (tableFrom (now (image .entry)) .subnets) ⌝ }
+{
+    let mut subnets: [u16; SUBNETS_MOST] = [0; SUBNETS_MOST];
+    let count = offsets_of(image, RecordKind::Subnet, &mut subnets);
+    are_unique(image, &mut subnets[..count], Order::Subnets)
+}
+
 // Whether the table is good as a whole, for an image of a whole block at least.
 pub fn good_whole(image: &[u8]) -> bool
     requires { ⌜ (blockSize ≤ length (now image)) × (length (now image) ≤ imageMost) ⌝ }
@@ -122,5 +136,8 @@ pub fn good_whole(image: &[u8]) -> bool
     if !is_context_half_good(image) {
         return false;
     }
-    is_site_half_good(image)
+    if !is_site_half_good(image) {
+        return false;
+    }
+    are_subnets_unique(image)
 }

@@ -10,7 +10,7 @@ use super::filters::random_filter;
 use super::pings::reply_to;
 use super::replies::{name_like, offset_in, received, Received};
 use super::requests::{Asked, Requests};
-use super::sample::{fill_up, random_asked, random_case, random_value, sample, version_bits, Sample, Size};
+use super::sample::{fill_up, nested_sample, random_asked, random_case, random_value, version_bits, Sample, Size};
 use crate::filter::{judge_values, ClauseName};
 use crate::image::{put_checks, Image};
 use crate::lines::{octets_of_hex, word_of_clause, word_of_octets};
@@ -31,7 +31,8 @@ pub fn write_lines(count: usize, seed: u64, output: &mut impl Write) -> io::Resu
 fn group(chance: &mut Chance) -> Vec<Vec<u8>> {
     let large = chance.once_in(60);
     let size = size(chance, large);
-    let mut table = sample(chance, size);
+    let nests = chance.below(3);
+    let mut table = nested_sample(chance, size, nests);
     if large && chance.once_in(3) {
         fill_up(&mut table.image);
     }
@@ -103,10 +104,10 @@ impl Lines<'_> {
     }
 
     fn add_bad_table(&mut self, table: &Sample, image: &[u8]) {
-        self.add_good(|requests, chance| {
-            if chance.once_in(2) {
-                requests.table(&with_another_count(chance, &table.image));
-            } else {
+        self.add_good(|requests, chance| match chance.below(4) {
+            0 => requests.table(&with_another_count(chance, &table.image)),
+            1 => requests.table(&table.with_double(chance)),
+            _ => {
                 let line = format!("table {}", word_of_octets(image));
                 requests.raw(&changed(chance, line.as_bytes()));
             }
@@ -120,7 +121,8 @@ impl Lines<'_> {
     fn add_asked(&mut self, table: &Sample, image: &[u8]) {
         let asked = asked(self.chance, table);
         let filter = filter_of(self.chance, &asked);
-        let client = table.client(self.chance);
+        let at_an_end = self.chance.once_in(3);
+        let client = if at_an_end { table.client_at_an_end(self.chance) } else { table.client(self.chance) };
         let reply = reply_to(image, client, &filter);
         let length = reply.as_ref().map_or(0, |(_, octets)| octets.len());
         self.add(|requests, chance| requests.ping(client, &filter, room(chance, length)));
@@ -340,12 +342,26 @@ mod tests {
         }
     }
 
+    fn assert_subnets(coverage: &Coverage) {
+        let sorts = ["a site, the first holder of another", "none, the first holder of one", "mixed prefixes"];
+        let ends = ["first address of a prefix 32", "last address of a prefix 0", "next to a prefix 20"];
+        for case in sorts.into_iter().chain(ends).chain(["rising prefixes", "falling prefixes"]) {
+            let count = coverage.count(&format!("nearest: {case}"));
+            assert!(count >= 20, "{case} {count}");
+        }
+        for case in ["in one block", "in two blocks", "one without site", "of one site", "of two sites"] {
+            let count = coverage.count(&format!("subnet twice, {case}: 4"));
+            assert!(count >= 5, "{case} {count}");
+        }
+    }
+
     /// By as many lines as the gate puts through both programs, and from the same seed.
     #[test]
     fn pings_meet_their_cases_and_replies_every_number() {
         let coverage = observed(150_000);
         assert_pings_without_version(&coverage);
         assert_closing_dots(&coverage);
+        assert_subnets(&coverage);
         let missing: Vec<String> = required_numbers()
             .into_iter()
             .chain(required_of_pings())

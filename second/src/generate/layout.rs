@@ -5,7 +5,7 @@
 
 use super::chance::Chance;
 use super::requests::Requests;
-use super::texts::{bad_account_texts, dns_texts, good_account_texts, label_texts, more_dns_texts, more_label_texts};
+use super::texts::{bad_account_names, dns_texts, good_account_texts, label_texts, more_dns_texts, more_label_texts};
 use crate::image::{ContextBlock, Image, Record, ServerBlock};
 
 pub fn add_layouts(requests: &mut Requests, chance: &mut Chance) {
@@ -65,9 +65,8 @@ fn add_texts(requests: &mut Requests, image: &Image, block: usize, at: usize, ro
 
 fn add_headers(requests: &mut Requests) {
     requests.note("kind, version and own place of each block");
-    let image = with_context();
     let headers: [(usize, &[u8]); 4] = [(0, &[0, 1, 2, 4, 7]), (1, &[0, 2]), (2, &[0, 1, 2, 3]), (3, &[1])];
-    for block in 0..3 {
+    for (block, image) in [(0, two_blocks()), (1, two_blocks()), (2, with_context())] {
         for (at, octets) in headers {
             for &octet in octets.iter().filter(|octet| image.blocks[block][at] != **octet) {
                 let mut changed = image.clone();
@@ -98,7 +97,7 @@ fn add_server(requests: &mut Requests, chance: &mut Chance) {
     add_set(requests, &image, 0, 13, 1);
     add_set(requests, &image, 0, 8, 255);
     add_texts(requests, &image, 0, 16, 15, &label_texts(15));
-    add_texts(requests, &image, 0, 16, 15, &more_label_texts(15));
+    add_texts(requests, &image, 0, 16, 15, &more_label_texts());
     add_texts(requests, &image, 0, 32, 253, &dns_texts());
     add_texts(requests, &image, 0, 32, 253, &more_dns_texts());
 }
@@ -169,7 +168,7 @@ fn account_block(place: usize) -> Image {
 
 fn add_accounts(requests: &mut Requests, chance: &mut Chance) {
     requests.note("account records");
-    add_texts(requests, &account_block(0), 2, 8, 63, &bad_account_texts());
+    add_texts(requests, &account_block(0), 2, 8, 63, &bad_account_names());
     for six in good_account_texts().chunks(6) {
         let records: Vec<Record> = six.iter().map(|text| Record::account(1, u32::MAX, text)).collect();
         requests.table(&with_records(4, &records));
@@ -212,12 +211,15 @@ fn add_subnets(requests: &mut Requests, chance: &mut Chance) {
     let subnet = |address: u32, prefix: u8, in_use: u8| {
         with_records(6, &[Record::subnet(address.to_be_bytes(), prefix, in_use, 0)])
     };
-    for prefix in [0, 1, 7, 8, 9, 16, 23, 24, 30, 31] {
+    let prefixes = [0u8, 1, 7, 8, 9, 16, 23, 24, 30, 31];
+    for prefix in prefixes {
         requests.table(&subnet(0x8000_0000 >> prefix, prefix, 1));
-        requests.table(&subnet(0x8000_0000 >> prefix, prefix + 1, 1));
     }
-    requests.table(&subnet(u32::MAX, 32, 1));
-    requests.table(&subnet(0, 0, 1));
+    let mut kept = prefixes.map(|prefix| (0x8000_0000 >> prefix, prefix + 1)).to_vec();
+    kept.extend([(u32::MAX, 32), (0, 0)]);
+    let kept: Vec<Record> =
+        kept.into_iter().map(|(address, prefix)| Record::subnet(address.to_be_bytes(), prefix, 1, 0)).collect();
+    requests.table(&with_records(6, &kept));
     for prefix in [33, 64, 255] {
         requests.table(&subnet(0, prefix, 1));
     }

@@ -27,9 +27,24 @@ struct SampleAccount {
     name: Vec<u8>,
 }
 
+#[derive(Clone, Copy, PartialEq, Eq)]
 struct SampleSubnet {
     address: u32,
     prefix: u32,
+}
+
+impl SampleSubnet {
+    fn around(address: u32, prefix: u32) -> SampleSubnet {
+        SampleSubnet { address: address & u32::MAX.checked_shl(32 - prefix).unwrap_or(0), prefix }
+    }
+
+    fn last_address(self) -> u32 {
+        self.address | u32::MAX.checked_shr(self.prefix).unwrap_or(0)
+    }
+
+    fn record(self, site: u16) -> Record {
+        Record::subnet(self.address.to_be_bytes(), self.prefix as u8, 1, site)
+    }
 }
 
 /// A table, and what its pings may ask for.
@@ -144,6 +159,11 @@ pub fn sid(chance: &mut Chance) -> Vec<u8> {
 
 /// A random table. Contexts are numbered by 3 from 2, sites by 2 from 3, so that the countings differ.
 pub fn sample(chance: &mut Chance, size: Size) -> Sample {
+    nested_sample(chance, size, 0)
+}
+
+/// The same, and so often subnets around one address besides those by chance.
+pub fn nested_sample(chance: &mut Chance, size: Size, nests: usize) -> Sample {
     let mut names = Names::default();
     let forest_name = names.draw(chance);
     let contexts = sample_contexts(chance, &mut names, size.contexts);
@@ -161,7 +181,7 @@ pub fn sample(chance: &mut Chance, size: Size) -> Sample {
     push_contexts(&mut image, chance, &names, &contexts);
     let accounts = push_accounts(&mut image, chance, &names, size);
     push_sites(&mut image, chance, &names, size.sites);
-    let subnets = push_subnets(&mut image, chance, size);
+    let subnets = push_subnets(&mut image, chance, size, nests);
     Sample { image, default_context: server.default_context, names, contexts, accounts, subnets }
 }
 
@@ -251,25 +271,54 @@ fn push_sites(image: &mut Image, chance: &mut Chance, names: &Names, count: usiz
     }
 }
 
-fn push_subnets(image: &mut Image, chance: &mut Chance, size: Size) -> Vec<SampleSubnet> {
+fn push_subnets(image: &mut Image, chance: &mut Chance, size: Size, nests: usize) -> Vec<SampleSubnet> {
     let mut subnets = Vec::new();
     let mut records = Vec::new();
-    for _ in 0..size.subnets {
-        // Wide subnets hold most addresses, so that few of them come.
-        let prefix = if chance.once_in(8) { chance.below(33) } else { 10 + chance.below(23) } as u32;
-        let mask = u32::MAX.checked_shl(32 - prefix).unwrap_or(0);
-        let address = (0x0A00_0000 | (chance.number_u32() & 0x03FF_FFFF)) & mask;
+    let mut push = |chance: &mut Chance, subnet: SampleSubnet| {
         let site = if chance.once_in(4) { 0 } else { site_number(chance.below(size.sites)) };
-        records.push(Record::subnet(address.to_be_bytes(), prefix as u8, 1, site));
-        subnets.push(SampleSubnet { address, prefix });
+        // A table has each subnet once.
+        if !subnets.contains(&subnet) {
+            records.push(subnet.record(site));
+            subnets.push(subnet);
+        }
         if chance.once_in(4) {
             records.push(Record::unused(12));
         }
+    };
+    for _ in 0..size.subnets {
+        let subnet = lone_subnet(chance);
+        push(chance, subnet);
+    }
+    for _ in 0..nests {
+        nest(chance).into_iter().for_each(|subnet| push(chance, subnet));
     }
     for block in records.chunks(42) {
         image.push_records(6, block);
     }
     subnets
+}
+
+fn address_of_a_client(chance: &mut Chance) -> u32 {
+    0x0A00_0000 | (chance.number_u32() & 0x03FF_FFFF)
+}
+
+/// Wide subnets hold most addresses, so that few of them come.
+fn lone_subnet(chance: &mut Chance) -> SampleSubnet {
+    let prefix = if chance.once_in(8) { chance.below(33) } else { 10 + chance.below(23) } as u32;
+    SampleSubnet::around(address_of_a_client(chance), prefix)
+}
+
+/// Subnets around one address, in rising, falling or mixed order.
+fn nest(chance: &mut Chance) -> Vec<SampleSubnet> {
+    let address = address_of_a_client(chance);
+    let times = 1 + chance.below(6);
+    let mut prefixes: Vec<u32> = (0..=32).filter(|_| chance.once_in(times)).collect();
+    match chance.below(3) {
+        0 => prefixes.reverse(),
+        1 => prefixes.sort_by_cached_key(|_| chance.number_u32()),
+        _ => {}
+    }
+    prefixes.into_iter().map(|prefix| SampleSubnet::around(address, prefix)).collect()
 }
 
 /// Version bits, those with a meaning more often than others; each form is asked for often.
@@ -290,6 +339,31 @@ impl Sample {
         let subnet = chance.pick(&self.subnets);
         let inside = subnet.address | random.checked_shr(subnet.prefix).unwrap_or(0);
         inside.wrapping_sub(u32::from(chance.once_in(8))).to_be_bytes()
+    }
+
+    /// An address at an end of a subnet, or next to it.
+    pub fn client_at_an_end(&self, chance: &mut Chance) -> [u8; 4] {
+        if self.subnets.is_empty() {
+            return self.client(chance);
+        }
+        let subnet = chance.pick(&self.subnets);
+        let (first, last) = (subnet.address, subnet.last_address());
+        chance.pick(&[first, last, first.wrapping_sub(1), last.wrapping_add(1)]).to_be_bytes()
+    }
+
+    /// The table with one of its subnets a second time, with the same site or another or none: in a free place of a
+    /// block, or in a block of its own. As it is where it has no subnet.
+    pub fn with_double(&self, chance: &mut Chance) -> Image {
+        let mut image = self.image.clone();
+        if self.subnets.is_empty() {
+            return image;
+        }
+        let record = chance.pick(&self.subnets).record(*chance.pick(&[0, site_number(0)]));
+        match image.free_place(6, 12).filter(|_| chance.once_in(2)) {
+            Some((block, place)) => image.set_record(block, place, &record),
+            None => image.push_records(6, &[Record::unused(12), record]),
+        }
+        image
     }
 
     /// A ping whose clauses mostly suit the table and each other.

@@ -18,16 +18,13 @@ pub fn dns_name_of_length(length: usize) -> Vec<u8> {
     name
 }
 
-fn with_edge_octets(text: &[u8]) -> Vec<Vec<u8>> {
-    let mut texts = Vec::new();
-    for place in [0, text.len() - 1] {
-        for octet in EDGE_OCTETS {
-            let mut edge = text.to_vec();
-            edge[place] = octet;
-            texts.push(edge);
-        }
-    }
-    texts
+fn with_edge_octets(text: &[u8], place: usize) -> Vec<Vec<u8>> {
+    let with_octet = |octet: u8| {
+        let mut edge = text.to_vec();
+        edge[place] = octet;
+        edge
+    };
+    EDGE_OCTETS.map(with_octet).to_vec()
 }
 
 fn owned(texts: &[&[u8]]) -> Vec<Vec<u8>> {
@@ -41,14 +38,14 @@ pub fn dns_texts() -> Vec<Vec<u8>> {
     texts
 }
 
-/// More of them, for one field: every rule at the text's start and end.
+/// More of them, for one field: rules at the text's start, and at both ends of a label.
 pub fn more_dns_texts() -> Vec<Vec<u8>> {
-    let mut texts = owned(&[b".", b"..", b"a", b"a.b", b"a.b.", b"a...b"]);
+    let mut texts = owned(&[b".", b"..", b"a", b"a.b."]);
     texts.push([&[b'x'; 63][..], b".y"].concat());
     texts.push([&b"y."[..], &[b'x'; 64]].concat());
     texts.push([&[b'x'; 64][..], b".y"].concat());
-    texts.extend([252, 255].map(dns_name_of_length));
-    texts.extend(with_edge_octets(b"abcde"));
+    texts.push(dns_name_of_length(255));
+    texts.extend(with_edge_octets(b"abcde", 0));
     texts
 }
 
@@ -60,10 +57,10 @@ pub fn label_texts(room: usize) -> Vec<Vec<u8>> {
 }
 
 /// More of them, for one field.
-pub fn more_label_texts(room: usize) -> Vec<Vec<u8>> {
+pub fn more_label_texts() -> Vec<Vec<u8>> {
     let mut texts = owned(&[b"A", b".A", b"AB."]);
-    texts.extend([room - 1, 255].map(|length| vec![b'Z'; length]));
-    texts.extend(with_edge_octets(b"ABCDE"));
+    texts.push(vec![b'Z'; 255]);
+    texts.extend(with_edge_octets(b"ABCDE", 4));
     texts
 }
 
@@ -123,6 +120,15 @@ pub fn good_account_texts() -> Vec<Vec<u8>> {
 pub fn bad_account_texts() -> Vec<Vec<u8>> {
     let mut texts = owned(&BAD_UTF8);
     texts.extend(owned(&[b"", b"\0", b"a\0b", b"ab\0"]));
+    texts.extend([64, 255].map(|length| vec![b'u'; length]));
+    texts.push([&[b'u'; 62][..], b"\xC3\x98"].concat());
+    texts
+}
+
+/// One or two of them for each cause, for tables, whose lines are long.
+pub fn bad_account_names() -> Vec<Vec<u8>> {
+    let mut texts = owned(&[b"", b"\0", b"ab\0", b"\x80", b"\xC1\xBF", b"ok\xC3", b"\xE0\x9F\xBF", b"\xE1\x80\xC0"]);
+    texts.extend(owned(&[b"\xED\xA0\x80", b"\xF0\x8F\xBF\xBF", b"\xF4\x90\x80\x80", b"\xFF"]));
     texts.extend([64, 255].map(|length| vec![b'u'; length]));
     texts.push([&[b'u'; 62][..], b"\xC3\x98"].concat());
     texts

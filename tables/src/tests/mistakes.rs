@@ -193,6 +193,11 @@ fn what_must_be_unique() {
             "line 7: this account name in its context, case ignored, stands in line 5 already; expected another",
         ),
     ]);
+    let subnet = |network: &str, site: &str| format!("subnet network={network} site={site}");
+    assert_eq!(two(subnet("10.0.0.0/8", "1"), subnet("10.0.0.0/8", "none")), already("address and prefix"));
+    assert_eq!(two(subnet("0.0.0.0/0", "none"), subnet("0.0.0.0/0", "none")), already("address and prefix"));
+    let nested = format!("{BASE}\n{}\n{}\n", subnet("10.0.0.0/16", "1"), subnet("10.0.0.0/28", "1"));
+    assert!(make(nested.as_bytes()).is_ok());
 }
 
 #[test]

@@ -4,6 +4,7 @@ use crate::bits::{ROLES, STATE};
 use crate::table::{
     Account, Block, Context, ContextNumber, Entry, Kind, Place, Record, Server, Sid, Site, SiteNumber, Subnet, Table,
 };
+use std::collections::BTreeSet;
 
 /// Numbers that look random, the same for the same seed (splitmix64).
 pub struct Chance(u64);
@@ -45,7 +46,11 @@ pub fn random_table(chance: &mut Chance) -> Table {
     blocks.extend(scattered(chance, Kind::Accounts, accounts));
     let site_records = sites.iter().map(|number| site(chance, &sites, *number)).collect();
     blocks.extend(scattered(chance, Kind::Sites, site_records));
-    let subnets = (0..chance.below(150)).map(|_| subnet(chance, &sites)).collect();
+    let mut taken = BTreeSet::new();
+    let subnets = (0..chance.below(150))
+        .map(|_| subnet(chance, &sites))
+        .filter(|subnet| taken.insert((subnet.address, subnet.prefix)));
+    let subnets = subnets.map(Record::Subnet).collect();
     blocks.extend(scattered(chance, Kind::Subnets, subnets));
     for end in (1..blocks.len()).rev() {
         blocks.swap(end, chance.below(end + 1));
@@ -136,12 +141,12 @@ fn site(chance: &mut Chance, sites: &[SiteNumber], number: SiteNumber) -> Record
     Record::Site(Site { number, name: label(chance, 63), next_closest })
 }
 
-fn subnet(chance: &mut Chance, sites: &[SiteNumber]) -> Record {
+fn subnet(chance: &mut Chance, sites: &[SiteNumber]) -> Subnet {
     let prefix = chance.below(33) as u8;
     let past_prefix = u32::MAX.checked_shr(u32::from(prefix)).unwrap_or(0);
     let address = (chance.next() as u32 & !past_prefix).to_be_bytes();
     let site = Some(chance.pick(sites)).filter(|_| !chance.one_in(4));
-    Record::Subnet(Subnet { address, prefix, site })
+    Subnet { address, prefix, site }
 }
 
 /// Printable octets without a dot, now and then a word that the text form uses itself.

@@ -10,23 +10,20 @@ use lib.ListN.{length, take, getD, length-append}
 use borrow.Author.Tests.{leb-true, leb-false, le-leb, lt-leb}
 use Rattle.octets.specs.Lists.{first, keep}
 use Rattle.octets.proofs.Laws.Lists.{first-map, first-keep}
-use Rattle.table.specs.declared.Caller.{Caller}
 use Rattle.table.specs.declared.ContextNumber.{ContextNumber}
 use Rattle.table.specs.declared.record.RecordKind.{RecordKind}
 use Rattle.table.specs.declared.record.RecordKind.the-variants as kind
 use Rattle.table.specs.Account.{accountOf}
-use Rattle.table.specs.Address.{addressNumber}
 use Rattle.table.specs.Context.{contextOf}
 use Rattle.table.specs.Countings.{sameContext}
 use Rattle.table.specs.Format.{formatOf, recordsIn}
 use Rattle.table.specs.SameName.{sameAccountName}
 use Rattle.table.specs.Site.{siteOf}
-use Rattle.table.specs.Subnet.{subnetOf}
 use Rattle.table.specs.Table.{isUsed, bodies, recordsOf, tableOf}
 use Rattle.table_find.specs.declared.search.ContextKey.{ContextKey}
 use Rattle.table_find.specs.declared.search.SiteKey.{SiteKey}
 use Rattle.table_find.specs.declared.search.Key.the-variants as key
-use Rattle.table_find.specs.Find.{nameCompared, contextsSearched, accountByName, inSubnet, subnetFor}
+use Rattle.table_find.specs.Find.{nameCompared, contextsSearched, accountByName}
 use Rattle.table_find.specs.Internal.Key.{isContext, isSite}
 use Rattle.table_find.specs.Internal.Search.{firstIn}
 
@@ -102,7 +99,3 @@ module _ (asked : List ℕ) (blocks : List (List ℕ)) where
   pub site-search : (k : SiteKey) → Option·map siteOf (firstIn (key.Site k) asked blocks) ≡ first (isSite k) (tableOf blocks .sites)
   unfolding firstIn tableOf
   site-search k = used-search siteOf (isSite k) kind.Site
-
-  pub subnet-search : (caller : Caller) → Option·map subnetOf (firstIn (key.Subnet (addressNumber (caller .address))) asked blocks) ≡ subnetFor (tableOf blocks) caller
-  unfolding firstIn subnetFor tableOf
-  subnet-search caller = used-search subnetOf (inSubnet (addressNumber (caller .address))) kind.Subnet

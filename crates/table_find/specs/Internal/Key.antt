@@ -10,7 +10,6 @@ use Rattle.table.specs.Context.{Context, contextOf}
 use Rattle.table.specs.Countings.{sameContext, sameSite}
 use Rattle.table.specs.SameName.{sameAccountName}
 use Rattle.table.specs.Site.{Site, siteOf}
-use Rattle.table.specs.Subnet.{subnetOf}
 use Rattle.table.specs.Table.{isUsed}
 use Rattle.table_find.specs.declared.search.ContextKey.{ContextKey}
 use Rattle.table_find.specs.declared.search.ContextKey.the-variants.{Number, Guid, DnsName, Sid}
@@ -19,13 +18,12 @@ use Rattle.table_find.specs.declared.search.SiteKey.the-variants.{Any, O
 use Rattle.table_find.specs.declared.search.SiteKey.the-variants as site
 use Rattle.table_find.specs.declared.search.Key.{Key}
 use Rattle.table_find.specs.declared.search.Key.the-variants as key
-use Rattle.table_find.specs.Find.{isNamedBy, holdsSid, inSubnet}
+use Rattle.table_find.specs.Find.{isNamedBy, holdsSid}
 
 abbrev pub kindFor : Key → RecordKind
 kindFor (key.Context k) = kind.Context
 kindFor (key.Account n) = kind.Account
 kindFor (key.Site k) = kind.Site
-kindFor (key.Subnet address) = kind.Subnet
 
 -- a context is the one asked for
 abbrev pub isContext : ContextKey → List ℕ → Context → Bool
@@ -44,7 +42,6 @@ abbrev pub isAskedFor : Key → List ℕ → List ℕ → Bool
 isAskedFor (key.Context k) asked r = isContext k asked (contextOf r)
 isAskedFor (key.Account n) asked r = sameContext (accountOf r .context) n && sameAccountName (accountOf r .name) asked
 isAskedFor (key.Site k) asked r = isSite k (siteOf r)
-isAskedFor (key.Subnet address) asked r = inSubnet address (subnetOf r)
 
 -- a record is found by a key; an unused one by none
 abbrev pub isFoundBy : Key → List ℕ → List ℕ → Bool

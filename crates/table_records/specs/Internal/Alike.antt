@@ -10,8 +10,9 @@ use Rattle.table.specs.Context.{Context, contextOf}
 use Rattle.table.specs.Countings.{sameContext}
 use Rattle.table.specs.Internal.RecordAt.{recordAt}
 use Rattle.table.specs.SameName.{sameSid, sameAccountName, sameDnsName}
+use Rattle.table.specs.Subnet.{sameNetwork, subnetOf}
 use Rattle.table_records.specs.declared.alike.Likeness.{Likeness}
-use Rattle.table_records.specs.declared.alike.Likeness.the-variants.{Contexts, Accounts}
+use Rattle.table_records.specs.declared.alike.Likeness.the-variants.{Contexts, Accounts, Subnets}
 
 abbrev pub contextsAlike : Context → Context → Bool
 contextsAlike c d = sameContext (c .number) (d .number) || same (c .guid) (d .guid) || sameSid (c .sid) (d .sid) || sameDnsName (c .dns) (d .dns)
@@ -22,10 +23,12 @@ accountsAlike a b = sameContext (a .context) (b .context) && sameAccountName (a 
 abbrev pub alikeBy : Likeness → List ℕ → List ℕ → Bool
 alikeBy Contexts a b = contextsAlike (contextOf a) (contextOf b)
 alikeBy Accounts a b = accountsAlike (accountOf a) (accountOf b)
+alikeBy Subnets a b = sameNetwork (subnetOf a) (subnetOf b)
 
 abbrev pub recordKindOf : Likeness → RecordKind
 recordKindOf Contexts = kind.Context
 recordKindOf Accounts = kind.Account
+recordKindOf Subnets = kind.Subnet
 
 -- a record and the one at an offset, and those at two offsets
 abbrev pub likeAt : Likeness → List ℕ → List ℕ → ℕ → Bool

@@ -1,4 +1,4 @@
--- Laws of the two halves: from what is found at offsets and among marks to what is said of the table.
+-- Laws of the two halves, and of the subnets by themselves: from what is found at offsets and among marks to what is said of the table.
 use mathlib.Core.Path.{_≡_, refl, sym, ap, ap₂, _∙_, fun-ext}
 use mathlib.Core.Bool.{Bool, true, false, not, _&&_, _||_, and-false, and-comm}
 use mathlib.Core.List.{List, map, flatMap}
@@ -26,12 +26,12 @@ use Rattle.table.specs.Countings.{sameContext, sameSite}
 use Rattle.table.specs.Format.{recordsIn}
 use Rattle.table.specs.SameName.{sameSid, sameDnsName}
 use Rattle.table.specs.Site.{siteOf}
-use Rattle.table.specs.Subnet.{subnetFormat, subnetOf}
+use Rattle.table.specs.Subnet.{subnetFormat, sameNetwork, subnetOf}
 use Rattle.table.specs.Table.{Table, isUsed, bodies, recordsOf, tableOf, tableFrom}
 use Rattle.table.specs.Internal.RecordAt.{recordAt}
-use Rattle.table_records.specs.declared.alike.Likeness.the-variants.{Contexts, Accounts}
+use Rattle.table_records.specs.declared.alike.Likeness.the-variants.{Contexts, Accounts, Subnets}
 use Rattle.table_records.specs.Internal.Alike.{alikeAt, contextsAlike}
-use Rattle.table_whole.specs.Whole.{contextsUnique, accountsUnique, sitesUnique, hasContext, hasSite, refersRightly, goodWhole}
+use Rattle.table_whole.specs.Whole.{contextsUnique, accountsUnique, sitesUnique, subnetsUnique, hasContext, hasSite, refersRightly, goodWhole}
 use Rattle.table_whole.specs.Internal.Half.{AllOf, SiteMarks, goodAccounts, goodContexts, contextHalf, goodNext, goodSubnets, goodReferences, goodSites, siteHalf}
 use Rattle.table_refer.specs.Internal.Mark.{Marked, sameSiteAt}
 use Rattle.table_refer.specs.Internal.Refer.{hasNumber, inContexts, isMarkedOrNone, isOtherOrNone, siteRefersAt, subnetRefers, subnetsRefer}
@@ -169,11 +169,17 @@ module _ (image sites : List ℕ) (e : AllOf kind.Site image sites) where
   unfolding siteHalf
   some-sites n = rw (sites-count, le-leb 1 (length sites) (omega arith))
 
--- the two halves are the whole
-halves : (t : Table) → (contextHalf t && siteHalf t) ≡ goodWhole t
+-- subnets by themselves
+pub subnets-unique : (image subnets : List ℕ) → AllOf kind.Subnet image subnets → unique (alikeAt Subnets image) subnets ≡ subnetsUnique (tableFrom image .subnets)
+unfolding tableOf subnetsUnique
+subnets-unique image subnets e = unique-at subnetOf kind.Subnet image subnets e sameNetwork
+
+-- the two halves and the subnets by themselves are the whole
+halves : (t : Table) → ((contextHalf t && siteHalf t) && subnetsUnique (t .subnets)) ≡ goodWhole t
 unfolding contextHalf goodContexts goodAccounts siteHalf goodSites goodReferences goodNext goodSubnets goodWhole refersRightly
 halves t =
-    go
+    ap (λ (b : Bool). b && subnetsUnique (t .subnets))
+    (go
     (within 1 16 (length (t .contexts)))
     (leb 1 (length (t .sites)))
     (contextsUnique (t .contexts))
@@ -184,7 +190,7 @@ halves t =
     (all (λ a. hasContext t (a .context)) (t .accounts))
     (all (λ s. noneOr (hasSite t) (s .next)) (t .sites))
     (all (λ n. noneOr (hasSite t) (n .site)) (t .subnets))
-    (all (λ s. not (holds (sameSite (s .number)) (s .next))) (t .sites))
+    (all (λ s. not (holds (sameSite (s .number)) (s .next))) (t .sites)))
   where
     rest : (hs hc ar nr sr ns : Bool) → ((hc && (ar && true)) && ((hs && (nr && ns)) && sr)) ≡ (((((hs && hc) && ar) && nr) && sr) && ns)
     rest false hc ar nr sr ns = and-false (hc && (ar && true))
@@ -204,8 +210,12 @@ halves t =
     go true true true true false hs true true nr sr ns = refl
     go true true true true true hs hc ar nr sr ns = rest hs hc ar nr sr ns
 
-pub bad-half : (t : Table) → contextHalf t ≡ false → false ≡ goodWhole t
-bad-half t e = rw e at (halves t)
+module _ (t : Table) where
+  pub bad-contexts : contextHalf t ≡ false → false ≡ goodWhole t
+  bad-contexts e = rw e at (halves t)
 
-pub good-half : (t : Table) → contextHalf t ≡ true → siteHalf t ≡ goodWhole t
-good-half t e = rw e at (halves t)
+  pub bad-sites : contextHalf t ≡ true → siteHalf t ≡ false → false ≡ goodWhole t
+  bad-sites e f = rw (e, f) at (halves t)
+
+  pub good-halves : contextHalf t ≡ true → siteHalf t ≡ true → subnetsUnique (t .subnets) ≡ goodWhole t
+  good-halves e f = rw (e, f) at (halves t)

@@ -29,15 +29,17 @@ use Rattle.table.specs.Field.{textAt, fieldEnd}
 use Rattle.table.specs.Forest.{forestKind, forestPlace, forestName, forestOf}
 use Rattle.table.specs.Format.{formatOf, recordsIn}
 use Rattle.table.specs.Server.{Server, serverKind, serverPlace, serverNetbios, serverHost, serverOf}
+use Rattle.table.specs.Address.{addressNumber, addressBits, isPrefixOnly}
 use Rattle.table.specs.Bits.{rolesBound, stateBound}
 use Rattle.table.specs.Site.{Site, siteFormat, siteName, nextOffset, siteOf}
+use Rattle.table.specs.Subnet.{Subnet, subnetFormat, inUseOctet, subnetSiteOffset, subnetOf}
 use Rattle.table.specs.Table.{Table, isUsed, bodies, recordsOf, tableOf, tableFrom}
 use Rattle.table.proofs.Laws.Format.{format-fills}
 use Rattle.table_check.specs.Check.{goodCheck}
 use Rattle.table_layout.specs.Field.{zeros, textField, lastText}
-use Rattle.table_layout.specs.Layout.{nonzero, serverLayout, forestLayout, flagsLayout, sidLayout, isEmpty, isContextNetbios, contextLayout, siteLayout, recordLayout, recordsLayout, bodyLayout, blockLayout, layoutsFrom}
+use Rattle.table_layout.specs.Layout.{nonzero, serverLayout, forestLayout, flagsLayout, sidLayout, isEmpty, isContextNetbios, contextLayout, siteLayout, subnetLayout, recordLayout, recordsLayout, bodyLayout, blockLayout, layoutsFrom}
 use Rattle.table_whole.specs.Judgement.{goodLength, tableIn, Accepted, judgedAs}
-use Rattle.table_whole.specs.Whole.{contextsUnique, sitesUnique, accountsUnique, refersRightly, goodWhole}
+use Rattle.table_whole.specs.Whole.{contextsUnique, sitesUnique, accountsUnique, subnetsUnique, refersRightly, goodWhole}
 use Rattle.table_whole.specs.declared.judge.Judgement.the-variants.{Passed, Refused}
 
 -- ---- what an accepted image holds
@@ -78,18 +80,29 @@ module _ (image : List ℕ) (ok : Accepted image) where
   pub accepted-bounds : (1024 ≤ length image) × (length image ≤ 65536)
   accepted-bounds = length-bounds image (accepted-judged .length)
 
-  pub accepted-sites : sitesUnique (tableFrom image .sites) ≡ true
+  unique-rows : (sitesUnique (tableFrom image .sites) ≡ true) × (subnetsUnique (tableFrom image .subnets) ≡ true)
   unfolding goodWhole
-  accepted-sites =
+  unique-rows =
       let t = tableFrom image in
       let before : Bool = within 1 16 (length (t .contexts)) && leb 1 (length (t .sites)) && contextsUnique (t .contexts) in
       let sites : Bool = sitesUnique (t .sites) in
       let accounts : Bool = accountsUnique (t .accounts) in
       let next : Bool = all (λ s. not (holds (sameSite (s .number)) (s .next))) (t .sites) in
-      both-right before sites
-      (both-left (before && sites) accounts
-      (both-left (before && sites && accounts) (refersRightly t)
-      (both-left (before && sites && accounts && refersRightly t) next (accepted-judged .whole))))
+      let halves : Bool = before && sites && accounts && refersRightly t && next in
+      let subnets : Bool = subnetsUnique (t .subnets) in (
+        both-right before sites
+            (both-left (before && sites) accounts
+            (both-left (before && sites && accounts) (refersRightly t)
+            (both-left (before && sites && accounts && refersRightly t) next
+            (both-left halves subnets (accepted-judged .whole))))),
+        both-right halves subnets (accepted-judged .whole),
+      )
+
+  pub accepted-sites : sitesUnique (tableFrom image .sites) ≡ true
+  accepted-sites = unique-rows .0
+
+  pub accepted-subnets : subnetsUnique (tableFrom image .subnets) ≡ true
+  accepted-subnets = unique-rows .1
 
 -- ---- what its table holds: texts that can be written, and GUIDs and addresses of their lengths
 
@@ -307,6 +320,29 @@ accepted-good image ok =
 
 pub judged-good : (image : List ℕ) (t : Table) → tableIn image ≡ good t → GoodTable t
 judged-good image t e = subst GoodTable (judged image t e .1) (accepted-good image (accepted image t e))
+
+-- ---- the address bits of a subnet past its prefix are zero
+
+abbrev pub PrefixOnly : Subnet → Type 0
+PrefixOnly n = isPrefixOnly (n .prefix) (addressNumber (n .address)) ≡ true
+
+prefix-only : (r : List ℕ) → subnetLayout r ≡ true → PrefixOnly (subnetOf r)
+unfolding subnetLayout
+prefix-only r e =
+    let n = subnetOf r in
+    let short : Bool = leb (n .prefix) addressBits in
+    let network : Bool = isPrefixOnly (n .prefix) (addressNumber (n .address)) in
+    let used : Bool = eqb (inUseOctet r) 1 in
+    both-right short network (both-left (short && network) used (both-left (short && network && used) (zeros r (subnetSiteOffset + 2) (subnetFormat .width)) e))
+
+pub accepted-prefixes : (image : List ℕ) → Accepted image → Every PrefixOnly (tableFrom image .subnets)
+unfolding blocksOf tableOf
+accepted-prefixes image ok =
+    let m : 1024 ≤ length image = accepted-bounds image ok .0 in
+    let wide : Every (λ x. length x ≡ blockSize) (blocksOf image) = pieces-wide (length image / blockSize) blockSize image (omega arith) in
+    every-map subnetOf (LaidRecord kind.Subnet) PrefixOnly
+    (λ r q. prefix-only r (other-right (allZero r) (subnetLayout r) (q .laid) (not-true (allZero r) (q .used))))
+    (recordsOf kind.Subnet (blocksOf image)) (records-good kind.Subnet (blocksOf image) (blocks-laid (blocksOf image) serverPlace wide (accepted-judged image ok .layouts)))
 
 -- ---- the answer by the first judgement that fails
 

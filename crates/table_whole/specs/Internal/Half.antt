@@ -1,4 +1,4 @@
--- The table as a whole in two halves: contexts with their accounts, and sites with their subnets.
+-- The table as a whole in two halves, contexts with their accounts, and sites with what refers to them; the subnets by themselves come after.
 use mathlib.Core.Path.{_≡_}
 use mathlib.Core.Bool.{Bool, not, _&&_}
 use mathlib.Core.List.{List}

@@ -9,6 +9,7 @@ pub mod places;
 mod reads;
 pub mod rules;
 pub mod samples;
+mod subnets;
 mod tables;
 #[cfg(test)]
 mod tests;
@@ -73,6 +74,7 @@ impl Coverage {
             "table" => {
                 self.image = octets_of_word(request.get(1)?)?;
                 tables::add_cases(&self.image, number, met);
+                subnets::add_tables(&self.image, number, met);
             }
             "ping" => pings::add_cases(&self.image, &request, &answer, met)?,
             "filter" | "values" => filters::add_cases(&octets_of_word(request.get(1)?)?, &answer, met),
@@ -130,6 +132,7 @@ pub fn required() -> Vec<String> {
     cases.extend(required_of_pings());
     cases.extend(without_version::required());
     cases.extend(closing_dot::required());
+    cases.extend(subnets::required());
     cases.extend(filters::required());
     cases.extend(reads::required());
     cases.extend(walks::required());
@@ -142,7 +145,7 @@ pub fn required_numbers() -> Vec<String> {
     NUMBERS_BY_KIND.into_iter().flat_map(of_kind).collect()
 }
 
-/// The cases of pings but for document 01's own samples, those without NtVer and those of closing dots.
+/// The cases of pings but for document 01's own samples, and those of #101, #102 and #107.
 pub fn required_of_pings() -> Vec<String> {
     pings::required()
 }

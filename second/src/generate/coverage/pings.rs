@@ -4,6 +4,7 @@ use super::super::pings::reply_to;
 use super::closing_dot;
 use super::places::name_places;
 use super::samples::sample_met;
+use super::subnets;
 use super::without_version::{self, Line};
 use super::Met;
 use crate::choose::Form;
@@ -34,6 +35,7 @@ pub fn add_cases(image: &[u8], request: &[&str], answer: &[&str], met: &mut Met)
     let line = Line { image, client, filter: &filter, room, answer };
     without_version::add_cases(&line, met);
     closing_dot::add_cases(&line, met);
+    subnets::add_pings(&line, met);
     if !["0", "19"].contains(number) {
         met.add_if(room < 30, format!("refused with {number}, little room"));
         met.add_if(room > 100, format!("refused with {number}, much room"));
@@ -328,25 +330,38 @@ impl Ping<'_> {
         self.table.subnets.iter().filter(|subnet| self.client & subnet.mask == subnet.address)
     }
 
+    /// No two subnets of one prefix hold the same address, so that there is one of the longest.
+    fn nearest(&self) -> Option<&Subnet> {
+        let longest = self.subnets_held().map(|subnet| subnet.mask.count_ones()).max()?;
+        self.subnets_held().find(|subnet| subnet.mask.count_ones() == longest)
+    }
+
     fn site(&self) -> Option<Site<'_>> {
         match self.table.sites.as_slice() {
             [only] => Some(*only),
-            _ => self.table.site(self.subnets_held().next()?.site?).copied(),
+            _ => self.table.site(self.nearest()?.site?).copied(),
         }
     }
 
+    /// A subnet that decides the site, and whether others that hold the address differ and stand before it or after it.
+    fn add_nearest(&self, nearest: &Subnet, met: &mut Met) {
+        let sort = if nearest.site.is_some() { "by a subnet" } else { "none, by a subnet without" };
+        met.add(format!("site: {sort}"));
+        met.add(format!("site: by prefix {}", nearest.mask.count_ones()));
+        let differs = |other: &Subnet| other.site != nearest.site;
+        let mut before = self.subnets_held().take_while(|subnet| subnet.mask != nearest.mask);
+        met.add_if(before.any(differs), format!("site: {sort}, an earlier one differs"));
+        let mut after = self.subnets_held().skip_while(|subnet| subnet.mask != nearest.mask);
+        met.add_if(after.any(differs), format!("site: {sort}, a later one differs"));
+    }
+
     fn add_site(&self, reply: &Reply, met: &mut Met) {
-        let mut held = self.subnets_held();
-        let first = held.next();
-        let another = held.any(|later| first.is_some_and(|first| first.site != later.site));
+        let nearest = self.nearest();
         if self.table.sites.len() == 1 {
             met.add("site: the only one");
-            met.add_if(first.is_some_and(|subnet| subnet.site.is_none()), "site: the only one, by a subnet none");
-        } else if let Some(subnet) = first {
-            let sort = if subnet.site.is_some() { "by a subnet" } else { "none, by a subnet without" };
-            met.add(format!("site: {sort}"));
-            met.add_if(another, format!("site: {sort}, a later one differs"));
-            met.add(format!("site: by prefix {}", subnet.mask.count_ones()));
+            met.add_if(nearest.is_some_and(|subnet| subnet.site.is_none()), "site: the only one, by a subnet none");
+        } else if let Some(subnet) = nearest {
+            self.add_nearest(subnet, met);
         } else if self.table.subnets.is_empty() {
             met.add("site: none, without subnets");
         } else {
@@ -481,7 +496,7 @@ pub fn required() -> Vec<String> {
     cases
 }
 
-const CASES: [&str; 81] = [
+const CASES: [&str; 83] = [
     "answered on 128 blocks",
     "answered to an equality alone",
     "9: NtVer",
@@ -542,8 +557,10 @@ const CASES: [&str; 81] = [
     "site: the only one",
     "site: the only one, by a subnet none",
     "site: by a subnet",
+    "site: by a subnet, an earlier one differs",
     "site: by a subnet, a later one differs",
     "site: none, by a subnet without",
+    "site: none, by a subnet without, an earlier one differs",
     "site: none, by a subnet without, a later one differs",
     "site: none, without subnets",
     "site: none, outside all subnets",

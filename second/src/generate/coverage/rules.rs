@@ -54,7 +54,7 @@ pub const TEXT_RULES: [(&[&str], &[&str]); 3] = [
     ),
     (&["empty", "too long", "room", "zero octet", "not UTF-8"], &["account name"]),
 ];
-pub const WHOLE_RULES: [&str; 18] = [
+pub const WHOLE_RULES: [&str; 19] = [
     "no context",
     "17 contexts",
     "no site",
@@ -73,6 +73,7 @@ pub const WHOLE_RULES: [&str; 18] = [
     "subnet's site missing",
     "next closest site its own",
     "account name twice in two blocks",
+    "subnet twice",
 ];
 
 /// The rules of layout that an image of good length breaks.
@@ -250,6 +251,10 @@ pub fn whole_faults(image: &[u8]) -> Faults {
     let mut faults = Faults::new();
     add_context_uniqueness(&mut faults, &records(image, 3));
     add_account_uniqueness(&mut faults, image);
+    // By address and prefix; the sort puts those that are the same next to each other.
+    let mut subnets: Vec<&[u8]> = records(image, 6).iter().map(|subnet| &subnet[..5]).collect();
+    subnets.sort();
+    fault_if(&mut faults, subnets.windows(2).any(|pair| pair[0] == pair[1]), "subnet twice");
     let sites = records(image, 5);
     let numbers: Vec<u16> = sites.iter().map(|site| number_at(site, 0)).collect();
     fault_if(&mut faults, numbers.is_empty(), "no site");
@@ -323,7 +328,7 @@ mod tests {
     use crate::answers::number_of;
     use crate::generate::bulk::{changed_octets, with_another_count};
     use crate::generate::chance::Chance;
-    use crate::generate::sample::{sample, Size};
+    use crate::generate::sample::{nested_sample, Size};
     use crate::table::read_table;
 
     /// The number that the rules give an image that passed 1 and 2.
@@ -343,10 +348,11 @@ mod tests {
         let mut given = [0; 5];
         for round in 0..4_000 {
             let size = Size { contexts: 1 + round % 3, account_blocks: 1, sites: 1 + round % 7, subnets: round % 9 };
-            let image = sample(&mut chance, size).image;
-            let octets = match round % 2 {
-                0 => with_another_count(&mut chance, &image).octets(),
-                _ => changed_octets(&mut chance, image.octets(), true),
+            let table = nested_sample(&mut chance, size, round / 9 % 2);
+            let octets = match round % 4 {
+                0 => with_another_count(&mut chance, &table.image).octets(),
+                1 => table.with_double(&mut chance).octets(),
+                _ => changed_octets(&mut chance, table.image.octets(), true),
             };
             let by_reader = number_of(&read_table(&octets));
             given[usize::from(by_reader)] += 1;

@@ -2,6 +2,7 @@
 
 use super::super::bulk::write_lines;
 use super::super::elements::equality;
+use super::super::nets::{with_nets, Net};
 use super::super::{lines_of, KINDS};
 use super::trace::trace;
 use super::trail::{trail, End, Trail};
@@ -148,6 +149,38 @@ fn a_check_meets_its_cases_with_both_sums_right_alone() {
         coverage.observe(request.as_bytes(), answer);
         assert_eq!(coverage.count("check given"), 1);
         assert_eq!(coverage.count("check: FFh alone at place 475"), times, "{answer}");
+    }
+}
+
+/// The answer of a table without the nearest subnet is a right one too, but not on the table that has it.
+#[test]
+fn only_the_nearest_subnet_meets_its_case() {
+    let nets = [Net::around(0x0A00_0000, 8, 1), Net::around(0x0A01_0000, 16, 2)];
+    let request = format!("ping 0a010001 {} 128", word_of_octets(&equality(b"NtVer", &[4, 0, 0, 0])));
+    let table = |nets: &[Net]| format!("table {}", word_of_octets(&with_nets(2, nets).octets()));
+    let answer_on = |table: &str| {
+        let mut answerer = Answerer::default();
+        answerer.answer(table.as_bytes());
+        answerer.answer(request.as_bytes()).unwrap()
+    };
+    for (answered, times) in [(&nets[..], 1), (&nets[..1], 0), (&[], 0)] {
+        let mut coverage = Coverage::default();
+        coverage.observe(table(&nets).as_bytes(), "table 0");
+        coverage.observe(request.as_bytes(), &answer_on(&table(answered)));
+        assert_eq!(coverage.count("nearest: a site by prefix 16"), times);
+        assert_eq!(coverage.count("nearest: a site, the first holder of another"), times);
+    }
+}
+
+#[test]
+fn a_subnet_twice_meets_its_case_with_4_alone() {
+    let nets = [1, 2].map(|site| Net::around(0x0A00_0000, 8, site));
+    let request = format!("table {}", word_of_octets(&with_nets(2, &nets).octets()));
+    for (answer, times) in [("table 4", 1), ("table 0", 0), ("table 3", 0)] {
+        let mut coverage = Coverage::default();
+        coverage.observe(request.as_bytes(), answer);
+        assert_eq!(coverage.count("subnet twice, of two sites: 4"), times, "{answer}");
+        assert_eq!(coverage.count("whole: subnet twice"), times, "{answer}");
     }
 }
 

@@ -54,7 +54,8 @@ fn add_nt4_wanted(pings: &mut Pings) {
 
 fn add_roles(pings: &mut Pings) {
     pings.note("each role alone, all of them, and all but read-only and NT4 wanted");
-    for roles in (0..12).map(|bit| 1 << bit).chain([0xFFF, 0xDEF]) {
+    // NT4 wanted and level 2008 have tables of their own.
+    for roles in (0..12).map(|bit| 1 << bit).filter(|role| ![0x200, 0x800].contains(role)).chain([0xFFF, 0xDEF]) {
         pings.table(&Image::small(&ServerBlock { roles, ..ServerBlock::default() }));
         for version in [0x0, 0x2, 0x0100_0004, 0x1C] {
             pings.ask(NO_CLIENT, &Asked::version(version));
@@ -278,7 +279,7 @@ const CLIENTS: [[u8; 4]; 16] = [
 ];
 
 fn add_sites(pings: &mut Pings) {
-    pings.note("the client's site by the first subnet that holds the address");
+    pings.note("the client's site by the nearest subnet that holds the address");
     let subnets = [
         Record::subnet([10, 1, 2, 0], 24, 1, 0),
         Record::unused(12),

@@ -3,12 +3,13 @@
 mod choosing;
 mod closing_dot;
 mod names;
+mod nearest;
 mod without_version;
 
 use super::chance::Chance;
 use super::elements::{and, equality, nested, version_6};
 use super::requests::{Asked, Requests};
-use super::sample::{fill_up, sample, Size};
+use super::sample::{nested_sample, Size};
 use crate::choose::{ClientAddress, Form};
 use crate::filter::{take_apart, ClauseName, Clauses};
 use crate::image::{Image, ServerBlock};
@@ -21,9 +22,9 @@ pub fn add_all(requests: &mut Requests, chance: &mut Chance) {
     add_filter_refusals(&mut pings, chance);
     choosing::add_all(&mut pings);
     names::add_all(&mut pings);
-    add_largest_table(&mut pings, chance);
     add_random(&mut pings, chance);
     closing_dot::add_all(&mut pings);
+    nearest::add_all(&mut pings);
 }
 
 /// The lines so far, the image that stands, and how many pings had little room or much, in turn.
@@ -183,27 +184,16 @@ fn add_filter_refusals(pings: &mut Pings, chance: &mut Chance) {
     pings.ask(NO_CLIENT, &ignored);
 }
 
-fn add_largest_table(pings: &mut Pings, chance: &mut Chance) {
-    pings.note("the most blocks");
-    let mut image = sample(chance, Size { contexts: 16, account_blocks: 20, sites: 40, subnets: 600 }).image;
-    fill_up(&mut image);
-    pings.table(&image);
-    for version in [0, 2, 0x0100_0018] {
-        pings.ask([10, 0, 0, 1], &Asked::version(version));
-        pings.ask([11, 0, 0, 1], &Asked::version(version).with_user(b"FILLER127").with_aac(0x10));
-    }
-}
-
 fn add_random(pings: &mut Pings, chance: &mut Chance) {
     pings.note("random tables and pings that suit them");
-    for _ in 0..5 {
+    for _ in 0..4 {
         let size = Size {
             contexts: 1 + chance.below(4),
             account_blocks: 1,
             sites: 1 + chance.below(7),
             subnets: chance.below(20),
         };
-        let table = sample(chance, size);
+        let table = nested_sample(chance, size, 1);
         pings.table(&table.image);
         for _ in 0..20 {
             let client = table.client(chance);

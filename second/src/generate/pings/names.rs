@@ -51,19 +51,16 @@ fn add_user_texts(pings: &mut Pings) {
 }
 
 /// Names for forest, context, host, NetBIOS names and sites that share tails, or would but for case.
-const TAILS: [[&str; 7]; 12] = [
+const TAILS: [[&str; 7]; 9] = [
     ["example", "corp.example", "dc1.corp.example", "corp", "dc1", "HQ", "North"],
     ["a.b.c", "b.c", "c", "c", "C", "c", "b"],
     ["c", "b.c", "a.b.c", "a", "b", "c", "a"],
     ["a.a.a", "a.a", "a", "a", "A", "a", "a"],
     ["Example", "example", "EXAMPLE", "Example", "example", "EXAMPLE", "eXAMPLE"],
     ["corp.Example", "corp.example", "x.corp.Example", "corp", "Example", "example", "Corp"],
-    ["x.y", "z.x.y", "y", "y", "x", "y", "x"],
     ["ab.c", "b.c", "aab.c", "ab", "b", "c", "ab"],
     ["a.b", "a.b.a.b", "b.a.b", "b", "a", "a", "b"],
     ["one", "two", "three", "four", "five", "six", "seven"],
-    ["s", "t.s", "u.t.s", "s", "s", "s", "s"],
-    ["m.n.o.p", "n.o.p", "x.n.o.p", "p", "P", "o", "p"],
 ];
 
 fn add_shared_tails(pings: &mut Pings) {

@@ -4,8 +4,14 @@ use borrow.Author.Needs.{needs}
 use Rattle.table_address.proofs.address.address_number.Statement.{statement}
 use Rattle.table_address.proofs.address.address_number.Tie as tie
 
-octet-in-requires : tie.Need-octet-in-requires
-octet-in-requires c κs = search needs
+short-number-requires : tie.Need-short-number-requires
+short-number-requires c κs = search needs
+
+returns : tie.Need-returns
+returns c = search needs
+
+shared-slice-read-wide : tie.Need-shared-slice-read-wide
+shared-slice-read-wide c = search needs
 
 wide-requires : tie.Need-wide-requires
 wide-requires c κs = search needs
@@ -13,8 +19,8 @@ wide-requires c κs = search needs
 mul-result : tie.Need-mul-result
 mul-result c = search needs
 
-octet-in-requires-2 : tie.Need-octet-in-requires-2
-octet-in-requires-2 c κs = search needs
+shared-slice-read-wide-2 : tie.Need-shared-slice-read-wide-2
+shared-slice-read-wide-2 c = search needs
 
 wide-requires-2 : tie.Need-wide-requires-2
 wide-requires-2 c κs = search needs
@@ -25,8 +31,8 @@ mul-result-2 c = search needs
 add-result : tie.Need-add-result
 add-result c = search needs
 
-octet-in-requires-3 : tie.Need-octet-in-requires-3
-octet-in-requires-3 c κs = search needs
+shared-slice-read-wide-3 : tie.Need-shared-slice-read-wide-3
+shared-slice-read-wide-3 c = search needs
 
 wide-requires-3 : tie.Need-wide-requires-3
 wide-requires-3 c κs = search needs
@@ -37,8 +43,8 @@ mul-result-3 c = search needs
 add-result-2 : tie.Need-add-result-2
 add-result-2 c = search needs
 
-octet-in-requires-4 : tie.Need-octet-in-requires-4
-octet-in-requires-4 c κs = search needs
+shared-slice-read-wide-4 : tie.Need-shared-slice-read-wide-4
+shared-slice-read-wide-4 c = search needs
 
 wide-requires-4 : tie.Need-wide-requires-4
 wide-requires-4 c κs = search needs
@@ -46,26 +52,28 @@ wide-requires-4 c κs = search needs
 add-result-3 : tie.Need-add-result-3
 add-result-3 c = search needs
 
-returns : tie.Need-returns
+returns-2 : tie.Need-returns-2
 unfolding addressNumber
-returns c = omega arith
+returns-2 c = omega arith
 
 pub address-number-spec : {M : Type 1} → statement M
 address-number-spec =
     tie.close
     (tie.spec
-    octet-in-requires
+    short-number-requires
+    returns
+    shared-slice-read-wide
     wide-requires
     mul-result
-    octet-in-requires-2
+    shared-slice-read-wide-2
     wide-requires-2
     mul-result-2
     add-result
-    octet-in-requires-3
+    shared-slice-read-wide-3
     wide-requires-3
     mul-result-3
     add-result-2
-    octet-in-requires-4
+    shared-slice-read-wide-4
     wide-requires-4
     add-result-3
-    returns)
+    returns-2)

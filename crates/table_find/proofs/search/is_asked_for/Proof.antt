@@ -20,12 +20,6 @@ enum-known-key-3 c = search needs
 is-site-requires : tie.Need-is-site-requires
 is-site-requires c κs = search needs
 
-enum-known-key-4 : tie.Need-enum-known-key-4
-enum-known-key-4 c = search needs
-
-holds-address-requires : tie.Need-holds-address-requires
-holds-address-requires c κs = search needs
-
 returns : tie.Need-returns
 returns c = rw (c .before .before .key .given .1) (c .is-context .ensures)
 
@@ -34,9 +28,6 @@ returns-2 c = rw (c .before .before .key2 .given .1) (c .is-account .ensures)
 
 returns-3 : tie.Need-returns-3
 returns-3 c = rw (c .before .before .key3 .given .1) (c .is-site .ensures)
-
-returns-4 : tie.Need-returns-4
-returns-4 c = rw (c .before .before .key4 .given .1) (c .holds-address .ensures)
 
 pub is-asked-for-spec : {M : Type 1} → statement M
 is-asked-for-spec =
@@ -48,9 +39,6 @@ is-asked-for-spec =
     is-account-requires
     enum-known-key-3
     is-site-requires
-    enum-known-key-4
-    holds-address-requires
     returns
     returns-2
-    returns-3
-    returns-4)
+    returns-3)

@@ -6,16 +6,16 @@ use borrow.Author.Needs.{needs}
 use Rattle.table_compare.specs.declared.compare.Ordering.{Ordering}
 use Rattle.table_compare.specs.declared.compare.Ordering.the-variants.{Less, Equal, Greater}
 use Rattle.table_sort.specs.Internal.Neighbours.{risingThen, neighboursBy}
-use Rattle.table_compare.specs.Internal.AccountKey.{compareAt}
+use Rattle.table_compare.specs.Internal.OrderKey.{compareAt}
 use Rattle.table_sort.proofs.Laws.Neighbours.{neighbours-as, neighbours-end}
 use Rattle.table_sort.proofs.unique.compare_neighbours.Statement.{statement}
 use Rattle.table_sort.proofs.unique.compare_neighbours.Tie as tie
 
 abbrev Inv-loop : tie.InvT-loop
-Inv-loop image offsets i₀ i = (1 ≤ i) × (neighboursBy (compareAt image) (drop (i - 1) offsets) ≡ neighboursBy (compareAt image) offsets)
+Inv-loop image offsets order i₀ i = (1 ≤ i) × (neighboursBy (compareAt order image) (drop (i - 1) offsets) ≡ neighboursBy (compareAt order image) offsets)
 
 abbrev μ-loop : tie.MeasureT-loop
-μ-loop image offsets i₀ i = length offsets - i
+μ-loop image offsets order i₀ i = length offsets - i
 
 loop-holds : tie.Need-loop-holds Inv-loop μ-loop
 loop-holds c = (omega arith, refl)
@@ -49,18 +49,18 @@ loop-less c = search needs
 
 -- what the compare of two neighbours, told to be r, says of the list from the first of them on
 told : (c : tie.After-compare-at Inv-loop μ-loop) (r : Ordering) → c .compare-at .result ≡ r
-    → let a = c .before .before .before .before .before .before .before .args in let i = c .before .before .before .before .loop .i in risingThen r (neighboursBy (compareAt (a .image .now)) (drop i (a .offsets .now))) ≡ neighboursBy (compareAt (a .image .now)) (a .offsets .now)
+    → let a = c .before .before .before .before .before .before .before .args in let i = c .before .before .before .before .loop .i in risingThen r (neighboursBy (compareAt (a .order) (a .image .now)) (drop i (a .offsets .now))) ≡ neighboursBy (compareAt (a .order) (a .image .now)) (a .offsets .now)
 told c r e =
     let a = c .before .before .before .before .before .before .before .args in
     let l = c .before .before .before .before .loop in
-    neighbours-as (compareAt (a .image .now)) (a .offsets .now) (l .i - 1) (l .i) (omega arith) (omega arith) r (sym (c .compare-at .ensures) ∙ e) ∙ l .inv .1
+    neighbours-as (compareAt (a .order) (a .image .now)) (a .offsets .now) (l .i - 1) (l .i) (omega arith) (omega arith) r (sym (c .compare-at .ensures) ∙ e) ∙ l .inv .1
 
 loop-again : tie.Need-loop-again Inv-loop μ-loop
 loop-again c =
     let a = c .before .before .before .before .before .before .before .before .before .args in
     let l = c .before .before .before .before .before .before .loop in
     let here : l .i + 1 - 1 ≡ l .i = omega arith in
-    (omega arith, ap (λ (k : ℕ). neighboursBy (compareAt (a .image .now)) (drop k (a .offsets .now))) here ∙ told (c .before .before) Less (c .enum-told .given .1))
+    (omega arith, ap (λ (k : ℕ). neighboursBy (compareAt (a .order) (a .image .now)) (drop k (a .offsets .now))) here ∙ told (c .before .before) Less (c .enum-told .given .1))
 
 enum-told-2 : tie.Need-enum-told-2 Inv-loop μ-loop
 enum-told-2 c = search needs
@@ -78,7 +78,7 @@ returns-3 : tie.Need-returns-3 Inv-loop μ-loop
 returns-3 c =
     let a = c .before .before .before .before .args in
     let l = c .before .loop in
-    neighbours-end (compareAt (a .image .now)) (a .offsets .now) (l .i - 1) (omega arith) ∙ l .inv .1
+    neighbours-end (compareAt (a .order) (a .image .now)) (a .offsets .now) (l .i - 1) (omega arith) ∙ l .inv .1
 
 pub compare-neighbours-spec : {M : Type 1} → statement M
 compare-neighbours-spec =
