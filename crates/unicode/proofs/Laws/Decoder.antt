@@ -12,6 +12,7 @@ use Rattle.unicode.specs.declared.utf8.Decoded.the-variants.{Bad, Point,
 use Rattle.unicode.specs.Utf8 as utf8
 use Rattle.unicode.specs.Utf8.{closes, follow, decode, onDecoded, pointsFrom}
 use Rattle.unicode.specs.Internal.Decoder.{partialIn, decodedAs, limit, InBounds}
+use Rattle.unicode.specs.Internal.Point.{readOn, readableFrom}
 
 abbrev pub decodedIn : Decoded → utf8.Decoded
 decodedIn Bad = utf8.bad
@@ -46,3 +47,7 @@ bits-at i k w e = subst (λ (n : ℕ). i .bits < limit n) e (w .1)
 pub opened : (decoder : utf8.Decoder) (s : List ℕ) (i : ℕ) → i < length s → pointsFrom decoder (drop i s) ≡ onDecoded (decode decoder (getD s i 0)) (λ n. pointsFrom n (drop (i + 1) s))
 unfolding pointsFrom
 opened decoder s i h = rw (add-one, drop-cons s i 0)
+
+pub opened-readable : (decoder : utf8.Decoder) (s : List ℕ) (i : ℕ) → i < length s → readableFrom decoder (drop i s) ≡ readOn (decode decoder (getD s i 0)) (λ n. readableFrom n (drop (i + 1) s))
+unfolding readableFrom
+opened-readable decoder s i h = rw (add-one, drop-cons s i 0)

@@ -40,7 +40,7 @@ returns-2 c =
     let a = c .before .before .before .before .before .before .before .args in
     let l = c .before .before .loop in
     let r = subst (λ (d : Decoded). Reading (a .s .now) (a .at) d (l .next)) (c .enum-told .given .1) (l .inv) in
-    r .4
+    (r .4, r .5)
 
 enum-known-decoded : tie.Need-enum-known-decoded Inv-loop μ-loop
 enum-known-decoded c = search needs
@@ -50,7 +50,7 @@ returns-3 c =
     let a = c .before .before .before .before .before .before .before .before .args in
     let l = c .before .before .before .loop in
     let r = subst (λ (d : Decoded). Reading (a .s .now) (a .at) d (l .next)) (c .before .decoded .given .1) (l .inv) in
-    (r .2, r .3, r .1, r .4)
+    (r .2, r .3, r .1, r .4, r .5)
 
 enum-known-decoded-2 : tie.Need-enum-known-decoded-2 Inv-loop μ-loop
 enum-known-decoded-2 c = search needs

@@ -1,0 +1,59 @@
+-- Folding twice is folding once: one test over the whole table, carried to each entry.
+use mathlib.Core.Path.{_≡_, refl, sym, ap, ap₂, _∙_, subst}
+use mathlib.Core.Bool.{Bool, true, false}
+use mathlib.Core.List.{List, [], _∷_}
+use Prim.Native.Nat.{ℕ, _<_}
+use lib.Dec.{eqb, ltb}
+use lib.ListN.{length, getD}
+use borrow.Author.Tests.{ltb-true, eqb-true}
+use Rattle.octets.specs.Fold.{foldEnd, foldTable, foldPoint, foldPoints}
+use Rattle.octets.specs.Lists.{all}
+use Rattle.octets.proofs.Laws.Lists.{every-all, every-at}
+use Rattle.account_names.specs.FoldTwice.{FoldTwice}
+
+-- a code point that stands for itself
+abbrev standsFor : ℕ → Bool
+standsFor c = eqb (foldPoint c) c
+
+table-stands : all standsFor foldTable ≡ true
+unfolding all foldTable foldPoint
+table-stands = refl
+
+table-small : all (λ c. ltb c 0x10000) foldTable ≡ true
+unfolding all foldTable
+table-small = refl
+
+table-size : length foldTable ≡ foldEnd
+unfolding foldTable
+table-size = refl
+
+-- what a test holds of all entries, it holds of each
+module _ (c : ℕ) (h : c < foldEnd) where
+  entry : (p : ℕ → Bool) (P : ℕ → Type 0) → ((x : ℕ) → p x ≡ true → P x) → all p foldTable ≡ true → P (getD foldTable c 0)
+  entry p P f e = every-at P foldTable c 0 (every-all p P f foldTable e) (subst (λ (n : ℕ). c < n) (sym table-size) h)
+
+  pub entry-small : getD foldTable c 0 < 0x10000
+  entry-small = entry (λ x. ltb x 0x10000) (λ x. x < 0x10000) (λ x e. ltb-true x 0x10000 e) table-small
+
+  entry-stands : foldPoint (getD foldTable c 0) ≡ getD foldTable c 0
+  entry-stands = entry standsFor (λ x. foldPoint x ≡ x) (λ x e. eqb-true (foldPoint x) x e) table-stands
+
+fold-below : (c : ℕ) → ltb c foldEnd ≡ true → foldPoint c ≡ getD foldTable c 0
+unfolding foldPoint
+fold-below c e = rw e
+
+fold-above : (c : ℕ) → ltb c foldEnd ≡ false → foldPoint c ≡ c
+unfolding foldPoint
+fold-above c e = rw e
+
+fold-stands : (c : ℕ) → foldPoint (foldPoint c) ≡ foldPoint c
+fold-stands c = go (ltb c foldEnd) refl
+  where
+    go : (b : Bool) → ltb c foldEnd ≡ b → foldPoint (foldPoint c) ≡ foldPoint c
+    go true e = let below : foldPoint c ≡ getD foldTable c 0 = fold-below c e in ap foldPoint below ∙ entry-stands c (ltb-true c foldEnd e) ∙ sym below
+    go false e = ap foldPoint (fold-above c e)
+
+pub fold-twice : FoldTwice
+unfolding foldPoints
+fold-twice [] = refl
+fold-twice (c ∷ text) = ap₂ _∷_ (fold-stands c) (fold-twice text)

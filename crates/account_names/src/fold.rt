@@ -1,0 +1,18 @@
+// Unicode's simple case folding, by one table; code points past it stand for themselves.
+ghost use mathlib.Core.Path.{_≡_};
+ghost use Prim.Native.Nat.{_<_};
+ghost use Rattle.octets.specs.Fold.{foldPoint};
+ghost use Rattle.unicode.specs.Internal.Point.{pointLimit};
+use crate::fold_table::FOLD_END;
+use crate::fold_table::FOLD_TABLE;
+
+pub fn fold_point(point: u32) -> u32
+    ensures { λ r. ⌜ r ≡ foldPoint point ⌝ }
+    ensures { λ r. ⌜ (point < pointLimit → r < pointLimit) ⌝ }
+{
+    let at = point as usize;
+    if at < FOLD_END {
+        return FOLD_TABLE[at] as u32;
+    }
+    point
+}
