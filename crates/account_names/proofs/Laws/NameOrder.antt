@@ -23,7 +23,7 @@ use Rattle.unicode.proofs.Laws.Point.{end-points, some-more, readable-points}
 use Rattle.account_names.specs.declared.compare.Ordering.{Ordering}
 use Rattle.account_names.specs.declared.compare.Ordering.the-variants.{Less, Equal, Greater}
 use Rattle.account_names.specs.AccountName.{foldedText, sameAccountName}
-use Rattle.account_names.specs.Internal.Ordering.{compare, isEqual}
+use Rattle.account_names.specs.Internal.Ordering.{compareNumbers, andThen, compare, isEqual}
 use Rattle.account_names.specs.Internal.NameOrder.{nameKey, equalIf, compareNames, RankRead}
 use Rattle.account_names.proofs.Laws.Ordering.{compare-equal, compare-passes, head-less, head-greater, head-equal}
 
@@ -56,17 +56,35 @@ module _ (a b : List ℕ) where
       go (some cs) e (some ds) f =
           rw (e, f, readable-points a cs e, readable-points b ds f) (ap isEqual (equal-if-so (compare (foldPoints cs) (foldPoints ds))) ∙ compare-equal (foldPoints cs) (foldPoints ds))
 
-  pub names-less : compareNames a b ≡ Less → compare (nameKey a) (nameKey b) ≡ Less
+  names-less : compareNames a b ≡ Less → compare (nameKey a) (nameKey b) ≡ Less
   unfolding compareNames
   names-less e = less-if (isUtf8 a && isUtf8 b) (compare (nameKey a) (nameKey b)) e
 
-  pub keys-less : compare (nameKey a) (nameKey b) ≡ Less → compareNames a b ≡ Less
+  keys-less : compare (nameKey a) (nameKey b) ≡ Less → compareNames a b ≡ Less
   unfolding compareNames
   keys-less e = rw e
 
   keys-greater : compare (nameKey a) (nameKey b) ≡ Greater → compareNames a b ≡ Greater
   unfolding compareNames
   keys-greater e = rw e
+
+-- names behind a number: before is passed on
+module _ (a b : List ℕ) where
+  then-keys : (o : Ordering) → andThen o (compareNames a b) ≡ Less → andThen o (compare (nameKey a) (nameKey b)) ≡ Less
+  then-keys Less e = refl
+  then-keys Equal e = names-less a b e
+  then-keys Greater e = e
+
+  then-names : (o : Ordering) → andThen o (compare (nameKey a) (nameKey b)) ≡ Less → andThen o (compareNames a b) ≡ Less
+  then-names Less e = refl
+  then-names Equal e = keys-less a b e
+  then-names Greater e = e
+
+pub numbered-passes : (x y z : ℕ) (a b c : List ℕ)
+    → andThen (compareNumbers x y) (compareNames a b) ≡ Less → andThen (compareNumbers y z) (compareNames b c) ≡ Less → andThen (compareNumbers x z) (compareNames a c) ≡ Less
+unfolding compare
+numbered-passes x y z a b c e f =
+    then-names a c (compareNumbers x z) (compare-passes (x ∷ nameKey a) (y ∷ nameKey b) (z ∷ nameKey c) (then-keys a b (compareNumbers x y) e) (then-keys b c (compareNumbers y z) f))
 
 -- as far as two pairs of names have keys and UTF-8 alike
 names-alike : (a b s t : List ℕ) → compare (nameKey s) (nameKey t) ≡ compare (nameKey a) (nameKey b) → isUtf8 a ≡ isUtf8 s → isUtf8 b ≡ isUtf8 t → compareNames s t ≡ compareNames a b
