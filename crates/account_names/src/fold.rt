@@ -6,13 +6,20 @@ ghost use Rattle.unicode.specs.Internal.Point.{pointLimit};
 use crate::fold_table::FOLD_END;
 use crate::fold_table::FOLD_TABLE;
 
+// An entry as a code point.
+fn point_of(entry: u16) -> u32
+    ensures { λ r. ⌜ (r ≡ entry) × (r < pointLimit) ⌝ }
+{
+    entry as u32
+}
+
 pub fn fold_point(point: u32) -> u32
     ensures { λ r. ⌜ r ≡ foldPoint point ⌝ }
     ensures { λ r. ⌜ (point < pointLimit → r < pointLimit) ⌝ }
 {
     let at = point as usize;
     if at < FOLD_END {
-        return FOLD_TABLE[at] as u32;
+        return point_of(FOLD_TABLE[at]);
     }
     point
 }

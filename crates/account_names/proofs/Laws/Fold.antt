@@ -19,24 +19,13 @@ table-stands : all standsFor foldTable ≡ true
 unfolding all foldTable foldPoint
 table-stands = refl
 
-table-small : all (λ c. ltb c 0x10000) foldTable ≡ true
-unfolding all foldTable
-table-small = refl
-
 table-size : length foldTable ≡ foldEnd
 unfolding foldTable
 table-size = refl
 
--- what a test holds of all entries, it holds of each
-module _ (c : ℕ) (h : c < foldEnd) where
-  entry : (p : ℕ → Bool) (P : ℕ → Type 0) → ((x : ℕ) → p x ≡ true → P x) → all p foldTable ≡ true → P (getD foldTable c 0)
-  entry p P f e = every-at P foldTable c 0 (every-all p P f foldTable e) (subst (λ (n : ℕ). c < n) (sym table-size) h)
-
-  pub entry-small : getD foldTable c 0 < 0x10000
-  entry-small = entry (λ x. ltb x 0x10000) (λ x. x < 0x10000) (λ x e. ltb-true x 0x10000 e) table-small
-
-  entry-stands : foldPoint (getD foldTable c 0) ≡ getD foldTable c 0
-  entry-stands = entry standsFor (λ x. foldPoint x ≡ x) (λ x e. eqb-true (foldPoint x) x e) table-stands
+entry-stands : (c : ℕ) → c < foldEnd → foldPoint (getD foldTable c 0) ≡ getD foldTable c 0
+entry-stands c h =
+    every-at (λ x. foldPoint x ≡ x) foldTable c 0 (every-all standsFor (λ x. foldPoint x ≡ x) (λ x e. eqb-true (foldPoint x) x e) foldTable table-stands) (subst (λ (n : ℕ). c < n) (sym table-size) h)
 
 fold-below : (c : ℕ) → ltb c foldEnd ≡ true → foldPoint c ≡ getD foldTable c 0
 unfolding foldPoint
