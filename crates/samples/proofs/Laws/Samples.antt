@@ -9,6 +9,7 @@ use Rattle.filter_read.specs.Value.{wrongValue, versionAsked, pingIn, pingFrom}
 use Rattle.filter_octets.specs.Octets.{lengthOctets, element}
 use Rattle.names.specs.Name.{pointerTo, literalLabel, writeLabels, writeName, writeNames}
 use Rattle.names.specs.Walk.{lookAt, walkFrom, walk}
+use Rattle.octets.specs.Fold.{foldTable, foldPoint, foldPoints}
 use Rattle.octets.specs.Label.{parts, labels, joined}
 use Rattle.octets.specs.Lists.{all, any, first, keep, unique, pieces}
 use Rattle.octets.specs.NameRule.{isDnsName, isPlainName}
