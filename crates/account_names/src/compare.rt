@@ -1,11 +1,13 @@
 // Two account names, by their folded code points: in order, and the same or not. Nothing is copied, and each is read up to the
 // first difference.
 ghost use mathlib.Core.Path.{_≡_};
-ghost use Prim.Native.Nat.{_≤_};
-ghost use lib.ListN.{length, drop};
+ghost use mathlib.Core.Bool.{true};
+ghost use Prim.Native.Nat.{_≤_, _<_};
+ghost use lib.ListN.{length, getD, drop};
 ghost use Rattle.account_names.specs.AccountName.{sameAccountName};
 ghost use Rattle.account_names.specs.Internal.NameOrder.{compareNames, RankRead};
 use crate::fold::fold_point;
+use octets::number::wide;
 use unicode::utf8::PointAt;
 use unicode::utf8::point_at;
 
@@ -23,9 +25,24 @@ struct Ranked {
     next: usize,
 }
 
+fn is_ascii_at(s: &[u8], at: usize) -> bool
+    ensures { λ r. ⌜ (r ≡ true → (at < length (now (s .entry))) × (getD (now (s .entry)) at 0 < 0x80)) ⌝ }
+{
+    if s.len() <= at {
+        return false;
+    }
+    s[at] < 0x80
+}
+
 fn rank_at(s: &[u8], at: usize) -> Ranked
     ensures { λ r. ⌜ RankRead (now (s .entry)) at (r .rank) (r .next) ⌝ }
 {
+    if is_ascii_at(s, at) {
+        return Ranked {
+            rank: fold_point(wide(s[at])) + 1,
+            next: at + 1,
+        };
+    }
     match point_at(s, at) {
         PointAt::Point { point, next } => Ranked {
             rank: fold_point(point) + 1,

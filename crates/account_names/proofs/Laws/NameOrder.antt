@@ -19,7 +19,7 @@ use Rattle.octets.proofs.Laws.Text.{same-sym, same-equal}
 use Rattle.unicode.specs.Utf8.{lead, pointsFrom, points, isUtf8}
 use Rattle.unicode.specs.declared.utf8.PointAt.the-variants.{Bad, Point}
 use Rattle.unicode.specs.Internal.Point.{readableFrom, readable, PointRead}
-use Rattle.unicode.proofs.Laws.Point.{end-points, some-more, readable-points}
+use Rattle.unicode.proofs.Laws.Point.{lead-one, end-points, some-more, readable-points}
 use Rattle.account_names.specs.declared.compare.Ordering.{Ordering}
 use Rattle.account_names.specs.declared.compare.Ordering.the-variants.{Less, Equal, Greater}
 use Rattle.account_names.specs.AccountName.{foldedText, sameAccountName}
@@ -102,6 +102,9 @@ module _ (s : List ℕ) (at next : ℕ) where
         ap foldPoints (p .4) ∙ ap (λ (n : ℕ). n ∷ nameKey (drop next s)) (sym e),
         ap isSome (p .3) ∙ some-more c (points (drop next s)),
       )
+
+  pub ranked-ascii : (x r : ℕ) → next ≡ at + 1 → at < length s → x ≡ getD s at 0 → x < 0x80 → r ≡ foldPoint x → RankRead s at (r + 1) next
+  ranked-ascii x r e h q k f = ranked-point x r (subst (λ (n : ℕ). PointRead s at (Point x n)) (sym e) (lead-one s at x h q k)) f
 
   pub ranked-end : length s ≤ at → RankRead s at 0 next
   unfolding nameKey foldPoints isUtf8 readableFrom
