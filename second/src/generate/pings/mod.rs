@@ -186,7 +186,7 @@ fn add_filter_refusals(pings: &mut Pings, chance: &mut Chance) {
 
 fn add_random(pings: &mut Pings, chance: &mut Chance) {
     pings.note("random tables and pings that suit them");
-    for _ in 0..4 {
+    for _ in 0..2 {
         let size = Size {
             contexts: 1 + chance.below(4),
             account_blocks: 1,
