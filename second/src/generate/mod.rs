@@ -14,6 +14,7 @@ mod pings;
 mod replies;
 mod requests;
 pub mod sample;
+mod spellings;
 mod tables;
 mod texts;
 mod values;

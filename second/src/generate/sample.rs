@@ -5,6 +5,7 @@ use super::requests::Asked;
 use super::texts::{account_texts, good_account_texts};
 use crate::filter::ClauseName;
 use crate::image::{ContextBlock, Image, Record, ServerBlock};
+use crate::table::same_account_name;
 
 /// Few labels, some the same but for case or the end of another, so that names share tails often and nearly.
 const LABELS: [&str; 12] = ["a", "A", "b", "corp", "Corp", "example", "dc1", "HQ", "x-1", "ab", "!~", "ple"];
@@ -244,7 +245,7 @@ fn push_accounts(image: &mut Image, chance: &mut Chance, names: &Names, size: Si
                 name: names.user(chance),
             };
             let same = |other: &SampleAccount| {
-                other.context == account.context && other.name.eq_ignore_ascii_case(&account.name)
+                other.context == account.context && same_account_name(&other.name, &account.name)
             };
             if !chance.once_in(5) && !accounts.iter().any(same) {
                 *record = Record::account(account.context, account.control, &account.name);

@@ -4,6 +4,7 @@
 mod checks;
 mod closing_dot;
 mod filters;
+mod letters;
 mod pings;
 pub mod places;
 mod reads;

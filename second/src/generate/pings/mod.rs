@@ -1,5 +1,6 @@
 //! Ping lines, each group after the table line that it stands on.
 
+mod accents;
 mod choosing;
 mod closing_dot;
 mod names;
@@ -25,6 +26,7 @@ pub fn add_all(requests: &mut Requests, chance: &mut Chance) {
     add_random(&mut pings, chance);
     closing_dot::add_all(&mut pings);
     nearest::add_all(&mut pings);
+    accents::add_all(&mut pings);
 }
 
 /// The lines so far, the image that stands, and how many pings had little room or much, in turn.
@@ -96,6 +98,19 @@ impl Pings<'_> {
         for room in rooms {
             self.requests.ping(client, filter, room);
         }
+    }
+
+    /// A ping with just the room for its answer, or with little where it is refused.
+    fn exact(&mut self, filter: &[u8]) {
+        let room = match self.length(NO_CLIENT, filter) {
+            0 => 2,
+            length => length,
+        };
+        self.requests.ping(NO_CLIENT, filter, room);
+    }
+
+    fn ask_exact(&mut self, asked: &Asked) {
+        self.exact(&asked.filter());
     }
 
     fn ask_tight(&mut self, client: [u8; 4], asked: &Asked) {

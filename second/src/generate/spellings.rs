@@ -1,0 +1,93 @@
+//! Spellings of account names for #108: pairs that are the same by simple case folding, and pairs that only seem so.
+
+/// Another spelling, and the folded one. Some have other lengths in octets, some are no capitals.
+pub const SAME: [(&str, &str); 12] = [
+    ("\u{17F}", "s"),
+    ("\u{23A}", "\u{2C65}"),
+    ("\u{23E}", "\u{2C66}"),
+    ("\u{B5}", "\u{3BC}"),
+    ("\u{345}", "\u{3B9}"),
+    ("\u{3C2}", "\u{3C3}"),
+    ("\u{3D0}", "\u{3B2}"),
+    ("\u{3F4}", "\u{3B8}"),
+    ("\u{1C5}", "\u{1C6}"),
+    ("\u{178}", "\u{FF}"),
+    ("\u{52E}", "\u{52F}"),
+    ("Z", "z"),
+];
+
+/// The same only by statuses F and T, by lines past the table, by another rule of case, or by a difference of 20h.
+pub const APART: [(&str, &str); 24] = [
+    ("\u{DF}", "ss"),
+    ("\u{1E9E}", "ss"),
+    ("\u{130}", "I"),
+    ("\u{130}", "i\u{307}"),
+    ("\u{131}", "I"),
+    ("\u{149}", "\u{2BC}n"),
+    ("\u{1F0}", "j\u{30C}"),
+    ("\u{390}", "\u{3B9}\u{308}\u{301}"),
+    ("\u{3B0}", "\u{3C5}\u{308}\u{301}"),
+    ("\u{212A}", "k"),
+    ("\u{212B}", "\u{E5}"),
+    ("\u{2126}", "\u{3C9}"),
+    ("\u{531}", "\u{561}"),
+    ("\u{1E00}", "\u{1E01}"),
+    ("\u{1E9B}", "\u{1E61}"),
+    ("\u{1C82}", "\u{43E}"),
+    ("\u{2C64}", "\u{27D}"),
+    ("\u{2C62}", "\u{26B}"),
+    ("\u{FF21}", "\u{FF41}"),
+    ("\u{10400}", "\u{10428}"),
+    ("\u{D7}", "\u{F7}"),
+    ("@", "`"),
+    ("[", "{"),
+    ("\u{138}", "\u{139}"),
+];
+
+/// Names of several characters, of one to four octets each, in two spellings.
+pub const WORDS: [(&str, &str); 12] = [
+    ("ann-Q", "ANN-q"),
+    ("\u{F8}rjan", "\u{D8}RJAN"),
+    ("\u{E5}\u{E9}\u{F1}", "\u{C5}\u{C9}\u{D1}"),
+    ("\u{3C3}\u{3AF}\u{3C3}\u{3C5}\u{3C6}\u{3BF}\u{3C2}", "\u{3A3}\u{38A}\u{3A3}\u{3A5}\u{3A6}\u{39F}\u{3A3}"),
+    ("\u{436}\u{430}\u{43D}\u{43D}\u{430}", "\u{416}\u{410}\u{41D}\u{41D}\u{410}"),
+    ("stra\u{17F}\u{17F}e", "STRASSE"),
+    ("\u{2C65}\u{2C66}\u{2C65}", "\u{23A}\u{23E}\u{23A}"),
+    ("\u{2C65}-\u{17F}\u{B5}", "\u{23A}-S\u{39C}"),
+    ("\u{20AC}\u{4E2D}\u{20AC}", "\u{20AC}\u{4E2D}\u{20AC}"),
+    ("\u{1F600}\u{10400}\u{1F601}", "\u{1F600}\u{10400}\u{1F601}"),
+    ("x\u{F8}\u{20AC}\u{1F600}y", "X\u{D8}\u{20AC}\u{1F600}Y"),
+    ("\u{DF}\u{131}\u{149}o", "\u{DF}\u{131}\u{149}O"),
+];
+
+/// Names of 63 octets where the first spelling is of them, in two spellings; the third of them folds to 94 octets.
+pub fn longest() -> Vec<(String, String)> {
+    let spelled = |one: &str, other: &str, times: usize, ends: [&str; 2]| {
+        ([&one.repeat(times), ends[0]].concat(), [&other.repeat(times), ends[1]].concat())
+    };
+    vec![
+        spelled("l", "L", 62, ["z", "Z"]),
+        spelled("\u{F8}", "\u{D8}", 31, ["x", "X"]),
+        spelled("\u{23A}", "\u{23A}", 31, ["x", "X"]),
+        spelled("\u{2C65}", "\u{23A}", 21, ["", ""]),
+        spelled("\u{17F}", "s", 31, ["s", "S"]),
+        spelled("\u{20AC}", "\u{20AC}", 20, ["\u{3C2}z", "\u{3C3}Z"]),
+        spelled("\u{1F600}", "\u{1F600}", 15, ["a\u{E5}", "A\u{C5}"]),
+    ]
+}
+
+#[cfg(test)]
+mod tests {
+    use super::*;
+    use crate::table::same_account_name;
+
+    #[test]
+    fn pairs_are_what_they_are_said_to_be() {
+        let same = |one: &str, other: &str| same_account_name(one.as_bytes(), other.as_bytes());
+        assert!(SAME.iter().chain(&WORDS).all(|(one, other)| same(one, other)));
+        assert!(!APART.iter().any(|(one, other)| same(one, other)));
+        for (one, other) in longest() {
+            assert!(same(&one, &other) && one.len() == 63 && other.len() <= 63, "{one}");
+        }
+    }
+}
