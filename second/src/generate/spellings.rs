@@ -76,6 +76,13 @@ pub fn longest() -> Vec<(String, String)> {
     ]
 }
 
+/// Whether the two are a pair above, in either order.
+pub fn is_pair(one: &[u8], other: &[u8]) -> bool {
+    let is_of = |(first, second): &(&str, &str)| (first.as_bytes(), second.as_bytes()) == (one, other);
+    let turned = |(first, second): &(&str, &str)| (second.as_bytes(), first.as_bytes()) == (one, other);
+    SAME.iter().chain(&APART).any(|pair| is_of(pair) || turned(pair))
+}
+
 #[cfg(test)]
 mod tests {
     use super::*;

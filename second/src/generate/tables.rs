@@ -2,6 +2,7 @@
 
 use std::collections::BTreeSet;
 
+use super::alike;
 use super::chance::Chance;
 use super::coverage::rules::{layout_faults, whole_faults};
 use super::doubles;
@@ -20,6 +21,7 @@ pub fn add_all(requests: &mut Requests, chance: &mut Chance) {
     add_orders(requests);
     add_too_large(requests);
     doubles::add_all(requests);
+    alike::add_all(requests);
 }
 
 fn smallest() -> Image {
@@ -62,7 +64,7 @@ fn rules_broken(line: &[u8]) -> Option<BTreeSet<String>> {
 fn add_lengths(requests: &mut Requests) {
     requests.note("image lengths");
     let good = smallest().octets();
-    for length in [0, 1, 511, 512, 513, 1023, 1024, 1025, 1537] {
+    for length in [0, 1, 511, 512, 513, 1023, 1024, 1025] {
         requests.table_octets(&good[..length]);
     }
     requests.table_octets(&[&good[..], &[0]].concat());
@@ -258,7 +260,6 @@ fn add_orders(requests: &mut Requests) {
     octets.push(0);
     requests.table_octets(&octets);
     let mut whole_first = Image::small(&ServerBlock { own_site: 2, ..ServerBlock::default() });
-    requests.table(&whole_first);
     whole_first.set(3, 503, 1);
     requests.table(&whole_first);
     let mut octets = whole_first.octets();
@@ -273,9 +274,6 @@ fn add_orders(requests: &mut Requests) {
     let mut swapped = smallest();
     swapped.blocks.swap(2, 3);
     requests.table(&swapped);
-    let mut forest_first = smallest();
-    forest_first.blocks.swap(0, 1);
-    requests.table(&forest_first);
 }
 
 fn add_too_large(requests: &mut Requests) {

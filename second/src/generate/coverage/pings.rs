@@ -1,6 +1,7 @@
 //! The cases of ping lines: each refusal by its causes and before later ones, and each way to an answer.
 
 use super::super::pings::reply_to;
+use super::accents;
 use super::closing_dot;
 use super::letters::alike;
 use super::places::name_places;
@@ -37,6 +38,7 @@ pub fn add_cases(image: &[u8], request: &[&str], answer: &[&str], met: &mut Met)
     without_version::add_cases(&line, met);
     closing_dot::add_cases(&line, met);
     subnets::add_pings(&line, met);
+    accents::add_pings(&line, met);
     if !["0", "19"].contains(number) {
         met.add_if(room < 30, format!("refused with {number}, little room"));
         met.add_if(room > 100, format!("refused with {number}, much room"));

@@ -200,20 +200,18 @@ fn add_filter_refusals(pings: &mut Pings, chance: &mut Chance) {
 }
 
 fn add_random(pings: &mut Pings, chance: &mut Chance) {
-    pings.note("random tables and pings that suit them");
-    for _ in 0..2 {
-        let size = Size {
-            contexts: 1 + chance.below(4),
-            account_blocks: 1,
-            sites: 1 + chance.below(7),
-            subnets: chance.below(20),
-        };
-        let table = nested_sample(chance, size, 1);
-        pings.table(&table.image);
-        for _ in 0..20 {
-            let client = table.client(chance);
-            let asked = table.asked(chance);
-            pings.ask(client, &asked);
-        }
+    pings.note("a random table and pings that suit it");
+    let size = Size {
+        contexts: 1 + chance.below(4),
+        account_blocks: 1,
+        sites: 1 + chance.below(7),
+        subnets: chance.below(20),
+    };
+    let table = nested_sample(chance, size, 1);
+    pings.table(&table.image);
+    for _ in 0..20 {
+        let client = table.client(chance);
+        let asked = table.asked(chance);
+        pings.ask(client, &asked);
     }
 }
