@@ -1,5 +1,7 @@
 //! Spellings of account names for #108: pairs that are the same by simple case folding, and pairs that only seem so.
 
+use super::chance::Chance;
+
 /// Another spelling, and the folded one. Some have other lengths in octets, some are no capitals.
 pub const SAME: [(&str, &str); 12] = [
     ("\u{17F}", "s"),
@@ -74,6 +76,44 @@ pub fn longest() -> Vec<(String, String)> {
         spelled("\u{20AC}", "\u{20AC}", 20, ["\u{3C2}z", "\u{3C3}Z"]),
         spelled("\u{1F600}", "\u{1F600}", 15, ["a\u{E5}", "A\u{C5}"]),
     ]
+}
+
+/// The name in capitals, in small letters, or with other spellings of characters here and there; as it is where that
+/// would be too long.
+pub fn respelled(chance: &mut Chance, name: &[u8]) -> Vec<u8> {
+    let text = std::str::from_utf8(name).unwrap_or_default();
+    let spelled: String = match chance.below(4) {
+        0 => text.to_uppercase(),
+        1 => text.to_lowercase(),
+        _ => {
+            let other =
+                |character| if chance.once_in(3) { other_spelling(chance, character) } else { String::from(character) };
+            text.chars().map(other).collect()
+        }
+    };
+    if (1..=63).contains(&spelled.len()) {
+        spelled.into_bytes()
+    } else {
+        name.to_vec()
+    }
+}
+
+/// Mostly by the cases of the standard library, and here and there by a pair above.
+fn other_spelling(chance: &mut Chance, character: char) -> String {
+    match chance.below(6) {
+        0..=2 => character.to_uppercase().collect(),
+        3 | 4 => character.to_lowercase().collect(),
+        _ => {
+            let alone = character.to_string();
+            let partner = |(one, other): &(&str, &str)| match alone.as_str() {
+                name if name == *one => Some(other.to_string()),
+                name if name == *other => Some(one.to_string()),
+                _ => None,
+            };
+            let partners: Vec<String> = SAME.iter().chain(&APART).filter_map(partner).chain([alone.clone()]).collect();
+            chance.pick(&partners).clone()
+        }
+    }
 }
 
 /// Whether the two are a pair above, in either order.

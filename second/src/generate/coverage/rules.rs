@@ -347,9 +347,10 @@ mod tests {
         for round in 0..4_000 {
             let size = Size { contexts: 1 + round % 3, account_blocks: 1, sites: 1 + round % 7, subnets: round % 9 };
             let table = nested_sample(&mut chance, size, round / 9 % 2);
-            let octets = match round % 4 {
+            let octets = match round % 5 {
                 0 => with_another_count(&mut chance, &table.image).octets(),
                 1 => table.with_double(&mut chance).octets(),
+                2 => table.with_namesake(&mut chance).octets(),
                 _ => changed_octets(&mut chance, table.image.octets(), true),
             };
             let by_reader = number_of(&read_table(&octets));
