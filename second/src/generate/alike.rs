@@ -1,8 +1,10 @@
 //! Tables that have an account name twice by simple case folding (#108), which makes the whole wrong, and tables that
 //! only nearly do.
 
+use std::collections::BTreeSet;
+
 use super::requests::Requests;
-use super::spellings::{longest, APART, SAME, WORDS};
+use super::spellings::{longest, split_otherwise, APART, APART_BY_RULE, BEGINNINGS, SAME, SAME_UNFOLDED, WORDS};
 use crate::image::{guid, ContextBlock, Image, Record, ServerBlock};
 
 pub fn add_all(requests: &mut Requests) {
@@ -11,6 +13,9 @@ pub fn add_all(requests: &mut Requests) {
     add_places(requests);
     add_contexts(requests);
     add_orders(requests);
+    add_single_pairs(requests);
+    add_ends(requests);
+    add_seeming(requests);
 }
 
 fn account(context: u16, name: &str) -> Record {
@@ -81,15 +86,10 @@ fn add_places(requests: &mut Requests) {
     requests.table(&around_the_site);
 }
 
-/// A second context beside the base table's.
-fn with_two_contexts(accounts: &[Record]) -> Image {
+/// A second context, of this number, beside the base table's.
+fn with_two_contexts(number: u16, accounts: &[Record]) -> Image {
     let mut image = Image::small(&ServerBlock::default());
-    image.push_context(&ContextBlock {
-        number: 2,
-        guid: guid(0x80),
-        dns_name: b"lab.example",
-        ..ContextBlock::default()
-    });
+    image.push_context(&ContextBlock { number, guid: guid(0x80), dns_name: b"lab.example", ..ContextBlock::default() });
     image.push_records(4, accounts);
     image
 }
@@ -97,14 +97,12 @@ fn with_two_contexts(accounts: &[Record]) -> Image {
 fn add_contexts(requests: &mut Requests) {
     requests.note("names that are the same by folding, in two contexts, and in the second one");
     let first = account(1, "\u{D8}RJAN");
-    requests.table(&with_two_contexts(&[first.clone(), account(2, "\u{F8}rjan")]));
-    requests.table(&with_two_contexts(&[
-        account(2, "\u{17F}"),
-        account(1, "s"),
-        account(1, "\u{23A}"),
-        account(2, "\u{2C65}"),
-    ]));
-    requests.table(&with_two_contexts(&[first, account(2, "\u{D8}rjan"), account(2, "\u{F8}RJAN")]));
+    requests.table(&with_two_contexts(2, &[first.clone(), account(2, "\u{F8}rjan")]));
+    requests.table(&with_two_contexts(
+        2,
+        &[account(2, "\u{17F}"), account(1, "s"), account(1, "\u{23A}"), account(2, "\u{2C65}")],
+    ));
+    requests.table(&with_two_contexts(2, &[first, account(2, "\u{D8}rjan"), account(2, "\u{F8}RJAN")]));
 }
 
 /// 2 and 3 come before it.
@@ -117,4 +115,40 @@ fn add_orders(requests: &mut Requests) {
     let mut wrong_check = twice.octets();
     wrong_check[508] ^= 1;
     requests.table_octets(&wrong_check);
+}
+
+/// A program that folds the earlier name alone misses the first two, one that folds only one of the two at a time the
+/// next two, and one that steps along both names by the lengths of one's characters the last.
+fn add_single_pairs(requests: &mut Requests) {
+    requests.note("the folded one first, neither folded, and 63 octets that are split otherwise into characters");
+    for (one, other) in [("s", "\u{17F}"), ("\u{2C65}", "\u{23A}")].iter().chain(&SAME_UNFOLDED) {
+        requests.table(&with_names(&[one, other]));
+    }
+    let (one, other) = split_otherwise();
+    requests.table(&with_names(&[&one, &other]));
+}
+
+/// A search that ends at an unused record, or one record early, misses these.
+fn add_ends(requests: &mut Requests) {
+    requests.note("names that are the same by folding, around unused records and at the ends of the accounts");
+    let mut unused_between = Image::small(&ServerBlock::default());
+    let unused = Record::unused(84);
+    unused_between.push_records(4, &[account(1, "\u{3A9}"), unused.clone(), unused, account(1, "\u{3C9}")]);
+    requests.table(&unused_between);
+    requests.table(&with_names(&["a", "b", "c", "d", "\u{416}", "\u{436}"]));
+    requests.table(&with_names(&["\u{394}", "a", "b", "c", "d", "e", "f", "g", "h", "i", "j", "\u{3B4}"]));
+}
+
+fn add_seeming(requests: &mut Requests) {
+    requests.note("the same by folding in contexts 1 and 257; beginnings of as many octets; the same by another rule");
+    requests.table(&with_two_contexts(
+        257,
+        &[account(1, "\u{D8}RJAN"), account(257, "\u{F8}rjan"), account(257, "\u{17F}"), account(1, "s")],
+    ));
+    for pairs in [BEGINNINGS].iter().chain(&APART_BY_RULE) {
+        let mut names: Vec<&str> = pairs.iter().flat_map(|(one, other)| [*one, *other]).collect();
+        let mut kept = BTreeSet::new();
+        names.retain(|name| kept.insert(*name));
+        requests.table(&with_names(&names));
+    }
 }

@@ -46,6 +46,20 @@ pub const APART: [(&str, &str); 24] = [
     ("\u{138}", "\u{139}"),
 ];
 
+/// The same, for table lines alone; neither of the two is folded.
+pub const SAME_UNFOLDED: [(&str, &str); 2] = [("\u{3A3}", "\u{3C2}"), ("\u{1C4}", "\u{1C5}")];
+
+/// For table lines alone, three pairs to a table: the same only by Turkish rules, by full folding or composition, or by
+/// the low 16 bits of a code point.
+pub const APART_BY_RULE: [[(&str, &str); 3]; 3] = [
+    [("\u{130}", "i"), ("\u{131}", "i"), ("d\u{131}l", "DIL")],
+    [("\u{1E9E}", "\u{DF}"), ("stra\u{DF}e", "STRASSE"), ("\u{E5}", "A\u{30A}")],
+    [("a", "\u{10041}"), ("\u{F8}", "\u{100D8}"), ("\u{F600}", "\u{1F600}")],
+];
+
+/// Not the same, but one a beginning of the other by letters, and of as many octets.
+pub const BEGINNINGS: [(&str, &str); 3] = [("\u{17F}", "sx"), ("\u{23A}x", "\u{2C65}"), ("k\u{17F}", "KSt")];
+
 /// Names of several characters, of one to four octets each, in two spellings.
 pub const WORDS: [(&str, &str); 12] = [
     ("ann-Q", "ANN-q"),
@@ -76,6 +90,11 @@ pub fn longest() -> Vec<(String, String)> {
         spelled("\u{20AC}", "\u{20AC}", 20, ["\u{3C2}z", "\u{3C3}Z"]),
         spelled("\u{1F600}", "\u{1F600}", 15, ["a\u{E5}", "A\u{C5}"]),
     ]
+}
+
+/// Two spellings of 63 octets each whose characters begin at other places.
+pub fn split_otherwise() -> (String, String) {
+    ("\u{17F}\u{23A}".repeat(15) + "abc", "s\u{2C65}".repeat(15) + "ABC")
 }
 
 /// The name in capitals, in small letters, or with other spellings of characters here and there; as it is where that
@@ -120,7 +139,8 @@ fn other_spelling(chance: &mut Chance, character: char) -> String {
 pub fn is_pair(one: &[u8], other: &[u8]) -> bool {
     let is_of = |(first, second): &(&str, &str)| (first.as_bytes(), second.as_bytes()) == (one, other);
     let turned = |(first, second): &(&str, &str)| (second.as_bytes(), first.as_bytes()) == (one, other);
-    SAME.iter().chain(&APART).any(|pair| is_of(pair) || turned(pair))
+    let in_tables = SAME_UNFOLDED.iter().chain(APART_BY_RULE.as_flattened());
+    SAME.iter().chain(&APART).chain(in_tables).any(|pair| is_of(pair) || turned(pair))
 }
 
 #[cfg(test)]
@@ -131,8 +151,12 @@ mod tests {
     #[test]
     fn pairs_are_what_they_are_said_to_be() {
         let same = |one: &str, other: &str| same_account_name(one.as_bytes(), other.as_bytes());
-        assert!(SAME.iter().chain(&WORDS).all(|(one, other)| same(one, other)));
-        assert!(!APART.iter().any(|(one, other)| same(one, other)));
+        assert!(SAME.iter().chain(&SAME_UNFOLDED).chain(&WORDS).all(|(one, other)| same(one, other)));
+        let mut apart = APART.iter().chain(APART_BY_RULE.as_flattened()).chain(&BEGINNINGS);
+        assert!(!apart.any(|(one, other)| same(one, other)));
+        assert!(BEGINNINGS.iter().all(|(one, other)| one.len() == other.len()));
+        let (one, other) = split_otherwise();
+        assert!(same(&one, &other) && (one.len(), other.len()) == (63, 63));
         for (one, other) in longest() {
             assert!(same(&one, &other) && one.len() == 63 && other.len() <= 63, "{one}");
         }

@@ -2,7 +2,7 @@
 
 use std::cmp::Ordering;
 
-use super::super::spellings::{is_pair, APART, SAME};
+use super::super::spellings::{is_pair, APART, APART_BY_RULE, SAME, SAME_UNFOLDED};
 use super::letters::{alike, letters};
 use super::rules::{layout_faults, records, text_at, whole_faults};
 use super::without_version::Line;
@@ -42,7 +42,7 @@ const PINGS: [&str; 23] = [
     "DomainSid with U+017F for s: 7",
 ];
 
-const TABLES: [&str; 18] = [
+const TABLES: [&str; 28] = [
     "in one block: 4",
     "in two blocks: 4",
     "in two blocks with another kind between: 4",
@@ -61,6 +61,16 @@ const TABLES: [&str; 18] = [
     "but for one more, of 63 octets: 0",
     "but for one more, that fold to more than 63 octets: 0",
     "one disabled: 4",
+    "of one character, the folded one first, of fewer octets: 4",
+    "of one character, the folded one first, of more octets: 4",
+    "of one character, neither folded: 4",
+    "of 63 octets, split otherwise into characters: 4",
+    "with unused records alone between: 4",
+    "the last two of a full block: 4",
+    "first of the first block and last of the last: 4",
+    "in two contexts whose numbers have the same low octet: 0",
+    "but for one more, of as many octets, the shorter first: 0",
+    "but for one more, of as many octets, the longer first: 0",
 ];
 
 pub fn required() -> Vec<String> {
@@ -77,6 +87,9 @@ pub fn required() -> Vec<String> {
             pings.extend([(one, other), (other, one)].map(|(user, account)| of_pair(user, account, ping)));
             tables.push(format!("{}: {table}", names(one, other)));
         }
+    }
+    for (pairs, table) in [(&SAME_UNFOLDED[..], "4"), (APART_BY_RULE.as_flattened(), "0")] {
+        tables.extend(pairs.iter().map(|(one, other)| format!("{}: {table}", names(one.as_bytes(), other.as_bytes()))));
     }
     let pings = pings.into_iter().map(|case| format!("accents: {case}"));
     pings.chain(tables.into_iter().map(|case| format!("names alike, {case}"))).collect()
@@ -106,10 +119,13 @@ fn points(name: &[u8]) -> String {
     characters.map(|character| format!("U+{:04X}", u32::from(character))).collect::<Vec<_>>().join(" ")
 }
 
+fn widths(name: &[u8]) -> Vec<usize> {
+    std::str::from_utf8(name).unwrap_or_default().chars().map(char::len_utf8).collect()
+}
+
 /// How many octets each character has, none where they have other numbers of them.
 fn width(name: &[u8]) -> Option<usize> {
-    let characters = std::str::from_utf8(name).ok()?.chars();
-    let mut widths: Vec<usize> = characters.map(char::len_utf8).collect();
+    let mut widths = widths(name);
     widths.dedup();
     <[usize; 1]>::try_from(widths).ok().map(|[width]| width)
 }
@@ -121,6 +137,10 @@ fn characters(name: &[u8]) -> usize {
 /// How many octets a name has when it is folded.
 fn folded_length(name: &[u8]) -> usize {
     letters(name).into_iter().flatten().map(char::len_utf8).sum()
+}
+
+fn is_folded(name: &[u8]) -> bool {
+    letters(name).is_some_and(|letters| letters.into_iter().collect::<String>().as_bytes() == name)
 }
 
 /// How a name differs from another in one letter alone, none where it does otherwise.
@@ -356,6 +376,8 @@ fn twice(image: &[u8], one: Placed, other: Placed) -> Vec<String> {
     let other_kind = (one.block..other.block).any(|block| image[512 * block] != 4);
     let first = records(image, 3).first().and_then(|context| u16_at(context, 0));
     let lengths = (name.len().max(again.len()), name.len().min(again.len()));
+    let single = characters(name) == 1;
+    let folded_first = single && is_folded(name) && !is_folded(again);
     let cases = [
         (!two_blocks, "in one block"),
         (two_blocks, "in two blocks"),
@@ -366,11 +388,33 @@ fn twice(image: &[u8], one: Placed, other: Placed) -> Vec<String> {
         (lengths.0 == 63 && lengths.1 < 63, "of 63 octets and of fewer"),
         (folded_length(name) > 63, "that fold to more than 63 octets"),
         (one.is_disabled() != other.is_disabled(), "one disabled"),
+        (folded_first && name.len() < again.len(), "of one character, the folded one first, of fewer octets"),
+        (folded_first && name.len() > again.len(), "of one character, the folded one first, of more octets"),
+        (single && !is_folded(name) && !is_folded(again), "of one character, neither folded"),
+        (lengths == (63, 63) && widths(name) != widths(again), "of 63 octets, split otherwise into characters"),
     ];
-    let mut met: Vec<String> = cases.into_iter().filter(|(met, _)| *met).map(|(_, case)| case.to_string()).collect();
+    let cases = cases.into_iter().chain(ends(image, &one, &other));
+    let mut met: Vec<String> = cases.filter(|(met, _)| *met).map(|(_, case)| case.to_string()).collect();
     met.extend(is_pair(name, again).then(|| names(name, again)));
     met.retain(|_| name != again);
     met
+}
+
+/// Where two accounts stand among the records of all account blocks.
+fn ends(image: &[u8], one: &Placed, other: &Placed) -> [(bool, &'static str); 3] {
+    let blocks: Vec<usize> = (0..image.len() / 512).filter(|block| image[512 * block] == 4).collect();
+    let is_unused = |place: usize| image[512 * one.block + 4 + 84 * place..][..84].iter().all(|&octet| octet == 0);
+    let one_block = one.block == other.block;
+    let outermost = blocks.first() == Some(&one.block) && blocks.last() == Some(&other.block);
+    let mut between = one.place + 1..other.place;
+    [
+        (one_block && !between.is_empty() && between.all(is_unused), "with unused records alone between"),
+        (one_block && one.place == 4 && !(0..6).any(is_unused), "the last two of a full block"),
+        (
+            !one_block && outermost && (one.place, other.place) == (0, 5),
+            "first of the first block and last of the last",
+        ),
+    ]
 }
 
 /// The two in one order, whichever stands first in the table.
@@ -382,7 +426,10 @@ fn names(one: &[u8], other: &[u8]) -> String {
 fn kept(one: &Placed, other: &Placed) -> Vec<String> {
     let (name, again) = (one.name(), other.name());
     if one.context() != other.context() {
-        return alike(name, again).then(|| "in two contexts".to_string()).into_iter().collect();
+        let same_low_octet = one.record[0] == other.record[0];
+        let low_octet = same_low_octet.then_some("in two contexts whose numbers have the same low octet");
+        let cases = ["in two contexts"].into_iter().chain(low_octet).filter(|_| alike(name, again));
+        return cases.map(str::to_string).collect();
     }
     let longest = name.len().max(again.len());
     let difference = difference(name, again);
@@ -396,6 +443,14 @@ fn kept(one: &Placed, other: &Placed) -> Vec<String> {
         (
             one_more && folded_length(name).min(folded_length(again)) > 63,
             "but for one more, that fold to more than 63 octets",
+        ),
+        (
+            difference == Some("one shorter") && name.len() == again.len(),
+            "but for one more, of as many octets, the shorter first",
+        ),
+        (
+            difference == Some("one longer") && name.len() == again.len(),
+            "but for one more, of as many octets, the longer first",
         ),
     ];
     let mut met: Vec<String> = cases.into_iter().filter(|(met, _)| *met).map(|(_, case)| case.to_string()).collect();

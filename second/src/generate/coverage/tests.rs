@@ -7,7 +7,7 @@ use super::super::{lines_of, KINDS};
 use super::trace::trace;
 use super::trail::{trail, End, Trail};
 use super::Coverage;
-use crate::image::{Image, Record};
+use crate::image::{guid, ContextBlock, Image, Record};
 use crate::lines::{form_of_word, octets_of_word, word_of_octets, Answerer};
 
 /// The words and the answers of all stored lines of a kind, and of some in bulk, but for those of another shape.
@@ -212,6 +212,20 @@ fn a_name_twice_by_folding_meets_its_case_with_4_alone() {
         coverage.observe(request.as_bytes(), answer);
         assert_eq!(coverage.count("names alike, U+0073 and U+017F: 4"), times, "{answer}");
         assert_eq!(coverage.count("whole: account name twice but for case"), times, "{answer}");
+    }
+}
+
+#[test]
+fn names_alike_in_contexts_1_and_257_meet_their_case_with_0_alone() {
+    let mut image = Image::base();
+    image.push_context(&ContextBlock { number: 257, guid: guid(2), dns_name: b"lab", ..ContextBlock::default() });
+    image.push_records(4, &[Record::account(1, 0, b"s"), Record::account(257, 0, "\u{17F}".as_bytes())]);
+    let request = format!("table {}", word_of_octets(&image.octets()));
+    let case = "names alike, in two contexts whose numbers have the same low octet: 0";
+    for (answer, times) in [("table 0", 1), ("table 4", 0)] {
+        let mut coverage = Coverage::default();
+        coverage.observe(request.as_bytes(), answer);
+        assert_eq!(coverage.count(case), times, "{answer}");
     }
 }
 
