@@ -14,7 +14,7 @@ pub enum PointAt {
 }
 
 // The six bits of a later octet; 64 where no octet of this range stands there.
-fn six_bits(s: &[u8], at: usize, low: u8, high: u8) -> u8
+pub fn six_bits(s: &[u8], at: usize, low: u8, high: u8) -> u8
     ensures { λ r. ⌜ SixBits (now (s .entry)) at low high r ⌝ }
 {
     if s.len() <= at {

@@ -3,28 +3,29 @@ use mathlib.Core.Path.{_≡_, refl, sym, ap, ap₂, _∙_, subst}
 use mathlib.Core.Bool.{Bool, true, false, _&&_, and-false}
 use mathlib.Core.List.{List, [], _∷_}
 use mathlib.Core.Option.{Option, none, some}
-use Prim.Native.Nat.{ℕ, zero, suc, _+_, _-_, _≤_, _<_}
+use Prim.Native.Nat.{ℕ, zero, suc, _+_, _*_, _%_, _≤_, _<_}
 use native.Mathlib.Nat.{not-suc-le-zero, le-of-suc-le-suc}
 use native.Mathlib.Numerals.{add-one}
 use native.Mathlib.Omega.{arith}
-use lib.ListN.{length, getD, drop, drop-of-length-le, length-drop}
+use lib.ListN.{length, getD, drop, drop-of-length-le}
 use lib.Dec.{leb}
-use lib.Seq.{drop-cons, drop-drop}
+use lib.Seq.{drop-cons}
 use borrow.Author.Tests.{lt-ltb, le-leb, lt-leb, leb-true}
 use Rattle.octets.specs.Fold.{foldPoint, foldPoints}
-use Rattle.octets.specs.Lists.{isSome, holds, cut}
-use Rattle.octets.specs.Text.{same}
-use Rattle.octets.proofs.Laws.Lists.{none-not-some, true-not-false, cut-length, cut-rest}
+use Rattle.octets.specs.Lists.{isSome, holds}
+use Rattle.octets.specs.Text.{same, lower}
+use Rattle.octets.proofs.Laws.Lists.{none-not-some, true-not-false}
 use Rattle.octets.proofs.Laws.Text.{same-sym, same-equal}
 use Rattle.unicode.specs.Utf8.{lead, pointsFrom, points, isUtf8}
 use Rattle.unicode.specs.declared.utf8.PointAt.the-variants.{Bad, Point}
-use Rattle.unicode.specs.Internal.Point.{readableFrom, readable, PointRead}
-use Rattle.unicode.proofs.Laws.Point.{lead-one, end-points, some-more, readable-points}
+use Rattle.unicode.specs.Internal.Point.{readableFrom, readable, PointRead, SixBits, LeadAt}
+use Rattle.unicode.proofs.Laws.Point.{two-point, end-points, some-more, readable-points}
 use Rattle.account_names.specs.declared.compare.Ordering.{Ordering}
 use Rattle.account_names.specs.declared.compare.Ordering.the-variants.{Less, Equal, Greater}
 use Rattle.account_names.specs.AccountName.{foldedText, sameAccountName}
 use Rattle.account_names.specs.Internal.Ordering.{compareNumbers, andThen, compare, isEqual}
-use Rattle.account_names.specs.Internal.NameOrder.{nameKey, equalIf, compareNames, RankRead}
+use Rattle.account_names.specs.Internal.NameOrder.{nameKey, equalIf, compareNames, RankRead, AsciiAt, Alike}
+use Rattle.account_names.proofs.Laws.Fold.{fold-ascii}
 use Rattle.account_names.proofs.Laws.Ordering.{compare-equal, compare-passes, head-less, head-greater, head-equal}
 
 equal-if-not : (o : Ordering) → isEqual (equalIf false o) ≡ false
@@ -103,9 +104,6 @@ module _ (s : List ℕ) (at next : ℕ) where
         ap isSome (p .3) ∙ some-more c (points (drop next s)),
       )
 
-  pub ranked-ascii : (x r : ℕ) → next ≡ at + 1 → at < length s → x ≡ getD s at 0 → x < 0x80 → r ≡ foldPoint x → RankRead s at (r + 1) next
-  ranked-ascii x r e h q k f = ranked-point x r (subst (λ (n : ℕ). PointRead s at (Point x n)) (sym e) (lead-one s at x h q k)) f
-
   pub ranked-end : length s ≤ at → RankRead s at 0 next
   unfolding nameKey foldPoints isUtf8 readableFrom
   ranked-end h = (rw (drop-of-length-le s h), ap isSome (end-points s at h) ∙ sym (le-leb (length s) at h))
@@ -166,25 +164,41 @@ module _ (x : ℕ) (h : x < 0x80) where
   unfolding isUtf8 pointsFrom lead
   utf8-ascii s = rw (lt-ltb x 0x80 h) (some-more x (points s))
 
-  same-octet : (s t : List ℕ) → compareNames s t ≡ compareNames (x ∷ s) (x ∷ t)
-  same-octet s t = names-alike (x ∷ s) (x ∷ t) s t (head-equal (foldPoint x) (foldPoint x) _ _ (omega arith) (omega arith) ∙ sym (ap₂ compare (key-ascii s) (key-ascii t))) (utf8-ascii s) (utf8-ascii t)
+-- two ASCII octets, by what they fold to
+module _ (a b : List ℕ) (at : ℕ) (p : AsciiAt a at) (q : AsciiAt b at) where
+  first-keys : (nameKey (drop at a) ≡ lower (getD a at 0) ∷ nameKey (drop (suc at) a)) × (nameKey (drop at b) ≡ lower (getD b at 0) ∷ nameKey (drop (suc at) b))
+  first-keys = (
+    ap nameKey (drop-cons a at 0 (p .0)) ∙ key-ascii (getD a at 0) (p .1) (drop (suc at) a) ∙ ap (λ (n : ℕ). n ∷ nameKey (drop (suc at) a)) (fold-ascii (getD a at 0) (p .1)),
+    ap nameKey (drop-cons b at 0 (q .0)) ∙ key-ascii (getD b at 0) (q .1) (drop (suc at) b) ∙ ap (λ (n : ℕ). n ∷ nameKey (drop (suc at) b)) (fold-ascii (getD b at 0) (q .1)),
+  )
 
-pub ascii-next : (a b : List ℕ) (i : ℕ) → i < length a → i < length b → getD a i 0 ≡ getD b i 0 → getD a i 0 < 0x80
-    → compareNames (drop (i + 1) a) (drop (i + 1) b) ≡ compareNames (drop i a) (drop i b)
-ascii-next a b i ha hb e h =
-    rw (add-one, drop-cons a i 0 ha, drop-cons b i 0 hb, ← e) (same-octet (getD a i 0) h (drop (suc i) a) (drop (suc i) b))
+  pub letters-less : lower (getD a at 0) < lower (getD b at 0) → Less ≡ compareNames (drop at a) (drop at b)
+  letters-less h =
+      sym (keys-less (drop at a) (drop at b) (ap₂ compare (first-keys .0) (first-keys .1) ∙ sym (head-less (lower (getD a at 0)) (lower (getD b at 0)) (nameKey (drop (suc at) a)) (nameKey (drop (suc at) b)) h)))
 
--- both read on by as many octets, where these are the same
-pub skipped : (a b : List ℕ) (i j n : ℕ) → i ≤ length a → j ≤ length b
-    → (n ≤ length (cut a i (length a - i))) × (n ≤ length (cut b j (length b - j)))
-    → compareNames (drop n (cut a i (length a - i))) (drop n (cut b j (length b - j))) ≡ compareNames (cut a i (length a - i)) (cut b j (length b - j))
-    → (i + n ≤ length a) × (j + n ≤ length b) × (compareNames (drop (i + n) a) (drop (j + n) b) ≡ compareNames (drop i a) (drop j b))
-skipped a b i j n hi hj fits e =
-    let p : cut a i (length a - i) ≡ drop i a = cut-rest a i (length a - i) (omega arith) in
-    let q : cut b j (length b - j) ≡ drop j b = cut-rest b j (length b - j) (omega arith) in
-    let f : length (cut a i (length a - i)) ≡ length a - i = cut-length a i (length a - i) (omega arith) in
-    let g : length (cut b j (length b - j)) ≡ length b - j = cut-length b j (length b - j) (omega arith) in
-    (omega (arith, fits .0, f), omega (arith, fits .1, g), ap₂ compareNames (sym (drop-drop n i a)) (sym (drop-drop n j b)) ∙ (rw (p, q) at e))
+  pub letters-greater : lower (getD b at 0) < lower (getD a at 0) → Greater ≡ compareNames (drop at a) (drop at b)
+  letters-greater h =
+      sym (keys-greater (drop at a) (drop at b) (ap₂ compare (first-keys .0) (first-keys .1) ∙ sym (head-greater (lower (getD a at 0)) (lower (getD b at 0)) (nameKey (drop (suc at) a)) (nameKey (drop (suc at) b)) h)))
+
+  pub letters-alike : lower (getD a at 0) ≡ lower (getD b at 0) → Alike a b at 1
+  letters-alike e h = (
+    omega (arith, p .0),
+    omega (arith, q .0),
+    ap₂ compareNames (ap (λ (n : ℕ). drop n a) (add-one at)) (ap (λ (n : ℕ). drop n b) (add-one at))
+        ∙ names-alike (drop at a) (drop at b) (drop (suc at) a) (drop (suc at) b)
+        (head-equal (lower (getD a at 0)) (lower (getD b at 0)) (nameKey (drop (suc at) a)) (nameKey (drop (suc at) b)) (omega (arith, e)) (omega (arith, e)) ∙ sym (ap₂ compare (first-keys .0) (first-keys .1)))
+        (ap isUtf8 (drop-cons a at 0 (p .0)) ∙ utf8-ascii (getD a at 0) (p .1) (drop (suc at) a))
+        (ap isUtf8 (drop-cons b at 0 (q .0)) ∙ utf8-ascii (getD b at 0) (q .1) (drop (suc at) b)),
+  )
+
+-- a character of two octets that both have
+pub pair-alike : (a b : List ℕ) (at x bits : ℕ) → LeadAt a at x 0xC2 0xE0 → LeadAt b at x 0xC2 0xE0 → SixBits a (at + 1) 0x80 0xBF bits → SixBits b (at + 1) 0x80 0xBF bits → bits ≤ 63 → Alike a b at 2
+pair-alike a b at x bits la lb sa sb h k =
+    let c : ℕ = x % 32 * 64 + bits in
+    let p = ranked-point a at (at + 2) c (foldPoint c) (two-point a at x bits la sa c refl h) refl in
+    let q = ranked-point b at (at + 2) c (foldPoint c) (two-point b at x bits lb sb c refl h) refl in
+    let n = rank-next a b at at (at + 2) (at + 2) (foldPoint c + 1) p q (λ (e : foldPoint c + 1 ≡ 0). omega (arith, e)) in
+    (n .1, n .2, n .3)
 
 -- the same name is passed on
 module _ (a b : List ℕ) where
