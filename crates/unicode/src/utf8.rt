@@ -99,7 +99,6 @@ fn four_octets(s: &[u8], at: usize, lead: u8) -> PointAt
     }
 }
 
-// In plain numbers and not by a decoder's state: a struct handed from octet to octet took ten times as long.
 pub fn point_at(s: &[u8], at: usize) -> PointAt
     ensures { λ r. ⌜ PointRead (now (s .entry)) at r ⌝ }
 {
