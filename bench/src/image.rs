@@ -62,6 +62,14 @@ impl Image {
         Image::full(SUBNETS, |k| subnet(number(k), 1))
     }
 
+    /// 128 blocks full of subnets of these addresses and prefixes.
+    pub fn of_networks(network: impl Fn(usize) -> (u32, u8)) -> Image {
+        Image::full(SUBNETS, |k| {
+            let (address, prefix) = network(k);
+            subnet_of(address.to_be_bytes(), prefix, 1)
+        })
+    }
+
     /// 128 blocks full of accounts of these names.
     pub fn of_users(name: impl Fn(usize) -> Vec<u8>) -> Image {
         Image::full(ACCOUNTS, |k| account(1, &name(k)))

@@ -17,6 +17,22 @@ pub fn mixed(k: usize) -> usize {
     k * 7_919 % 10_007
 }
 
+/// Networks in no order that share no octet, of the prefixes 24 to 32.
+fn unlike(k: usize) -> (u32, u8) {
+    let prefix = 24 + k % 9;
+    // Multiples of this number are far apart.
+    let address = (k as u32 + 1).wrapping_mul(2_654_435_769);
+    (address & (u32::MAX << (32 - prefix)), prefix as u8)
+}
+
+/// Networks that share three octets but for one of them, so that they are sorted by every octet.
+fn nearly_alike(k: usize) -> (u32, u8) {
+    match k {
+        0 => (0x0B00_0004, 30),
+        _ => (0x0A00_0000 + ((mixed(k) as u32) << 8), 24),
+    }
+}
+
 /// Each image with what it is and the answer that it must get.
 fn images() -> Vec<(&'static str, Image, u8)> {
     vec![
@@ -25,6 +41,8 @@ fn images() -> Vec<(&'static str, Image, u8)> {
         ("128 blocks, subnets", Image::full_of_subnets(), 0),
         ("128 blocks, subnets in falling order", Image::of_subnets(falling), 0),
         ("128 blocks, subnets in no order", Image::of_subnets(mixed), 0),
+        ("128 blocks, subnets that share no octet", Image::of_networks(unlike), 0),
+        ("128 blocks, subnets, one unlike the others", Image::of_networks(nearly_alike), 0),
         ("128 blocks, all subnets the same", Image::of_subnets(|_| 0), 4),
         ("128 blocks, ordinary accounts", Image::full_of_accounts(), 0),
         ("128 blocks, accounts that differ at the end", Image::of_users(|k| long_name(k * 7919 % 1000)), 0),

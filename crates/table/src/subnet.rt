@@ -2,6 +2,7 @@
 ghost use mathlib.Core.Path.{_≡_};
 ghost use Rattle.table.specs.Subnet.{inUseOctet, subnetOf};
 ghost use Rattle.table.specs.Internal.Reference.{referred};
+use crate::block::BLOCKS_MOST;
 use crate::field::octet_in;
 use crate::record::RecordFormat;
 use crate::site::SiteReference;
@@ -15,9 +16,12 @@ pub const FORMAT: RecordFormat = RecordFormat {
     width: 12,
 };
 
-const ADDRESS: usize = 0;
+// As many subnets as the most blocks hold.
+pub const MOST: usize = FORMAT.count * BLOCKS_MOST;
 
-const PREFIX: usize = 4;
+pub const ADDRESS: usize = 0;
+
+pub const PREFIX: usize = 4;
 
 const IN_USE: usize = 5;
 

@@ -4,7 +4,7 @@ ghost use Rattle.octets.specs.Lists.{unique};
 ghost use Rattle.table_records.specs.Internal.Alike.{alikeAt};
 ghost use Rattle.table_sort.specs.Internal.Neighbours.{neighboursBy};
 ghost use Rattle.table_sort.specs.Internal.OrderLikeness.{likenessOf};
-ghost use Rattle.table_sort.specs.Internal.Reordered.{Reordered};
+ghost use Rattle.table_radix.specs.Internal.Reordered.{Reordered};
 ghost use Rattle.table_compare.specs.Internal.OrderKey.{compareAt};
 use crate::sort::sort;
 use table_compare::compare::Order;

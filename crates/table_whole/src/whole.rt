@@ -27,14 +27,12 @@ use table_refer::refer::are_in_contexts;
 use table_refer::refer::has_context;
 use table_sort::unique::are_unique;
 
-// Of each kind whose offsets are collected, as many records as the most blocks hold.
+// Of each kind whose offsets are collected, as many records as the most blocks hold; of subnets it is `subnet::MOST`.
 const CONTEXTS_MOST: usize = context::FORMAT.count * BLOCKS_MOST;
 
 const ACCOUNTS_MOST: usize = account::FORMAT.count * BLOCKS_MOST;
 
 const SITES_MOST: usize = site::FORMAT.count * BLOCKS_MOST;
-
-const SUBNETS_MOST: usize = subnet::FORMAT.count * BLOCKS_MOST;
 
 // The accounts: each one's context exists, and no two of a context have one name.
 fn are_accounts_good(image: &[u8], accounts: &mut [u16], contexts: &[u16]) -> bool
@@ -123,7 +121,7 @@ fn are_subnets_unique(image: &[u8]) -> bool
     requires { ⌜ length (now image) ≤ imageMost ⌝ }
     ensures { λ r. ⌜ r ≡ subnetsUnique (tableFrom (now (image .entry)) .subnets) ⌝ }
 {
-    let mut subnets: [u16; SUBNETS_MOST] = [0; SUBNETS_MOST];
+    let mut subnets: [u16; subnet::MOST] = [0; subnet::MOST];
     let count = offsets_of(image, RecordKind::Subnet, &mut subnets);
     are_unique(image, &mut subnets[..count], Order::Subnets)
 }
