@@ -6,6 +6,7 @@ pub mod answers;
 pub mod choose;
 pub mod compare;
 pub mod filter;
+pub mod folding;
 pub mod generate;
 pub mod image;
 pub mod lines;

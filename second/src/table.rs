@@ -3,6 +3,7 @@
 use std::collections::BTreeSet;
 
 use crate::answers::{require, Refusal};
+use crate::folding::folded;
 use crate::octets::{
     all_zero, equal_folded, is_account_name, is_dns_name, is_netbios_name, is_site_name, sid_length, u16_at, u32_at,
 };
@@ -335,10 +336,18 @@ fn all_unique(records: &Records) -> bool {
         && no_two(&records.contexts, |one, other| one.sid.is_some() && one.sid == other.sid)
         && no_two(&records.contexts, |one, other| same_dns_name(one.dns_name, other.dns_name))
         && no_two(&records.sites, |one, other| one.number == other.number)
-        && no_two(&records.accounts, |one, other| {
-            one.context == other.context && same_account_name(one.name, other.name)
-        })
+        && no_account_twice(&records.accounts)
         && no_subnet_twice(&records.subnets)
+}
+
+/// No two accounts of one context with names that are the same. A table can hold 744 accounts, so that each name is
+/// folded but once.
+fn no_account_twice(accounts: &[Account]) -> bool {
+    let mut seen = BTreeSet::new();
+    accounts.iter().all(|account| {
+        let name = folded(account.name);
+        name.is_none_or(|name| seen.insert((account.context.0, name)))
+    })
 }
 
 /// No two subnets with one address and prefix, whatever their sites (#102). A table can hold 5,208 subnets, which are
@@ -363,9 +372,10 @@ pub fn same_dns_name(held: &[u8], other: &[u8]) -> bool {
     equal_folded(held, other)
 }
 
-/// How an account name is compared with another one of its context.
+/// How an account name is compared with a user (#108); octets that are no UTF-8 are the same as nothing. Two accounts of
+/// one context are compared so, too.
 pub fn same_account_name(held: &[u8], other: &[u8]) -> bool {
-    equal_folded(held, other)
+    folded(held).is_some_and(|held| folded(other) == Some(held))
 }
 
 #[cfg(test)]
@@ -573,6 +583,25 @@ mod tests {
         let mut image = Image::base();
         image.push_records(4, &[Record::account(1, 0x10, b"ann2")]);
         assert_eq!(number(&image), 0);
+    }
+
+    #[test]
+    fn account_names_are_the_same_by_folding() {
+        let same = |one: &str, other: &str| same_account_name(one.as_bytes(), other.as_bytes());
+        for (one, other) in [("ØRJAN", "ørjan"), ("ſ", "S"), ("Ⱥ", "ⱥ"), ("µ", "Μ"), ("ς", "Σ"), ("\u{52E}", "\u{52F}")]
+        {
+            assert!(same(one, other) && same(other, one), "{one} {other}");
+            let mut image = Image::base();
+            let names = [one, other].map(|name| Record::account(1, 0, name.as_bytes()));
+            image.push_records(4, &names);
+            assert_eq!(number(&image), 4, "{one} {other}");
+        }
+        for (one, other) in
+            [("ß", "ss"), ("İ", "i"), ("I", "ı"), ("\u{212A}", "k"), ("\u{531}", "\u{561}"), ("ø", "ør")]
+        {
+            assert!(!same(one, other) && !same(other, one), "{one} {other}");
+        }
+        assert!(!same_account_name(&[0xC3], &[0xC3]) && !same_account_name(b"", &[0xC3]));
     }
 
     #[test]

@@ -1,6 +1,7 @@
 //! What the records must be together (answer 4 of document 01).
 
 use crate::table::{Account, Context, ContextNumber, Fault, Place, Record, Server, Site, SiteNumber, Subnet, Table};
+use second::folding::folded;
 use std::collections::{BTreeMap, BTreeSet};
 
 const MOST_CONTEXTS: usize = 16;
@@ -58,14 +59,9 @@ fn judge_unique(records: &Records) -> Result<(), Fault> {
     unique(contexts, "DNS name, case ignored,", |context| Some(context.dns_name.to_ascii_lowercase()))?;
     unique(&records.sites, "site number", |site| Some(site.number))?;
     unique(&records.accounts, "account name in its context, case ignored,", |account| {
-        Some((account.context, folded_account_name(&account.name)))
+        folded(&account.name).map(|name| (account.context, name))
     })?;
     unique(&records.subnets, "address and prefix", |subnet| Some((subnet.address, subnet.prefix)))
-}
-
-/// An account name as it is compared.
-fn folded_account_name(name: &[u8]) -> Vec<u8> {
-    name.to_ascii_lowercase()
 }
 
 /// No two records have the same key; a record without one is like no other.

@@ -2,6 +2,7 @@ pub mod Lists
 pub mod Buffer
 pub mod Number
 pub mod Text
+pub mod Fold
 pub mod Label
 pub mod NameRule
 pub mod Sid

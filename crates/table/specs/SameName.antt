@@ -1,9 +1,9 @@
--- Document 01, "The table image" and "Choosing the answer": when two names, or two SIDs, are the same, for the judgement of a table and for looking a name up.
+-- Document 01, "The table image" and "Choosing the answer": when two DNS names, or two SIDs, are the same, for the judgement of a table and for looking a name up.
 use mathlib.Core.Bool.{Bool, false}
-use mathlib.Core.List.{List, map}
+use mathlib.Core.List.{List}
 use mathlib.Core.Option.{Option, none, some}
 use Prim.Native.Nat.{ℕ}
-use Rattle.octets.specs.Text.{same, lower, sameFolded}
+use Rattle.octets.specs.Text.{same, sameFolded}
 
 -- a context without SID has the SID of no other
 abbrev pub sameSid : Option (List ℕ) → Option (List ℕ) → Bool
@@ -14,10 +14,3 @@ sameSid (some s) (some t) = same s t
 -- the same DNS name: ASCII case ignored
 unfoldable pub sameDnsName : List ℕ → List ℕ → Bool
 sameDnsName = sameFolded
-
--- an account name as it is compared: ASCII case ignored
-unfoldable pub accountNameKey : List ℕ → List ℕ
-accountNameKey = map lower
-
-unfoldable pub sameAccountName : List ℕ → List ℕ → Bool
-sameAccountName a b = same (accountNameKey a) (accountNameKey b)

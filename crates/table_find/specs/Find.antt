@@ -14,7 +14,8 @@ use Rattle.table.specs.Account.{Account}
 use Rattle.table.specs.Address.{addressNumber, sharePrefix}
 use Rattle.table.specs.Context.{Context}
 use Rattle.table.specs.Countings.{sameContext, sameSite}
-use Rattle.table.specs.SameName.{sameDnsName, sameAccountName}
+use Rattle.account_names.specs.AccountName.{sameAccountName}
+use Rattle.table.specs.SameName.{sameDnsName}
 use Rattle.table.specs.Site.{Site}
 use Rattle.table.specs.Subnet.{Subnet}
 use Rattle.table.specs.Table.{Table}
@@ -53,8 +54,11 @@ unfoldable pub defaultContext : Table → Option Context
 defaultContext t = contextByNumber t (t .server .defaultContext)
 
 -- the account of a name in a context
+abbrev pub isAccountOf : ContextNumber → List ℕ → Account → Bool
+isAccountOf n name a = sameContext (a .context) n && sameAccountName (a .name) name
+
 unfoldable pub accountByName : Table → ContextNumber → List ℕ → Option Account
-accountByName t n name = first (λ a. sameContext (a .context) n && sameAccountName (a .name) name) (t .accounts)
+accountByName t n name = first (isAccountOf n name) (t .accounts)
 
 unfoldable pub siteByNumber : Table → SiteNumber → Option Site
 siteByNumber t n = first (λ s. sameSite (s .number) n) (t .sites)

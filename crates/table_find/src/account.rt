@@ -3,12 +3,12 @@ ghost use mathlib.Core.Path.{_≡_};
 ghost use mathlib.Core.Bool.{_&&_};
 ghost use Rattle.table.specs.Account.{accountOf};
 ghost use Rattle.table.specs.Countings.{sameContext};
-ghost use Rattle.table.specs.SameName.{sameAccountName};
+ghost use Rattle.account_names.specs.AccountName.{sameAccountName};
 ghost use Rattle.table_find.specs.LogOn.{mayLogOn};
+use account_names::compare::same_account_name;
 use octets::number::has_bits;
 use table::ContextNumber;
 use table::account;
-use table::same_name::same_account_name;
 
 // A control bit, under its name in MS-SAMR 2.2.1.12.
 const USER_ACCOUNT_DISABLED: u32 = 0x1;

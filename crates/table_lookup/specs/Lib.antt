@@ -1,2 +1,3 @@
 pub mod ClosingDot
 pub mod NearestSubnet
+pub mod OnlyAccount

@@ -11,7 +11,8 @@ use Rattle.table.specs.Account.{Account}
 use Rattle.table.specs.Context.{Context}
 use Rattle.table.specs.Countings.{sameContext, sameSite}
 use Rattle.table.specs.Site.{Site}
-use Rattle.table.specs.SameName.{sameSid, sameDnsName, sameAccountName}
+use Rattle.account_names.specs.AccountName.{sameAccountName}
+use Rattle.table.specs.SameName.{sameSid, sameDnsName}
 use Rattle.table.specs.Subnet.{Subnet, sameNetwork}
 use Rattle.table.specs.Table.{Table}
 

@@ -1,5 +1,4 @@
 pub mod Utf8
 pub mod Utf16
 pub mod UserName
-pub mod Decoder
 pub mod Point

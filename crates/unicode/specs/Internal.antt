@@ -1,2 +1,1 @@
-pub mod Decoder
 pub mod Point

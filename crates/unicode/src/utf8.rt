@@ -1,24 +1,10 @@
-// UTF-8 by RFC 3629: octet by octet, and code point by code point.
+// UTF-8 by RFC 3629, code point by code point.
 ghost use mathlib.Core.Path.{_≡_};
-ghost use Prim.Native.Nat.{_≤_, _<_};
-ghost use Rattle.unicode.specs.Utf8.{lead, follow, isUtf8};
-ghost use Rattle.unicode.specs.Internal.Decoder.{decodedAs, Sound, InBounds, partialIn, limit};
-ghost use Rattle.unicode.specs.Internal.Point.{PointRead};
-
-// A character read in part: octets still to come, the range of the next one, and the code point's bits so far.
-pub struct Partial {
-    pub left: u8,
-    pub low: u8,
-    pub high: u8,
-    pub bits: u32,
-}
-
-// What an octet leads to.
-pub enum Decoded {
-    Bad,
-    Point(u32),
-    More(Partial),
-}
+ghost use mathlib.Core.Bool.{cond};
+ghost use lib.Dec.{eqb};
+ghost use Rattle.unicode.specs.Utf8.{isUtf8};
+ghost use Rattle.unicode.specs.Internal.Point.{PointRead, SixBits, LeadAt};
+use octets::number::wide;
 
 // What stands at an offset: the text's end, octets that are no UTF-8, or a code point and the offset after it.
 pub enum PointAt {
@@ -27,87 +13,90 @@ pub enum PointAt {
     Point { point: u32, next: usize },
 }
 
-fn opens(left: u8, low: u8, high: u8, bits: u8) -> Decoded
-    requires { ⌜ (left ≤ 3) × (bits < limit left) ⌝ }
-    ensures { λ r. ⌜ r ≡ Decoded.More (record { left = left; low = low; high = high; bits = bits }) ⌝ }
-    ensures { λ r. ⌜ Sound r ⌝ }
+// The six bits of a later octet; 64 where no octet of this range stands there.
+pub fn six_bits(s: &[u8], at: usize, low: u8, high: u8) -> u8
+    ensures { λ r. ⌜ SixBits (now (s .entry)) at low high r ⌝ }
 {
-    Decoded::More(Partial {
-        left,
-        low,
-        high,
-        bits: bits as u32,
-    })
+    if s.len() <= at {
+        return 64;
+    }
+    let x = s[at];
+    if x < low {
+        return 64;
+    }
+    if high < x {
+        return 64;
+    }
+    x % 64
 }
 
-// A character's first octet.
-fn first_octet(x: u8) -> Decoded
-    ensures { λ r. ⌜ r ≡ decodedAs (lead x) ⌝ }
-    ensures { λ r. ⌜ Sound r ⌝ }
+// The range of a second octet ends elsewhere behind one lead: so overlong forms, surrogates and what is past 10FFFFh are kept out.
+fn second_bound(lead: u8, one: u8, its: u8, usual: u8) -> u8
+    ensures { λ r. ⌜ r ≡ cond (eqb lead one) its usual ⌝ }
 {
-    if x < 0x80 {
-        return Decoded::Point(x as u32);
+    if lead == one {
+        return its;
     }
-    if x < 0xC2 {
-        return Decoded::Bad;
-    }
-    if x < 0xE0 {
-        return opens(1, 0x80, 0xBF, x % 32);
-    }
-    if x == 0xE0 {
-        return opens(2, 0xA0, 0xBF, x % 16);
-    }
-    if x == 0xED {
-        return opens(2, 0x80, 0x9F, x % 16);
-    }
-    if x < 0xF0 {
-        return opens(2, 0x80, 0xBF, x % 16);
-    }
-    if x == 0xF0 {
-        return opens(3, 0x90, 0xBF, x % 8);
-    }
-    if x < 0xF4 {
-        return opens(3, 0x80, 0xBF, x % 8);
-    }
-    if x == 0xF4 {
-        return opens(3, 0x80, 0x8F, x % 8);
-    }
-    Decoded::Bad
+    usual
 }
 
-// A later octet of a character.
-fn later_octet(i: Partial, x: u8) -> Decoded
-    requires { ⌜ InBounds i ⌝ }
-    ensures { λ r. ⌜ r ≡ decodedAs (follow (partialIn i) x) ⌝ }
-    ensures { λ r. ⌜ Sound r ⌝ }
+// A character of two, three or four octets, by its lead.
+fn two_octets(s: &[u8], at: usize, lead: u8) -> PointAt
+    requires { ⌜ LeadAt (now s) at lead 0xC2 0xE0 ⌝ }
+    ensures { λ r. ⌜ PointRead (now (s .entry)) at r ⌝ }
 {
-    if x < i.low {
-        return Decoded::Bad;
+    let y = six_bits(s, at + 1, 0x80, 0xBF);
+    if 63 < y {
+        return PointAt::Bad;
     }
-    if i.high < x {
-        return Decoded::Bad;
+    PointAt::Point {
+        point: wide(lead % 32) * 64 + wide(y),
+        next: at + 2,
     }
-    let left = i.left;
-    if left == 1 {
-        return Decoded::Point(i.bits * 64 + (x % 64) as u32);
+}
+
+fn three_octets(s: &[u8], at: usize, lead: u8) -> PointAt
+    requires { ⌜ LeadAt (now s) at lead 0xE0 0xF0 ⌝ }
+    ensures { λ r. ⌜ PointRead (now (s .entry)) at r ⌝ }
+{
+    let low = second_bound(lead, 0xE0, 0xA0, 0x80);
+    let high = second_bound(lead, 0xED, 0x9F, 0xBF);
+    let y = six_bits(s, at + 1, low, high);
+    if 63 < y {
+        return PointAt::Bad;
     }
-    if left == 2 {
-        return Decoded::More(Partial {
-            left: 1,
-            low: 0x80,
-            high: 0xBF,
-            bits: i.bits * 64 + (x % 64) as u32,
-        });
+    let z = six_bits(s, at + 2, 0x80, 0xBF);
+    if 63 < z {
+        return PointAt::Bad;
     }
-    if left == 3 {
-        return Decoded::More(Partial {
-            left: 2,
-            low: 0x80,
-            high: 0xBF,
-            bits: i.bits * 64 + (x % 64) as u32,
-        });
+    PointAt::Point {
+        point: (wide(lead % 16) * 64 + wide(y)) * 64 + wide(z),
+        next: at + 3,
     }
-    Decoded::Bad
+}
+
+fn four_octets(s: &[u8], at: usize, lead: u8) -> PointAt
+    requires { ⌜ LeadAt (now s) at lead 0xF0 0xF5 ⌝ }
+    ensures { λ r. ⌜ PointRead (now (s .entry)) at r ⌝ }
+{
+    let low = second_bound(lead, 0xF0, 0x90, 0x80);
+    let high = second_bound(lead, 0xF4, 0x8F, 0xBF);
+    let x = six_bits(s, at + 1, low, high);
+    if 63 < x {
+        return PointAt::Bad;
+    }
+    let y = six_bits(s, at + 2, 0x80, 0xBF);
+    if 63 < y {
+        return PointAt::Bad;
+    }
+    let z = six_bits(s, at + 3, 0x80, 0xBF);
+    if 63 < z {
+        return PointAt::Bad;
+    }
+    PointAt::Point {
+        point: ((wide(lead % 8) * 64 + wide(x)) * 64 + wide(y)) * 64 + wide(z),
+        next: at + 4,
+    }
 }
 
 pub fn point_at(s: &[u8], at: usize) -> PointAt
@@ -116,21 +105,26 @@ pub fn point_at(s: &[u8], at: usize) -> PointAt
     if s.len() <= at {
         return PointAt::End;
     }
-    let mut decoded = first_octet(s[at]);
-    let mut next = at + 1;
-    loop {
-        match decoded {
-            Decoded::Bad => return PointAt::Bad,
-            Decoded::Point(point) => return PointAt::Point { point, next },
-            Decoded::More(partial) => {
-                if s.len() <= next {
-                    return PointAt::Bad;
-                }
-                decoded = later_octet(partial, s[next]);
-                next += 1;
-            }
-        }
+    let lead = s[at];
+    if lead < 0x80 {
+        return PointAt::Point {
+            point: wide(lead),
+            next: at + 1,
+        };
     }
+    if lead < 0xC2 {
+        return PointAt::Bad;
+    }
+    if lead < 0xE0 {
+        return two_octets(s, at, lead);
+    }
+    if lead < 0xF0 {
+        return three_octets(s, at, lead);
+    }
+    if lead < 0xF5 {
+        return four_octets(s, at, lead);
+    }
+    PointAt::Bad
 }
 
 pub fn is_utf8(s: &[u8]) -> bool

@@ -104,9 +104,10 @@ impl Lines<'_> {
     }
 
     fn add_bad_table(&mut self, table: &Sample, image: &[u8]) {
-        self.add_good(|requests, chance| match chance.below(4) {
+        self.add_good(|requests, chance| match chance.below(6) {
             0 => requests.table(&with_another_count(chance, &table.image)),
             1 => requests.table(&table.with_double(chance)),
+            2 | 3 => requests.table(&table.with_namesake(chance)),
             _ => {
                 let line = format!("table {}", word_of_octets(image));
                 requests.raw(&changed(chance, line.as_bytes()));
@@ -156,7 +157,10 @@ fn asked(chance: &mut Chance, table: &Sample) -> Asked {
         31..=32 => asked.without(ClauseName::NtVer),
         33..=34 => random_asked(chance),
         35..=36 => asked.with_user(chance.pick(&["a..b", ".a", "a.", ".", ""]).as_bytes()),
-        37 => asked.with(ClauseName::Host, &vec![b'h'; 1900 + chance.below(200)]),
+        37 => {
+            let asked = if chance.once_in(4) { asked.without(ClauseName::NtVer) } else { asked };
+            asked.with(ClauseName::Host, &vec![b'h'; 1900 + chance.below(200)])
+        }
         38 => Asked::version(version_bits(chance)),
         39 => Asked::default(),
         40..=42 => (0..4).fold(asked, |asked, _| with_wrong(chance, asked)),
@@ -355,6 +359,23 @@ mod tests {
         }
     }
 
+    fn assert_accents(coverage: &Coverage) {
+        let users = ["longer in octets than the account: found", "shorter in octets than the account: found"];
+        let limits = ["of 63 octets, as held: found", "of 63 octets, in another case: found"];
+        for case in users.into_iter().chain(limits) {
+            let count = coverage.count(&format!("accents: a user {case}"));
+            assert!(count >= 20, "{case} {count}");
+        }
+        for form in Form::ALL.map(word_of_form) {
+            let found = coverage.count(&format!("accents: in another case outside ASCII: found in {form}"));
+            assert!(found >= 50, "{form} {found}");
+        }
+        for case in ["in one block: 4", "in two blocks: 4", "in two contexts: 0"] {
+            let count = coverage.count(&format!("names alike, {case}"));
+            assert!(count >= 20, "{case} {count}");
+        }
+    }
+
     /// By as many lines as the gate puts through both programs, and from the same seed.
     #[test]
     fn pings_meet_their_cases_and_replies_every_number() {
@@ -362,6 +383,7 @@ mod tests {
         assert_pings_without_version(&coverage);
         assert_closing_dots(&coverage);
         assert_subnets(&coverage);
+        assert_accents(&coverage);
         let missing: Vec<String> = required_numbers()
             .into_iter()
             .chain(required_of_pings())

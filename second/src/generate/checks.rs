@@ -28,7 +28,7 @@ pub fn add_all(requests: &mut Requests, chance: &mut Chance) {
     add_ends(requests);
     add_passings(requests);
     requests.note("more random octets, and few among zeros");
-    for _ in 0..17 {
+    for _ in 0..16 {
         for octets in [chance.octets(CHECKED_LENGTH), small(chance), large(chance), sparse(chance)] {
             requests.check(&octets);
         }

@@ -9,6 +9,7 @@ use super::texts::{bad_account_names, dns_texts, good_account_texts, label_texts
 use crate::image::{ContextBlock, Image, Record, ServerBlock};
 
 pub fn add_layouts(requests: &mut Requests, chance: &mut Chance) {
+    add_second_blocks(requests);
     add_headers(requests);
     add_server(requests, chance);
     add_forest(requests, chance);
@@ -63,6 +64,16 @@ fn add_texts(requests: &mut Requests, image: &Image, block: usize, at: usize, ro
     }
 }
 
+fn add_second_blocks(requests: &mut Requests) {
+    requests.note("a good server or forest block a second time, at another place");
+    for (kind, copied) in [(1, 0), (2, 1)] {
+        let mut image = two_blocks();
+        let body = image.blocks[copied][4..508].to_vec();
+        image.push(kind, &body);
+        requests.table(&image);
+    }
+}
+
 fn add_headers(requests: &mut Requests) {
     requests.note("kind, version and own place of each block");
     let headers: [(usize, &[u8]); 4] = [(0, &[0, 1, 2, 4, 7]), (1, &[0, 2]), (2, &[0, 1, 2, 3]), (3, &[1])];
@@ -74,13 +85,6 @@ fn add_headers(requests: &mut Requests) {
                 requests.table(&changed);
             }
         }
-    }
-    requests.note("a good server or forest block a second time, at another place");
-    for (kind, copied) in [(1, 0), (2, 1)] {
-        let mut image = two_blocks();
-        let body = image.blocks[copied][4..508].to_vec();
-        image.push(kind, &body);
-        requests.table(&image);
     }
 }
 

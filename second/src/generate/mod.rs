@@ -1,5 +1,6 @@
 //! The seeded generator: the stored vectors with their answers, what they cover, and lines in bulk.
 
+mod alike;
 pub mod bulk;
 pub mod chance;
 mod checks;
@@ -14,6 +15,7 @@ mod pings;
 mod replies;
 mod requests;
 pub mod sample;
+mod spellings;
 mod tables;
 mod texts;
 mod values;

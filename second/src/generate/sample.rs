@@ -2,9 +2,11 @@
 
 use super::chance::Chance;
 use super::requests::Asked;
+use super::spellings::{longest, respelled, WORDS};
 use super::texts::{account_texts, good_account_texts};
 use crate::filter::ClauseName;
 use crate::image::{ContextBlock, Image, Record, ServerBlock};
+use crate::table::same_account_name;
 
 /// Few labels, some the same but for case or the end of another, so that names share tails often and nearly.
 const LABELS: [&str; 12] = ["a", "A", "b", "corp", "Corp", "example", "dc1", "HQ", "x-1", "ab", "!~", "ple"];
@@ -103,14 +105,22 @@ impl Names {
         }
     }
 
-    /// A user: a text of every sort, or labels before the tail of a name.
+    /// A user: a text of every sort, an accented name in any case, or labels before the tail of a name.
     fn user(&self, chance: &mut Chance) -> Vec<u8> {
         let name = chance.pick(&self.drawn);
         let tail = shortened(tail(chance, name), 63);
-        match chance.below(8) {
+        match chance.below(12) {
             0 | 1 => tail,
             2 | 3 => shortened([few_labels(chance), tail].join(&b'.'), 63),
             4 => chance.pick(&good_account_texts()).clone(),
+            5..=7 => {
+                let (name, _) = chance.pick(&WORDS);
+                respelled(chance, name.as_bytes())
+            }
+            8 => {
+                let (name, other) = chance.pick(&longest()).clone();
+                chance.pick(&[name, other]).clone().into_bytes()
+            }
             _ => chance.pick(&USERS).as_bytes().to_vec(),
         }
     }
@@ -244,7 +254,7 @@ fn push_accounts(image: &mut Image, chance: &mut Chance, names: &Names, size: Si
                 name: names.user(chance),
             };
             let same = |other: &SampleAccount| {
-                other.context == account.context && other.name.eq_ignore_ascii_case(&account.name)
+                other.context == account.context && same_account_name(&other.name, &account.name)
             };
             if !chance.once_in(5) && !accounts.iter().any(same) {
                 *record = Record::account(account.context, account.control, &account.name);
@@ -354,14 +364,31 @@ impl Sample {
     /// The table with one of its subnets a second time, with the same site or another or none: in a free place of a
     /// block, or in a block of its own. As it is where it has no subnet.
     pub fn with_double(&self, chance: &mut Chance) -> Image {
-        let mut image = self.image.clone();
         if self.subnets.is_empty() {
-            return image;
+            return self.image.clone();
         }
         let record = chance.pick(&self.subnets).record(*chance.pick(&[0, site_number(0)]));
-        match image.free_place(6, 12).filter(|_| chance.once_in(2)) {
-            Some((block, place)) => image.set_record(block, place, &record),
-            None => image.push_records(6, &[Record::unused(12), record]),
+        self.with_record(chance, 6, 12, &record)
+    }
+
+    /// The table with an account whose name is one of its accounts', or only seems so: in the same context or, here and
+    /// there, in another. As it is where it has no account.
+    pub fn with_namesake(&self, chance: &mut Chance) -> Image {
+        if self.accounts.is_empty() {
+            return self.image.clone();
+        }
+        let account = chance.pick(&self.accounts);
+        let context = if chance.once_in(4) { chance.pick(&self.contexts).number } else { account.context };
+        let record = Record::account(context, *chance.pick(&CONTROLS), &respelled(chance, &account.name));
+        self.with_record(chance, 4, 84, &record)
+    }
+
+    /// The table with one record more, in a free place of a block or in a block of its own.
+    fn with_record(&self, chance: &mut Chance, kind: u8, length: usize, record: &Record) -> Image {
+        let mut image = self.image.clone();
+        match image.free_place(kind, length).filter(|_| chance.once_in(2)) {
+            Some((block, place)) => image.set_record(block, place, record),
+            None => image.push_records(kind, &[Record::unused(length), record.clone()]),
         }
         image
     }
@@ -415,7 +442,7 @@ impl Sample {
 
 /// The account's name, and an AAC that mostly fits it.
 fn with_account(chance: &mut Chance, asked: Asked, account: &SampleAccount) -> Asked {
-    let asked = asked.with_user(&random_case(chance, &account.name));
+    let asked = asked.with_user(&respelled(chance, &account.name));
     match chance.below(6) {
         0 => asked,
         1 | 2 => asked.with_aac(account.control & 0x1D8),

@@ -1,22 +1,27 @@
 //! Table lines: lengths, checks, the rules on the whole, the order of judgement, and large tables.
 
+use std::collections::BTreeSet;
+
+use super::alike;
 use super::chance::Chance;
+use super::coverage::rules::{layout_faults, whole_faults};
 use super::doubles;
 use super::layout::add_layouts;
 use super::requests::Requests;
 use crate::image::{guid, ContextBlock, Image, Record, ServerBlock};
+use crate::lines::octets_of_word;
 
 pub fn add_all(requests: &mut Requests, chance: &mut Chance) {
     add_lengths(requests);
     add_checks(requests, chance);
-    add_layouts(requests, chance);
+    add_a_layout_of_each_sort(requests, chance);
     add_counts(requests);
     add_duplicates(requests);
     add_references(requests);
     add_orders(requests);
-    add_random(requests, chance);
     add_too_large(requests);
     doubles::add_all(requests);
+    alike::add_all(requests);
 }
 
 fn smallest() -> Image {
@@ -39,10 +44,27 @@ fn no_site() -> Image {
     smallest().without_block(3)
 }
 
+/// Of the tables that break the same rules, the first alone: each block takes 1,024 octets of a line, and the stored
+/// files have a limit. Lines in bulk break rules at any place.
+fn add_a_layout_of_each_sort(requests: &mut Requests, chance: &mut Chance) {
+    let mut all = Requests::default();
+    add_layouts(&mut all, chance);
+    let mut seen = BTreeSet::new();
+    all.lines.retain(|line| rules_broken(line).is_none_or(|rules| seen.insert(rules)));
+    requests.lines.append(&mut all.lines);
+}
+
+/// The rules of layout that the image of a table line breaks, or else those on the whole; none for a note.
+fn rules_broken(line: &[u8]) -> Option<BTreeSet<String>> {
+    let image = octets_of_word(std::str::from_utf8(line.strip_prefix(b"table ")?).ok()?)?;
+    let layout = layout_faults(&image);
+    Some(if layout.is_empty() { whole_faults(&image) } else { layout })
+}
+
 fn add_lengths(requests: &mut Requests) {
     requests.note("image lengths");
     let good = smallest().octets();
-    for length in [0, 1, 511, 512, 513, 1023, 1024, 1025, 1537] {
+    for length in [0, 1, 511, 512, 513, 1023, 1024, 1025] {
         requests.table_octets(&good[..length]);
     }
     requests.table_octets(&[&good[..], &[0]].concat());
@@ -75,64 +97,60 @@ fn add_checks(requests: &mut Requests, chance: &mut Chance) {
 
 fn add_counts(requests: &mut Requests) {
     requests.note("how many contexts and sites");
-    requests.table(&smallest());
-    requests.table(&Image::base());
     requests.table(&smallest().without_block(2));
-    requests.table(&no_site());
-    for count in [16, 17] {
-        let mut image = smallest();
-        for number in 2..=count {
-            let name = format!("c{number}.example");
-            image.push_context(&ContextBlock {
-                number,
-                guid: guid(number as u8),
-                dns_name: name.as_bytes(),
-                ..other_context()
-            });
-        }
-        requests.table(&image);
+    let mut image = smallest();
+    for context in contexts_apart() {
+        image.push_context(&context);
     }
+    requests.table(&image);
+    image.push_context(&ContextBlock { number: 40, guid: guid(40), dns_name: b"c40.example", ..other_context() });
+    requests.table(&image);
     let mut sites_in_two_blocks = smallest();
-    sites_in_two_blocks.push_records(5, &[Record::unused(72), Record::site(2, b"HQ", 1)]);
+    sites_in_two_blocks.push_records(5, &[Record::unused(72), Record::site(2, b"!~", 1)]);
     requests.table(&sites_in_two_blocks);
+}
+
+const SID: [u8; 12] = [1, 1, 0, 0, 0, 0, 0, 5, 21, 0, 0, 0];
+const NEAR_SID: [u8; 12] = [1, 1, 0, 0, 0, 0, 0, 5, 21, 0, 0, 1];
+
+/// Fifteen contexts that a table may have beside the smallest one's: what must be unique is only nearly the same, what
+/// need not be is the same.
+fn contexts_apart() -> Vec<ContextBlock<'static>> {
+    let near: [&[u8]; 6] = [b"corp.example2", b"corp-example", b"orp.example", b"example", b"dc1.corp.example", b"!.~"];
+    let apart = near.into_iter().chain(APART).chain([&b"c1"[..], b"c2", b"c3"]);
+    let mut contexts: Vec<ContextBlock> = (2..)
+        .zip(apart)
+        .map(|(number, dns_name)| ContextBlock { number, guid: guid(number as u8), dns_name, ..other_context() })
+        .collect();
+    contexts[0].number = 257;
+    contexts[1].netbios_name = b"CORP";
+    contexts[2].netbios_name = b"!~";
+    contexts[3] = ContextBlock { application: 1, netbios_name: b"", ..contexts[3] };
+    contexts[4].sid = Some(&SID);
+    contexts[5].sid = Some(&NEAR_SID);
+    contexts
 }
 
 fn add_duplicates(requests: &mut Requests) {
     requests.note("what must be unique, and what need not");
-    let sid: &[u8] = &[1, 1, 0, 0, 0, 0, 0, 5, 21, 0, 0, 0];
-    let near: &[u8] = &[1, 1, 0, 0, 0, 0, 0, 5, 21, 0, 0, 1];
     let others = [
-        other_context(),
         ContextBlock { number: 1, ..other_context() },
-        ContextBlock { number: 257, ..other_context() },
         ContextBlock { guid: guid(1), ..other_context() },
         ContextBlock { dns_name: b"corp.example", ..other_context() },
         ContextBlock { dns_name: b"CORP.eXample", ..other_context() },
-        ContextBlock { dns_name: b"corp.example2", ..other_context() },
-        ContextBlock { dns_name: b"corp-example", ..other_context() },
-        ContextBlock { netbios_name: b"CORP", ..other_context() },
-        ContextBlock { dns_name: b"example", ..other_context() },
-        ContextBlock { dns_name: b"dc1.corp.example", ..other_context() },
-        ContextBlock { application: 1, netbios_name: b"", ..other_context() },
     ];
     for other in others {
         let mut image = smallest();
         image.push_context(&other);
         requests.table(&image);
     }
-    for second in [sid, near] {
-        let mut image = no_site();
-        image.push_context(&ContextBlock { sid: Some(sid), ..other_context() });
-        image.push_context(&ContextBlock {
-            number: 3,
-            guid: guid(0x40),
-            sid: Some(second),
-            dns_name: b"c.d",
-            ..other_context()
-        });
-        image.push_records(5, &[Record::site(1, b"HQ", 0)]);
-        requests.table(&image);
+    let mut sid_twice = no_site();
+    for (number, dns_name) in [(2, b"c.c"), (3, b"c.d")] {
+        let context = ContextBlock { number, guid: guid(16 * number as u8), dns_name, ..other_context() };
+        sid_twice.push_context(&ContextBlock { sid: Some(&SID), ..context });
     }
+    sid_twice.push_records(5, &[Record::site(1, b"HQ", 0)]);
+    requests.table(&sid_twice);
     add_duplicate_names(requests);
     add_duplicate_sites(requests);
 }
@@ -142,12 +160,7 @@ const APART: [&[u8]; 6] = [b"@a", b"`a", b"[a", b"{a", b"0", b"P"];
 const SAME: [(&[u8], &[u8]); 3] = [(b"a", b"A"), (b"z", b"Z"), (b"ann", b"ann")];
 
 fn add_duplicate_names(requests: &mut Requests) {
-    let mut apart = smallest();
-    for (number, dns_name) in (2..).zip(APART) {
-        apart.push_context(&ContextBlock { number, guid: guid(number as u8), dns_name, ..other_context() });
-    }
-    requests.table(&apart);
-    for (one, other) in SAME {
+    for (one, other) in &SAME[..2] {
         let mut image = no_site();
         image.set_text(2, 104, 253, one);
         image.push_context(&ContextBlock { dns_name: other, ..other_context() });
@@ -186,25 +199,22 @@ fn add_duplicate_sites(requests: &mut Requests) {
     requests.table(&two_blocks);
 }
 
+/// A number whose low octet is that of one there is still none of them.
 fn add_references(requests: &mut Requests) {
     requests.note("numbers referred to");
-    for number in [2, 257] {
-        let server = ServerBlock { own_site: number, ..ServerBlock::default() };
-        requests.table(&Image::small(&server));
-        let server = ServerBlock { default_context: number, ..ServerBlock::default() };
-        requests.table(&Image::small(&server));
-    }
-    for number in [1, 2, 257] {
-        let mut account = smallest();
-        account.push_records(4, &[Record::account(number, 0x10, b"ann")]);
-        requests.table(&account);
-        let mut site = no_site();
-        site.push_records(5, &[Record::site(1, b"HQ", number)]);
-        requests.table(&site);
-        let mut subnet = smallest();
-        subnet.push_records(6, &[Record::subnet([10, 0, 0, 0], 8, 1, number)]);
-        requests.table(&subnet);
-    }
+    let server = ServerBlock { own_site: 257, ..ServerBlock::default() };
+    requests.table(&Image::small(&server));
+    let server = ServerBlock { default_context: 257, ..ServerBlock::default() };
+    requests.table(&Image::small(&server));
+    let mut account = smallest();
+    account.push_records(4, &[Record::account(257, 0x10, b"ann")]);
+    requests.table(&account);
+    let mut site = no_site();
+    site.push_records(5, &[Record::site(1, b"HQ", 257)]);
+    requests.table(&site);
+    let mut subnet = smallest();
+    subnet.push_records(6, &[Record::subnet([10, 0, 0, 0], 8, 1, 257)]);
+    requests.table(&subnet);
     let mut no_site_for_all = smallest();
     no_site_for_all.push_records(6, &[Record::unused(12), Record::subnet([0; 4], 0, 1, 0)]);
     requests.table(&no_site_for_all);
@@ -216,20 +226,21 @@ fn add_references(requests: &mut Requests) {
     add_countings(requests);
 }
 
-/// Contexts, sites and blocks are three countings: a number good in one is none in another.
+/// Contexts, sites and blocks are three countings: the context numbered 3 stands in block 2, the site numbered 2 in
+/// block 3, so that a number taken from another counting would be found.
 fn add_countings(requests: &mut Requests) {
-    for (own_site, default_context) in [(7, 9), (9, 9), (7, 7), (3, 2)] {
+    let table = |own_site: u16, default_context: u16, next: u16| {
         let server = ServerBlock { own_site, default_context, ..ServerBlock::default() };
         let mut image = Image::with_server(&server, b"example");
-        image.push_context(&ContextBlock { number: 9, ..ContextBlock::default() });
-        image.push_records(5, &[Record::site(7, b"HQ", 0)]);
-        requests.table(&image);
+        image.push_context(&ContextBlock { number: 3, ..ContextBlock::default() });
+        image.push_records(5, &[Record::site(2, b"HQ", next)]);
+        image
+    };
+    for (own_site, default_context, next) in [(3, 3, 0), (2, 2, 0), (2, 3, 3)] {
+        requests.table(&table(own_site, default_context, next));
     }
-    for (context, next, site) in [(9, 0, 7), (7, 0, 7), (9, 9, 7), (9, 0, 9), (2, 0, 0), (9, 3, 0), (9, 0, 3)] {
-        let server = ServerBlock { own_site: 7, default_context: 9, ..ServerBlock::default() };
-        let mut image = Image::with_server(&server, b"example");
-        image.push_context(&ContextBlock { number: 9, ..ContextBlock::default() });
-        image.push_records(5, &[Record::site(7, b"HQ", next)]);
+    for (context, site) in [(3, 2), (2, 2), (3, 3)] {
+        let mut image = table(2, 3, 0);
         image.push_records(4, &[Record::account(context, 0x10, b"ann")]);
         image.push_records(6, &[Record::subnet([10, 0, 0, 0], 8, 1, site)]);
         requests.table(&image);
@@ -249,7 +260,6 @@ fn add_orders(requests: &mut Requests) {
     octets.push(0);
     requests.table_octets(&octets);
     let mut whole_first = Image::small(&ServerBlock { own_site: 2, ..ServerBlock::default() });
-    requests.table(&whole_first);
     whole_first.set(3, 503, 1);
     requests.table(&whole_first);
     let mut octets = whole_first.octets();
@@ -264,19 +274,6 @@ fn add_orders(requests: &mut Requests) {
     let mut swapped = smallest();
     swapped.blocks.swap(2, 3);
     requests.table(&swapped);
-    let mut forest_first = smallest();
-    forest_first.blocks.swap(0, 1);
-    requests.table(&forest_first);
-}
-
-fn add_random(requests: &mut Requests, chance: &mut Chance) {
-    requests.note("a random octet set anywhere in a table");
-    for _ in 0..4 {
-        let mut image = smallest();
-        let block = chance.below(4);
-        image.set_header(block, chance.below(160), chance.octet());
-        requests.table(&image);
-    }
 }
 
 fn add_too_large(requests: &mut Requests) {

@@ -193,6 +193,11 @@ fn what_must_be_unique() {
             "line 7: this account name in its context, case ignored, stands in line 5 already; expected another",
         ),
     ]);
+    let account = |name: &str| format!("account name={name} context=1 control=none");
+    let same_name = already("account name in its context, case ignored,");
+    assert_eq!(two(account("Ørjan"), account("ØRJAN")), same_name);
+    // Of two octets and of one.
+    assert_eq!(two(account("ſmith"), account("Smith")), same_name);
     let subnet = |network: &str, site: &str| format!("subnet network={network} site={site}");
     assert_eq!(two(subnet("10.0.0.0/8", "1"), subnet("10.0.0.0/8", "none")), already("address and prefix"));
     assert_eq!(two(subnet("0.0.0.0/0", "none"), subnet("0.0.0.0/0", "none")), already("address and prefix"));

@@ -17,7 +17,7 @@ use Rattle.table.specs.Account.{accountOf}
 use Rattle.table.specs.Context.{contextOf}
 use Rattle.table.specs.Countings.{sameContext}
 use Rattle.table.specs.Format.{formatOf, recordsIn}
-use Rattle.table.specs.SameName.{sameAccountName}
+use Rattle.account_names.specs.AccountName.{sameAccountName}
 use Rattle.table.specs.Site.{siteOf}
 use Rattle.table.specs.Table.{isUsed, bodies, recordsOf, tableOf}
 use Rattle.table_find.specs.declared.search.ContextKey.{ContextKey}

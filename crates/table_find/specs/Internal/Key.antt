@@ -8,7 +8,7 @@ use Rattle.table.specs.declared.record.RecordKind.the-variants as kind
 use Rattle.table.specs.Account.{accountOf}
 use Rattle.table.specs.Context.{Context, contextOf}
 use Rattle.table.specs.Countings.{sameContext, sameSite}
-use Rattle.table.specs.SameName.{sameAccountName}
+use Rattle.account_names.specs.AccountName.{sameAccountName}
 use Rattle.table.specs.Site.{Site, siteOf}
 use Rattle.table.specs.Table.{isUsed}
 use Rattle.table_find.specs.declared.search.ContextKey.{ContextKey}

@@ -9,7 +9,8 @@ use Rattle.table.specs.Account.{Account, accountOf}
 use Rattle.table.specs.Context.{Context, contextOf}
 use Rattle.table.specs.Countings.{sameContext}
 use Rattle.table.specs.Internal.RecordAt.{recordAt}
-use Rattle.table.specs.SameName.{sameSid, sameAccountName, sameDnsName}
+use Rattle.account_names.specs.AccountName.{sameAccountName}
+use Rattle.table.specs.SameName.{sameSid, sameDnsName}
 use Rattle.table.specs.Subnet.{sameNetwork, subnetOf}
 use Rattle.table_records.specs.declared.alike.Likeness.{Likeness}
 use Rattle.table_records.specs.declared.alike.Likeness.the-variants.{Contexts, Accounts, Subnets}

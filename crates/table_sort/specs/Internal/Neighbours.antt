@@ -1,8 +1,8 @@
 -- What neighbours in a list show of its order.
 use mathlib.Core.List.{List, [], _∷_}
 use Prim.Native.Nat.{ℕ}
-use Rattle.table_compare.specs.declared.compare.Ordering.{Ordering}
-use Rattle.table_compare.specs.declared.compare.Ordering.the-variants.{Less, Equal, Greater}
+use Rattle.account_names.specs.declared.compare.Ordering.{Ordering}
+use Rattle.account_names.specs.declared.compare.Ordering.the-variants.{Less, Equal, Greater}
 use Rattle.table_sort.specs.declared.unique.Neighbours.{Neighbours}
 use Rattle.table_sort.specs.declared.unique.Neighbours.the-variants.{Rising, Duplicate, Unsorted}
 

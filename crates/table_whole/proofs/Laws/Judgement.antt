@@ -80,7 +80,7 @@ module _ (image : List ℕ) (ok : Accepted image) where
   pub accepted-bounds : (1024 ≤ length image) × (length image ≤ 65536)
   accepted-bounds = length-bounds image (accepted-judged .length)
 
-  unique-rows : (sitesUnique (tableFrom image .sites) ≡ true) × (subnetsUnique (tableFrom image .subnets) ≡ true)
+  unique-rows : (sitesUnique (tableFrom image .sites) ≡ true) × (accountsUnique (tableFrom image .accounts) ≡ true) × (subnetsUnique (tableFrom image .subnets) ≡ true)
   unfolding goodWhole
   unique-rows =
       let t = tableFrom image in
@@ -89,20 +89,24 @@ module _ (image : List ℕ) (ok : Accepted image) where
       let accounts : Bool = accountsUnique (t .accounts) in
       let next : Bool = all (λ s. not (holds (sameSite (s .number)) (s .next))) (t .sites) in
       let halves : Bool = before && sites && accounts && refersRightly t && next in
-      let subnets : Bool = subnetsUnique (t .subnets) in (
-        both-right before sites
-            (both-left (before && sites) accounts
-            (both-left (before && sites && accounts) (refersRightly t)
-            (both-left (before && sites && accounts && refersRightly t) next
-            (both-left halves subnets (accepted-judged .whole))))),
+      let subnets : Bool = subnetsUnique (t .subnets) in
+      let first-rows : before && sites && accounts ≡ true =
+      both-left (before && sites && accounts) (refersRightly t)
+      (both-left (before && sites && accounts && refersRightly t) next
+      (both-left halves subnets (accepted-judged .whole))) in (
+        both-right before sites (both-left (before && sites) accounts first-rows),
+        both-right (before && sites) accounts first-rows,
         both-right halves subnets (accepted-judged .whole),
       )
 
   pub accepted-sites : sitesUnique (tableFrom image .sites) ≡ true
   accepted-sites = unique-rows .0
 
+  pub accepted-accounts : accountsUnique (tableFrom image .accounts) ≡ true
+  accepted-accounts = unique-rows .1
+
   pub accepted-subnets : subnetsUnique (tableFrom image .subnets) ≡ true
-  accepted-subnets = unique-rows .1
+  accepted-subnets = unique-rows .2
 
 -- ---- what its table holds: texts that can be written, and GUIDs and addresses of their lengths
 

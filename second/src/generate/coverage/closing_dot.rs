@@ -1,5 +1,6 @@
 //! The cases of DnsDomain values with dots at their ends (#107): what they find, beside a GUID, a SID and a user too.
 
+use super::letters::alike;
 use super::pings::is_named;
 use super::without_version::Line;
 use super::Met;
@@ -225,7 +226,7 @@ impl<'a> Ping<'a> {
         let [_, "0", _, _, "nt40", buffer] = self.answer else { return None };
         let (user, _) = (self.clauses.user?, self.clauses.aac?);
         let has = |context: &Context| {
-            self.table.accounts.iter().any(|one| one.context == context.number && one.name.eq_ignore_ascii_case(user))
+            self.table.accounts.iter().any(|one| one.context == context.number && alike(one.name, user))
         };
         let whose = match (has(named), has(&self.table.default_context)) {
             (true, false) => "its context",

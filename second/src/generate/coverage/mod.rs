@@ -1,9 +1,11 @@
 //! Which cases lines meet: the answer numbers, the rules, and the ways to an answer. What a line meets is found from the
 //! line and its answer and not from how it was made, so that a line that misses its aim leaves its case missing.
 
+mod accents;
 mod checks;
 mod closing_dot;
 mod filters;
+mod letters;
 mod pings;
 pub mod places;
 mod reads;
@@ -75,6 +77,7 @@ impl Coverage {
                 self.image = octets_of_word(request.get(1)?)?;
                 tables::add_cases(&self.image, number, met);
                 subnets::add_tables(&self.image, number, met);
+                accents::add_tables(&self.image, number, met);
             }
             "ping" => pings::add_cases(&self.image, &request, &answer, met)?,
             "filter" | "values" => filters::add_cases(&octets_of_word(request.get(1)?)?, &answer, met),
@@ -133,6 +136,7 @@ pub fn required() -> Vec<String> {
     cases.extend(without_version::required());
     cases.extend(closing_dot::required());
     cases.extend(subnets::required());
+    cases.extend(accents::required());
     cases.extend(filters::required());
     cases.extend(reads::required());
     cases.extend(walks::required());
@@ -145,7 +149,7 @@ pub fn required_numbers() -> Vec<String> {
     NUMBERS_BY_KIND.into_iter().flat_map(of_kind).collect()
 }
 
-/// The cases of pings but for document 01's own samples, and those of #101, #102 and #107.
+/// The cases of pings but for document 01's own samples, and those of #101, #102, #107 and #108.
 pub fn required_of_pings() -> Vec<String> {
     pings::required()
 }

@@ -1,7 +1,9 @@
 //! The cases of ping lines: each refusal by its causes and before later ones, and each way to an answer.
 
 use super::super::pings::reply_to;
+use super::accents;
 use super::closing_dot;
+use super::letters::alike;
 use super::places::name_places;
 use super::samples::sample_met;
 use super::subnets;
@@ -36,6 +38,7 @@ pub fn add_cases(image: &[u8], request: &[&str], answer: &[&str], met: &mut Met)
     without_version::add_cases(&line, met);
     closing_dot::add_cases(&line, met);
     subnets::add_pings(&line, met);
+    accents::add_pings(&line, met);
     if !["0", "19"].contains(number) {
         met.add_if(room < 30, format!("refused with {number}, little room"));
         met.add_if(room > 100, format!("refused with {number}, much room"));
@@ -236,7 +239,7 @@ impl Ping<'_> {
         self.clauses.user.is_some_and(|user| {
             !self.table.accounts.iter().any(|account| {
                 account.context == used.number
-                    && account.name.eq_ignore_ascii_case(user)
+                    && alike(account.name, user)
                     && !is_set(account.control, 1)
                     && is_set(aac & account.control, 0x1D8)
             })
@@ -304,11 +307,11 @@ impl Ping<'_> {
     /// Why a user is known or not.
     fn add_account(&self, user: &[u8], text: &str, met: &mut Met) {
         let used = context_used(self.table, &self.clauses);
-        let mut of_name = self.table.accounts.iter().filter(|account| account.name.eq_ignore_ascii_case(user));
+        let mut of_name = self.table.accounts.iter().filter(|account| alike(account.name, user));
         let mut in_context = self.table.accounts.iter().filter(|account| account.context == used.number);
-        let unlike = |name: &[u8]| !name.eq_ignore_ascii_case(user) && lower_case(name) == text.to_lowercase();
+        let unlike = |name: &[u8]| !alike(name, user) && lower_case(name) == text.to_lowercase();
         met.add_if(in_context.clone().any(|account| unlike(account.name)), "user unknown: case outside ASCII");
-        let Some(account) = in_context.find(|account| account.name.eq_ignore_ascii_case(user)) else {
+        let Some(account) = in_context.find(|account| alike(account.name, user)) else {
             let elsewhere = of_name.next().is_some();
             return met.add(if elsewhere { "user unknown: of another context" } else { "user unknown: no account" });
         };
@@ -322,6 +325,8 @@ impl Ping<'_> {
             (false, bits) => {
                 met.add(format!("user known: by {bits:x}"));
                 met.add_if(account.name != user, "user known: in another case");
+                let within_ascii = account.name.eq_ignore_ascii_case(user);
+                met.add_if(!within_ascii, "user known: in another case outside ASCII");
             }
         }
     }
@@ -496,7 +501,7 @@ pub fn required() -> Vec<String> {
     cases
 }
 
-const CASES: [&str; 83] = [
+const CASES: [&str; 84] = [
     "answered on 128 blocks",
     "answered to an equality alone",
     "9: NtVer",
@@ -554,6 +559,7 @@ const CASES: [&str; 83] = [
     "user known: by 80",
     "user known: by 100",
     "user known: in another case",
+    "user known: in another case outside ASCII",
     "site: the only one",
     "site: the only one, by a subnet none",
     "site: by a subnet",

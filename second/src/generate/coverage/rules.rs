@@ -3,6 +3,7 @@
 
 use std::collections::BTreeSet;
 
+use super::letters::letters;
 use crate::octets::u16_at;
 
 type Faults = BTreeSet<String>;
@@ -284,26 +285,23 @@ fn add_context_uniqueness(faults: &mut Faults, contexts: &[&[u8]]) {
     fault_if(faults, folded_name, "DNS name twice but for case");
 }
 
-/// An account's context and name, and the place of its block.
-type AccountName = (u16, Vec<u8>, usize);
+/// An account's context, the letters of its name and the name itself, and the place of its block.
+type AccountName = (u16, Option<Vec<char>>, Vec<u8>, usize);
 
+/// Sorted by context and letters, names that are alike stand next to each other, those spelled the same first of all.
 fn add_account_uniqueness(faults: &mut Faults, image: &[u8]) {
     let mut accounts: Vec<AccountName> = Vec::new();
     for (place, block) in image.chunks(512).enumerate().filter(|(_, block)| block[0] == 4) {
-        accounts.extend(used(&block[4..508], 84).map(|one| (number_at(one, 0), text_at(one, 8).to_vec(), place)));
+        let names = used(&block[4..508], 84).map(|one| (number_at(one, 0), text_at(one, 8).to_vec()));
+        accounts.extend(names.map(|(context, name)| (context, letters(&name), name, place)));
     }
-    let same = |one: &AccountName, other: &AccountName| one.0 == other.0 && one.1 == other.1;
-    let folded = |one: &AccountName, other: &AccountName| {
-        one.0 == other.0 && one.1 != other.1 && one.1.eq_ignore_ascii_case(&other.1)
-    };
-    let twice_in_two_blocks =
-        some_two(&accounts, |one, other| one.0 == other.0 && one.1 == other.1 && one.2 != other.2);
-    if twice_in_two_blocks {
-        fault_if(faults, true, "account name twice in two blocks");
-    } else {
-        fault_if(faults, some_two(&accounts, same), "account name twice");
+    accounts.sort();
+    for pair in accounts.windows(2).filter(|pair| (pair[0].0, &pair[0].1) == (pair[1].0, &pair[1].1)) {
+        let spelled_the_same = pair[0].2 == pair[1].2;
+        fault_if(faults, spelled_the_same && pair[0].3 == pair[1].3, "account name twice");
+        fault_if(faults, spelled_the_same && pair[0].3 != pair[1].3, "account name twice in two blocks");
+        fault_if(faults, !spelled_the_same, "account name twice but for case");
     }
-    fault_if(faults, some_two(&accounts, folded), "account name twice but for case");
 }
 
 fn add_missing(faults: &mut Faults, image: &[u8], sites: &[u16]) {
@@ -349,9 +347,10 @@ mod tests {
         for round in 0..4_000 {
             let size = Size { contexts: 1 + round % 3, account_blocks: 1, sites: 1 + round % 7, subnets: round % 9 };
             let table = nested_sample(&mut chance, size, round / 9 % 2);
-            let octets = match round % 4 {
+            let octets = match round % 5 {
                 0 => with_another_count(&mut chance, &table.image).octets(),
                 1 => table.with_double(&mut chance).octets(),
+                2 => table.with_namesake(&mut chance).octets(),
                 _ => changed_octets(&mut chance, table.image.octets(), true),
             };
             let by_reader = number_of(&read_table(&octets));

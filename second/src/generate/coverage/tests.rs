@@ -1,13 +1,13 @@
 //! The trails and traces are a third way to the answers, held here to the reader's and the walk's.
 
 use super::super::bulk::write_lines;
-use super::super::elements::equality;
+use super::super::elements::{and, equality};
 use super::super::nets::{with_nets, Net};
 use super::super::{lines_of, KINDS};
 use super::trace::trace;
 use super::trail::{trail, End, Trail};
 use super::Coverage;
-use crate::image::Image;
+use crate::image::{guid, ContextBlock, Image, Record};
 use crate::lines::{form_of_word, octets_of_word, word_of_octets, Answerer};
 
 /// The words and the answers of all stored lines of a kind, and of some in bulk, but for those of another shape.
@@ -181,6 +181,51 @@ fn a_subnet_twice_meets_its_case_with_4_alone() {
         coverage.observe(request.as_bytes(), answer);
         assert_eq!(coverage.count("subnet twice, of two sites: 4"), times, "{answer}");
         assert_eq!(coverage.count("whole: subnet twice"), times, "{answer}");
+    }
+}
+
+/// The answer to a user that is not found is a right one too, but not where the account is there.
+#[test]
+fn an_accented_user_meets_its_case_with_the_due_answer_alone() {
+    let mut image = Image::base();
+    image.push_records(4, &[Record::account(1, 0x10, "\u{F8}".as_bytes())]);
+    let user = equality(b"User", "\u{D8}".as_bytes());
+    let filter = and(&[equality(b"NtVer", &[0; 4]), equality(b"AAC", &[0x10, 0, 0, 0]), user]);
+    let request = format!("ping 00000000 {} 32", word_of_octets(&filter));
+    let reply = "00440043003100 0000d800 0000 43004f0052005000 000001000000ffffffff".replace(' ', "");
+    for (opcode, times) in [("13", 1), ("15", 0)] {
+        let mut coverage = Coverage::default();
+        coverage.observe(format!("table {}", word_of_octets(&image.octets())).as_bytes(), "table 0");
+        coverage.observe(request.as_bytes(), &format!("ping 0 32 1 nt40 {opcode}{reply}"));
+        assert_eq!(coverage.count("accents: U+00D8 alone, its account folded: found"), times, "{opcode}");
+        assert_eq!(coverage.count("accents: in another case outside ASCII: found in nt40"), times, "{opcode}");
+    }
+}
+
+#[test]
+fn a_name_twice_by_folding_meets_its_case_with_4_alone() {
+    let mut image = Image::base();
+    image.push_records(4, &["s", "\u{17F}"].map(|name| Record::account(1, 0, name.as_bytes())));
+    let request = format!("table {}", word_of_octets(&image.octets()));
+    for (answer, times) in [("table 4", 1), ("table 0", 0), ("table 3", 0)] {
+        let mut coverage = Coverage::default();
+        coverage.observe(request.as_bytes(), answer);
+        assert_eq!(coverage.count("names alike, U+0073 and U+017F: 4"), times, "{answer}");
+        assert_eq!(coverage.count("whole: account name twice but for case"), times, "{answer}");
+    }
+}
+
+#[test]
+fn names_alike_in_contexts_1_and_257_meet_their_case_with_0_alone() {
+    let mut image = Image::base();
+    image.push_context(&ContextBlock { number: 257, guid: guid(2), dns_name: b"lab", ..ContextBlock::default() });
+    image.push_records(4, &[Record::account(1, 0, b"s"), Record::account(257, 0, "\u{17F}".as_bytes())]);
+    let request = format!("table {}", word_of_octets(&image.octets()));
+    let case = "names alike, in two contexts whose numbers have the same low octet: 0";
+    for (answer, times) in [("table 0", 1), ("table 4", 0)] {
+        let mut coverage = Coverage::default();
+        coverage.observe(request.as_bytes(), answer);
+        assert_eq!(coverage.count(case), times, "{answer}");
     }
 }
 

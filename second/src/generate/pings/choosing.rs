@@ -52,10 +52,14 @@ fn add_nt4_wanted(pings: &mut Pings) {
     pings.ask_tight(NO_CLIENT, &Asked::default().with_user(b"a."));
 }
 
+/// Roles in four tables, each in others than any other role, so that none is taken for another.
 fn add_roles(pings: &mut Pings) {
-    pings.note("each role alone, all of them, and all but read-only and NT4 wanted");
+    pings.note("each role with half of the others, all of them, and all but read-only and NT4 wanted");
     // NT4 wanted and level 2008 have tables of their own.
-    for roles in (0..12).map(|bit| 1 << bit).filter(|role| ![0x200, 0x800].contains(role)).chain([0xFFF, 0xDEF]) {
+    let roles = || (0..12).map(|bit| 1u32 << bit).filter(|role| ![0x200, 0x800].contains(role));
+    let set_in = |table: u32| roles().zip(1u32..).filter(move |(_, number)| number >> table & 1 == 1);
+    let shared = (0..4).map(|table| set_in(table).map(|(role, _)| role).sum());
+    for roles in shared.chain([0xFFF, 0xDEF]) {
         pings.table(&Image::small(&ServerBlock { roles, ..ServerBlock::default() }));
         for version in [0x0, 0x2, 0x0100_0004, 0x1C] {
             pings.ask(NO_CLIENT, &Asked::version(version));

@@ -86,16 +86,6 @@ fn guid_of(number: u16) -> [u8; 16] {
     }
 }
 
-/// A ping with just the room for its answer, or with little where it is refused.
-fn ask(pings: &mut Pings, asked: &Asked) {
-    let filter = asked.filter();
-    let room = match pings.length(NO_CLIENT, &filter) {
-        0 => 2,
-        length => length,
-    };
-    pings.requests.ping(NO_CLIENT, &filter, room);
-}
-
 fn named(version: u32, name: &[u8]) -> Asked {
     Asked::version(version).with(ClauseName::DnsDomain, name)
 }
@@ -104,7 +94,7 @@ fn named(version: u32, name: &[u8]) -> Asked {
 fn add_shapes(pings: &mut Pings, name: &[u8]) {
     for (before, after) in [("", ""), ("", "."), ("", ".."), (".", ""), (".", ".")] {
         let value = [before.as_bytes(), name, after.as_bytes()].concat();
-        ask(pings, &Asked::default().with(ClauseName::DnsDomain, &value));
+        pings.ask_exact(&Asked::default().with(ClauseName::DnsDomain, &value));
     }
 }
 
@@ -112,15 +102,15 @@ fn add_short_values(pings: &mut Pings) {
     pings.note("DnsDomain of dots alone, of one octet, and of two");
     for value in ["", ".", "..", "...", "....", "-", "/", "h", "H", "i", "\0", "n", "h-", "h/", ".-", "-.", "hh", "h.h"]
     {
-        ask(pings, &named(0, value.as_bytes()));
+        pings.ask_exact(&named(0, value.as_bytes()));
     }
     for octet in [0xAE, 0xFF] {
-        ask(pings, &named(0, &[octet]));
-        ask(pings, &named(0, &[b'h', octet]));
+        pings.ask_exact(&named(0, &[octet]));
+        pings.ask_exact(&named(0, &[b'h', octet]));
     }
     for version in [2, 4] {
         for value in ["h.", "HH.", ".", "h.."] {
-            ask(pings, &named(version, value.as_bytes()));
+            pings.ask_exact(&named(version, value.as_bytes()));
         }
     }
 }
@@ -129,7 +119,7 @@ fn add_short_values(pings: &mut Pings) {
 fn add_other_last_octets(pings: &mut Pings) {
     pings.note("names with another octet at the end, and parts of names with a dot");
     for last in [b'-', b'/', b',', b' ', b'0', b'e', 0x00, 0x4E, 0x6E, 0xAE] {
-        ask(pings, &named(0, &[&b"corp.example"[..], &[last]].concat()));
+        pings.ask_exact(&named(0, &[&b"corp.example"[..], &[last]].concat()));
     }
     let near = [
         "corp.",
@@ -143,7 +133,7 @@ fn add_other_last_octets(pings: &mut Pings) {
         "..corp.example.",
     ];
     for name in near {
-        ask(pings, &named(0, name.as_bytes()));
+        pings.ask_exact(&named(0, name.as_bytes()));
     }
     let with_room = named(4, b"CORP.Example.");
     pings.ask_tight(NO_CLIENT, &with_room);
@@ -165,7 +155,7 @@ fn add_applications(pings: &mut Pings) {
     for number in [APPLICATION, APPLICATION_WITHOUT_NETBIOS] {
         for dots in ["", ".", ".."] {
             for version in [0, 2, 4] {
-                ask(pings, &named(version, &[&spelled(number), dots.as_bytes()].concat()));
+                pings.ask_exact(&named(version, &[&spelled(number), dots.as_bytes()].concat()));
             }
         }
     }
@@ -180,7 +170,7 @@ fn add_applications(pings: &mut Pings) {
     for (by_guid, by_name) in pairs {
         for dots in ["", ".", ".."] {
             let name = [&spelled(by_name), dots.as_bytes()].concat();
-            ask(pings, &named(4, &name).with(ClauseName::DomainGuid, &guid_of(by_guid)));
+            pings.ask_exact(&named(4, &name).with(ClauseName::DomainGuid, &guid_of(by_guid)));
         }
     }
 }
@@ -189,10 +179,10 @@ fn add_applications(pings: &mut Pings) {
 fn add_guids(pings: &mut Pings) {
     pings.note("a GUID with names that no context has");
     for name in ["m.", "none.example.", ".", "..", ".h", ".h.", "h-"] {
-        ask(pings, &named(0, name.as_bytes()).with(ClauseName::DomainGuid, &guid_of(2)));
+        pings.ask_exact(&named(0, name.as_bytes()).with(ClauseName::DomainGuid, &guid_of(2)));
     }
     for guid in [&guid_of(1)[..15], &[0; 16]] {
-        ask(pings, &named(0, b"h.").with(ClauseName::DomainGuid, guid));
+        pings.ask_exact(&named(0, b"h.").with(ClauseName::DomainGuid, guid));
     }
 }
 
@@ -201,12 +191,12 @@ fn add_sids(pings: &mut Pings) {
     let sids: [&[u8]; 4] = [&SID_OF_5, &SID_OF_2, &[1, 0, 0, 0, 0, 0, 0, 9], b"S-1"];
     for name in ["h.", "Corp.example.", "Hh.", "APP.example.", "h..", "m."] {
         for sid in sids {
-            ask(pings, &named(0, name.as_bytes()).with(ClauseName::DomainSid, sid));
+            pings.ask_exact(&named(0, name.as_bytes()).with(ClauseName::DomainSid, sid));
         }
     }
     for sid in &sids[..2] {
         let both = named(0, b"h.").with(ClauseName::DomainGuid, &guid_of(DEFAULT));
-        ask(pings, &both.with(ClauseName::DomainSid, sid));
+        pings.ask_exact(&both.with(ClauseName::DomainSid, sid));
     }
 }
 
@@ -215,7 +205,7 @@ fn add_users(pings: &mut Pings) {
     pings.note("users of the context that a dotted name finds, and of the default");
     for user in ["ann", "bob"] {
         for name in ["h", "h.", "corp.example."] {
-            ask(pings, &named(0, name.as_bytes()).with_user(user.as_bytes()).with_aac(0x10));
+            pings.ask_exact(&named(0, name.as_bytes()).with_user(user.as_bytes()).with_aac(0x10));
         }
     }
 }

@@ -1,5 +1,6 @@
 //! Ping lines, each group after the table line that it stands on.
 
+mod accents;
 mod choosing;
 mod closing_dot;
 mod names;
@@ -25,6 +26,7 @@ pub fn add_all(requests: &mut Requests, chance: &mut Chance) {
     add_random(&mut pings, chance);
     closing_dot::add_all(&mut pings);
     nearest::add_all(&mut pings);
+    accents::add_all(&mut pings);
 }
 
 /// The lines so far, the image that stands, and how many pings had little room or much, in turn.
@@ -96,6 +98,19 @@ impl Pings<'_> {
         for room in rooms {
             self.requests.ping(client, filter, room);
         }
+    }
+
+    /// A ping with just the room for its answer, or with little where it is refused.
+    fn exact(&mut self, filter: &[u8]) {
+        let room = match self.length(NO_CLIENT, filter) {
+            0 => 2,
+            length => length,
+        };
+        self.requests.ping(NO_CLIENT, filter, room);
+    }
+
+    fn ask_exact(&mut self, asked: &Asked) {
+        self.exact(&asked.filter());
     }
 
     fn ask_tight(&mut self, client: [u8; 4], asked: &Asked) {
@@ -185,20 +200,18 @@ fn add_filter_refusals(pings: &mut Pings, chance: &mut Chance) {
 }
 
 fn add_random(pings: &mut Pings, chance: &mut Chance) {
-    pings.note("random tables and pings that suit them");
-    for _ in 0..4 {
-        let size = Size {
-            contexts: 1 + chance.below(4),
-            account_blocks: 1,
-            sites: 1 + chance.below(7),
-            subnets: chance.below(20),
-        };
-        let table = nested_sample(chance, size, 1);
-        pings.table(&table.image);
-        for _ in 0..20 {
-            let client = table.client(chance);
-            let asked = table.asked(chance);
-            pings.ask(client, &asked);
-        }
+    pings.note("a random table and pings that suit it");
+    let size = Size {
+        contexts: 1 + chance.below(4),
+        account_blocks: 1,
+        sites: 1 + chance.below(7),
+        subnets: chance.below(20),
+    };
+    let table = nested_sample(chance, size, 1);
+    pings.table(&table.image);
+    for _ in 0..20 {
+        let client = table.client(chance);
+        let asked = table.asked(chance);
+        pings.ask(client, &asked);
     }
 }

@@ -124,7 +124,7 @@ fn add_few_sites(pings: &mut Pings) {
     pings.note("two sites, and one; 0.0.0.0/0 without site, with one, and not there");
     let nets = [Net::around(0x0A00_0000, 8, 1), Net::around(0x0A01_0000, 16, 2), Net::around(0x0A01_0200, 24, 0)];
     let clients = [0x0A00_0001, 0x0A01_0001, 0x0A01_0201, 0x0B00_0000, 0x09FF_FFFF];
-    for all in [None, Some(0), Some(1)] {
+    for all in [None, Some(0), Some(2)] {
         let everything = all.map(|site| Net::around(0, 0, site));
         let nets: Vec<Net> = everything.into_iter().chain(nets).collect();
         ask_all(pings, &with_nets(2, &nets), &clients);

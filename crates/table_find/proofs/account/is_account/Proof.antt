@@ -3,7 +3,7 @@ use Prim.Native.Nat.{ℕ}
 use mathlib.Core.List.{List}
 use mathlib.Core.Bool.{true, false}
 use mathlib.Core.Path.{_≡_, sym, ap, _∙_}
-use Rattle.table.specs.SameName.{sameAccountName}
+use Rattle.account_names.specs.AccountName.{sameAccountName}
 use Rattle.table.specs.Account.{accountOf}
 use Rattle.table.specs.Countings.{sameContext}
 use Rattle.table.specs.declared.ContextNumber.{ContextNumber}

@@ -2,7 +2,7 @@ use mathlib.Core.Path.{ap₂, _∙_}
 use mathlib.Core.Bool.{Bool, _&&_}
 use lib.Dec.{eqb}
 use Rattle.table.specs.declared.ContextNumber.{ContextNumber}
-use Rattle.table.specs.SameName.{sameAccountName}
+use Rattle.account_names.specs.AccountName.{sameAccountName}
 use borrow.Author.Needs.{needs}
 use Rattle.table_records.proofs.alike.are_accounts_alike.Statement.{statement}
 use Rattle.table_records.proofs.alike.are_accounts_alike.Tie as tie

@@ -3,8 +3,8 @@ use Prim.Native.Nat.{ℕ, _-_, _≤_, _+_}
 use native.Mathlib.Omega.{arith}
 use lib.ListN.{length, drop}
 use borrow.Author.Needs.{needs}
-use Rattle.table_compare.specs.declared.compare.Ordering.{Ordering}
-use Rattle.table_compare.specs.declared.compare.Ordering.the-variants.{Less, Equal, Greater}
+use Rattle.account_names.specs.declared.compare.Ordering.{Ordering}
+use Rattle.account_names.specs.declared.compare.Ordering.the-variants.{Less, Equal, Greater}
 use Rattle.table_sort.specs.Internal.Neighbours.{risingThen, neighboursBy}
 use Rattle.table_compare.specs.Internal.OrderKey.{compareAt}
 use Rattle.table_sort.proofs.Laws.Neighbours.{neighbours-as, neighbours-end}

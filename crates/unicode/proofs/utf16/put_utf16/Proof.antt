@@ -58,7 +58,7 @@ returns-2 c =
     let s : List ℕ = a .s .now in
     let l = c .before .before .before .before .loop in
     let p = subst (PointRead s (l .at)) (c .enum-told2 .given .1) (c .before .before .point-at .ensures) in
-    let e : l .inv .0 ≡ utf16 s = written-all (l .inv .0) (utf16 s) (octetsLeft (points (drop (l .at) s))) (l .inv .4) (ap octetsLeft p) in
+    let e : l .inv .0 ≡ utf16 s = written-all (l .inv .0) (utf16 s) (octetsLeft (points (drop (l .at) s))) (l .inv .4) (ap octetsLeft (p .0)) in
     (l .inv .3 ∙ ap length e, l .inv .5 ∙ ap (λ (x : List ℕ). over x (a .out .now)) e)
 
 enum-known-here : tie.Need-enum-known-here Inv-loop μ-loop

@@ -41,7 +41,7 @@ returns-2 c =
     let s = c .before .before .before .before .before .args .s .now in
     let l = c .before .before .before .loop in
     let p = subst (PointRead s (l .at)) (c .enum-told2 .given .1) (c .before .before .point-at .ensures) in
-    ap isSome (sym p) ∙ l .inv .1
+    ap isSome (sym (p .0)) ∙ l .inv .1
 
 enum-known-here : tie.Need-enum-known-here Inv-loop μ-loop
 enum-known-here c = search needs

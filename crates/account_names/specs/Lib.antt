@@ -1,0 +1,3 @@
+pub mod AccountName
+pub mod FoldTwice
+pub mod Internal
