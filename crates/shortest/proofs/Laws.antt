@@ -1,0 +1,4 @@
+pub mod Endings
+pub mod Least
+pub mod ReadBack
+pub mod Shortest

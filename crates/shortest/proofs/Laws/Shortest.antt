@@ -1,0 +1,186 @@
+-- #113 is proved: of both forms, for any texts that are names, and so of every answer.
+use mathlib.Core.Path.{_≡_, refl, sym, ap, ap₂, _∙_, subst}
+use mathlib.Core.Bool.{Bool, true, false}
+use mathlib.Core.List.{List, [], _∷_, _++_, map, append-nil, append-assoc, List·Memᴰ·head, List·Memᴰ·tail}
+use mathlib.Core.Option.{Option, none, some}
+use Prim.Native.Nat.{ℕ, _+_, _≤_}
+use native.Mathlib.Nat.{zero-add}
+use native.Mathlib.Omega.{arith}
+use lib.ListN.{length, length-append, length-replicate}
+use borrow.Author.Tests.{le-leb}
+use Rattle.answers.specs.declared.Form.{Form}
+use Rattle.answers.specs.declared.Form.the-variants.{Nt40, Response, Ex}
+use Rattle.answers.specs.Wire.{responseVersion, exVersion, exVersionWithNextSite, sin-family}
+use Rattle.names.specs.Name.{Tail, Writing, pointerTo, literalLabel, writeLabels, writeName, writeNames}
+use Rattle.octets.specs.Label.{parts, labels, joined}
+use Rattle.octets.specs.Lists.{all, first}
+use Rattle.octets.specs.NameRule.{sized}
+use Rattle.octets.specs.Number.{bigOctets, littleOctets}
+use Rattle.octets.specs.Text.{same}
+use Rattle.octets.proofs.Laws.Label.{Plain, Dotless, labels-plain}
+use Rattle.octets.proofs.Laws.Lists.{Every, every-all, all-every, every-weaken}
+use Rattle.octets.proofs.Laws.NameRule.{Writable}
+use Rattle.octets.proofs.Laws.Number.{length-little}
+use Rattle.octets.proofs.Laws.Text.{within-low, within-high}
+use Rattle.reply.specs.Reply.{Reply, u32, text16, ending, opening, nt40Octets, responseHead, responseNames, responseOctets, exHead, exNames, addressIf, exLast, exOctets, octetsIn}
+use Rattle.unicode.specs.Utf16.{pointsOctets, utf16}
+use Rattle.unicode.specs.Utf8.{pointsFrom}
+use Rattle.demands.specs.Derivation.{ReplyIs}
+use Rattle.demands.proofs.Laws.Derivation.{every-answer, every-reply}
+use Rattle.demands.proofs.Laws.Forms.{ending-same, ending-length}
+use Rattle.demands.proofs.Laws.Forms.Ex.{ex-plain, ex-head}
+use Rattle.demands.proofs.Laws.Forms.Nt40.{nt40-length}
+use Rattle.demands.proofs.Laws.Forms.Response.{response-plain, response-head}
+use Rattle.demands.proofs.Laws.Sound.{Sound, every-sound}
+use Rattle.shortest.specs.Shortest.{Field, fixed, name, lastFields, fieldsOf, isName, textsOf, writtenOut, Names, IsShortest, ShortestReply, sample, LongerReply, ended, label, pointer, done, field, named, ShortestAnswerOver, ShortestAnswer, ShortestCall}
+use Rattle.shortest.proofs.Laws.Least.{written, least, fields-one}
+use Rattle.shortest.proofs.Laws.ReadBack.{says-names}
+
+-- ---- document 01's octets, field by field
+
+names-row : (texts : List (List ℕ)) (tails : List Tail) (at : ℕ) (fields : List Field)
+    → written tails at (map name texts ++ fields)
+    ≡ writeNames tails at texts .octets ++ written (tails ++ writeNames tails at texts .tails) (at + length (writeNames tails at texts .octets)) fields
+unfolding written writeNames
+names-row [] tails at fields = let n : at ≡ at + 0 = omega arith in ap₂ (λ (ts : List Tail) (k : ℕ). written ts k fields) (sym (append-nil tails)) n
+names-row (text ∷ texts) tails at fields =
+    let one : Writing = writeName tails at text in
+    let more : Writing = writeNames (tails ++ one .tails) (at + length (one .octets)) texts in
+    let n : at + length (one .octets) + length (more .octets) ≡ at + length (one .octets ++ more .octets) = simp length-append (omega arith) in
+    ap (λ (s : List ℕ). one .octets ++ s) (names-row texts (tails ++ one .tails) (at + length (one .octets)) fields)
+    ∙ ap₂ (λ (ts : List Tail) (k : ℕ). one .octets ++ (more .octets ++ written ts k fields)) (append-assoc tails (one .tails) (more .tails)) n
+    ∙ sym (append-assoc (one .octets) (more .octets) _)
+
+-- a head, names, and fields after them
+after-head : (head : List ℕ) (texts : List (List ℕ)) (fields : List Field)
+    → (let w = writeNames [] (length head) texts in
+    written [] 0 (fixed head ∷ (map name texts ++ fields)) ≡ head ++ (w .octets ++ written (w .tails) (length head + length (w .octets)) fields))
+unfolding written
+after-head head texts fields =
+    ap (λ (s : List ℕ). head ++ s) (ap (λ (n : ℕ). written [] n (map name texts ++ fields)) (zero-add (length head)) ∙ names-row texts [] (length head) fields)
+
+last-fields : (site : Option (List ℕ)) (names : Writing) (at : ℕ) → written (names .tails) at (lastFields site) ≡ exLast site names at
+unfolding written
+last-fields none names at = append-nil (ending exVersion)
+last-fields (some text) names at = ap (λ (s : List ℕ). writeName (names .tails) at text .octets ++ s) (append-nil (ending exVersionWithNextSite))
+
+by-fields : (form : Form) (r : Reply) → octetsIn form r ≡ written [] 0 (fieldsOf form r)
+unfolding written responseOctets exOctets
+by-fields Nt40 r = sym (append-nil (nt40Octets r))
+by-fields Response r =
+    let names : Writing = writeNames [] (length (responseHead r)) (responseNames r) in
+    let end : List ℕ = r .ipv4 ++ u32 (r .flags) ++ ending responseVersion in
+    let whole : responseHead r ++ names .octets ++ r .ipv4 ++ u32 (r .flags) ++ ending responseVersion ≡ responseHead r ++ (names .octets ++ (end ++ [])) = simp (append-assoc, append-nil) in
+    whole ∙ sym (after-head (responseHead r) (responseNames r) (fixed end ∷ []))
+by-fields Ex r =
+    let head : List ℕ = exHead r in
+    let names : Writing = writeNames [] (length head) (exNames r) in
+    let address : List ℕ = addressIf (r .withAddress) (r .ipv4) in
+    let last : List ℕ = exLast (r .nextSite) names (length (head ++ names .octets ++ address)) in
+    let n : length head + length (names .octets) + length address ≡ length (head ++ names .octets ++ address) = simp length-append in
+    let whole : head ++ names .octets ++ address ++ last ≡ head ++ (names .octets ++ (address ++ last)) = simp append-assoc in
+    whole
+    ∙ sym (after-head head (exNames r) (fixed address ∷ lastFields (r .nextSite))
+    ∙ ap (λ (s : List ℕ). head ++ (names .octets ++ (address ++ s)))
+    (ap (λ (k : ℕ). written (names .tails) k (lastFields (r .nextSite))) n ∙ last-fields (r .nextSite) names (length (head ++ names .octets ++ address))))
+
+-- ---- texts that are names
+
+names-plain : (texts : List (List ℕ)) → all isName texts ≡ true → Every (λ text. Plain (labels text)) texts
+names-plain texts e =
+    every-all isName (λ text. Plain (labels text))
+    (λ text q. labels-plain text (every-all (sized 1 63) (λ l. (1 ≤ length l) × (length l ≤ 63)) (λ l h. (within-low 1 63 (length l) h, within-high 1 63 (length l) h)) (labels text) q))
+    texts e
+
+plain-names : (texts : List (List ℕ)) → Every (λ text. Plain (labels text)) texts → all isName texts ≡ true
+plain-names texts h =
+    all-every isName texts
+    (every-weaken (λ text. Plain (labels text)) (λ text. isName text ≡ true)
+    (λ text p. all-every (sized 1 63) (labels text)
+    (every-weaken (λ l. (1 ≤ length l) × (length l ≤ 63) × Dotless l) (λ l. sized 1 63 l ≡ true) (λ l q. rw (le-leb 1 (length l) (q .0), le-leb (length l) 63 (q .1))) (labels text) p))
+    texts h)
+
+pub shortest-reply : ShortestReply
+shortest-reply form v r names =
+    let fields : List Field = fieldsOf form r in
+    let plain : Every (λ text. Plain (labels text)) (textsOf fields) = names-plain (textsOf fields) (names .each) in
+    let one = fields-one fields [] 0 tt (omega (arith, names .reached)) in
+    rw (by-fields form r)
+    (record {
+      places = one .0;
+      one = one .1;
+      least = λ other at w. least [] 0 tt tt plain w;
+      same = λ other at w. says-names (names .reached) plain w;
+    })
+
+-- ---- every answer's are
+
+ending-short : (version : ℕ) → length (ending version) ≡ 8
+ending-short version = ap length (ending-same version) ∙ ending-length version
+
+address-short : (b : Bool) (ipv4 : List ℕ) → length ipv4 ≡ 4 → length (addressIf b ipv4) ≤ 17
+address-short true ipv4 e = simp (length-append, length-replicate) (omega (arith, length-little 4 sin-family))
+address-short false ipv4 e = omega arith
+
+module _ (v : ℕ) (r : Reply) where
+  response-names : Sound Response v r → Names (fieldsOf Response r)
+  response-names k =
+      let end : length (r .ipv4 ++ u32 (r .flags) ++ ending responseVersion) ≤ 16 = simp length-append (omega (arith, k .ipv4, length-little 4 (r .flags), ending-short responseVersion)) in
+      record {
+        each = plain-names (responseNames r) (response-plain v r k);
+        reached = omega (arith, response-head v r k, k .forest .short, k .dns .short, k .host .short);
+      }
+
+  -- name 8 and the version
+  last-names : (site : Option (List ℕ)) → ((text : List ℕ) → site ≡ some text → Writable 63 text) → Every (λ text. Plain (labels text)) (textsOf (lastFields site)) × (writtenOut (lastFields site) ≤ 73)
+  last-names none h = (tt, omega (arith, ending-short exVersion))
+  last-names (some text) h = ((h text refl .plain, tt), omega (arith, h text refl .short, ending-short exVersionWithNextSite))
+
+  ex-names : Sound Ex v r → Names (fieldsOf Ex r)
+  ex-names k =
+      let last = last-names (r .nextSite) (λ text e. k .nextSite text e .0) in
+      let p = ex-plain v r k in
+      record {
+        each = plain-names (textsOf (fieldsOf Ex r)) (p .0, (p .1 .0, (p .1 .1 .0, (p .1 .1 .1 .0, (p .1 .1 .1 .1 .0, (p .1 .1 .1 .1 .1 .0, (p .1 .1 .1 .1 .1 .1 .0, (p .1 .1 .1 .1 .1 .1 .1 .0, last .0))))))));
+        reached =
+            omega (
+              arith,
+              ex-head v r k,
+              k .forest .short,
+              k .dns .short,
+              k .host .short,
+              k .netbios .short,
+              k .server .short,
+              k .userShort,
+              k .ownSite .short,
+              k .clientSite .short,
+              address-short (r .withAddress) (r .ipv4) (k .ipv4),
+              last .1,
+            );
+      }
+
+sound-names : (form : Form) (v : ℕ) (r : Reply) → Sound form v r → Names (fieldsOf form r)
+sound-names Nt40 v r k = record { each = plain-names [] tt; reached = omega (arith, nt40-length v r k) }
+sound-names Response v r k = response-names v r k
+sound-names Ex v r k = ex-names v r k
+
+pub shortest-answer-over : ShortestAnswerOver
+shortest-answer-over = every-sound IsShortest (λ form v r k. shortest-reply form v r (sound-names form v r k))
+
+pub shortest-answer : ShortestAnswer
+shortest-answer = every-answer (ReplyIs IsShortest) shortest-answer-over
+
+pub shortest-call : ShortestCall
+shortest-call = every-reply IsShortest (λ form v r s len. IsShortest form v r s) shortest-answer (λ form v r s h. h)
+
+-- ---- the longer one
+
+pub longer-reply : LongerReply
+unfolding all parts labels joined responseOctets responseHead opening text16 utf16 pointsOctets pointsFrom ending writeNames writeName writeLabels first same pointerTo literalLabel bigOctets littleOctets
+longer-reply =
+    record {
+      names = record { each = refl; reached = omega arith };
+      document = refl;
+      one = field (named (label ended) (named (label (label ended)) (named (pointer {t = record { offset = 43; text = sample .dns }} (List·Memᴰ·tail (List·Memᴰ·head refl)) refl (omega arith)) (field done))));
+      longer = omega arith;
+    }
