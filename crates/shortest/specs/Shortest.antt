@@ -46,15 +46,13 @@ pub record Placed : Type 0 where
 abbrev pub pointerAt : ℕ → List ℕ
 pointerAt offset = bigOctets 2 (0xC000 + offset)
 
--- The labels of a name, or those that are left of it, written at an offset, after names whose literally written labels are `earlier`: their octets, and
--- the labels that are written literally here. All may be, with a zero octet after the last; before each a pointer may end the name instead, to any earlier label from
--- which the text to the end of its name is what is left, case included.
+-- A name's labels, or those left of it, at an offset, after names whose literally written labels are `earlier`: their octets, and what is written literally
+-- here. A zero octet ends the name where none is left; a pointer ends it anywhere, at any earlier label whose text to the end of its name is what is left, case included.
 pub data NameWritten (earlier : List Placed) : ℕ → List (List ℕ) → List ℕ → List Placed → Type 0 where
   ended : {at : ℕ} → NameWritten earlier at [] (0 ∷ []) []
   label : {at : ℕ} {l : List ℕ} {ls : List (List ℕ)} {s : List ℕ} {own : List Placed} → NameWritten earlier (at + (1 + length l)) ls s own
       → NameWritten earlier at (l ∷ ls) ((length l ∷ l) ++ s) (record { offset = at; text = joined (l ∷ ls) } ∷ own)
-  pointer : {at : ℕ} {l : List ℕ} {ls : List (List ℕ)} {t : Placed} → Among t earlier → t .text ≡ joined (l ∷ ls) → t .offset < 0x4000
-      → NameWritten earlier at (l ∷ ls) (pointerAt (t .offset)) []
+  pointer : {at : ℕ} {ls : List (List ℕ)} {t : Placed} → Among t earlier → t .text ≡ joined ls → t .offset < 0x4000 → NameWritten earlier at ls (pointerAt (t .offset)) []
 
 -- fields written one after the other at an offset: their octets, and where each name starts
 pub data FieldsWritten : List Placed → ℕ → List Field → List ℕ → List Placed → Type 0 where
@@ -86,7 +84,7 @@ writtenOut [] = 0
 writtenOut (fixed s ∷ fields) = length s + writtenOut fields
 writtenOut (name text ∷ fields) = 2 + length text + writtenOut fields
 
--- Any texts whatever that are names, where the 14 bits of a pointer reach every octet; nine names of 253 octets with the other fields of document 01 take 2,336 at the most
+-- texts that are names, and 14 bits of offset reach every octet; an EX with nine names of 253 octets takes 2,344
 pub record Names (fields : List Field) : Type 0 where
   pub each : all isName (textsOf fields) ≡ true
   pub reached : writtenOut fields ≤ 0x4000
@@ -101,25 +99,34 @@ pub record SaysNames (fields : List Field) (s : List ℕ) (places : List Placed)
   pub reads : (n : Placed) → Among n places → Read s n
 
 -- s is one of the replies that say r in a form, none of them is shorter, and all say the same
-pub record IsShortest (form : Form) (v : ℕ) (r : Reply) (s : List ℕ) : Type 0 where
+pub record IsShortest (form : Form) (r : Reply) (s : List ℕ) : Type 0 where
   pub places : List Placed
   pub one : Compared form r s places
   pub least : (other : List ℕ) (at : List Placed) → Compared form r other at → length s ≤ length other
   pub same : (other : List ℕ) (at : List Placed) → Compared form r other at → SaysNames (fieldsOf form r) other at
 
--- document 01's octets, of anything that a reply can say
+-- none is shorter than document 01's octets, for any texts whatever that are names
+abbrev pub NoneShorter : Type 0
+NoneShorter =
+    (form : Form) (r : Reply) → all isName (textsOf (fieldsOf form r)) ≡ true → (other : List ℕ) (places : List Placed) → Compared form r other places → length (octetsIn form r) ≤ length other
+
+-- and where pointers reach every octet, document 01's are one of them
 abbrev pub ShortestReply : Type 0
-ShortestReply = (form : Form) (v : ℕ) (r : Reply) → Names (fieldsOf form r) → IsShortest form v r (octetsIn form r)
+ShortestReply = (form : Form) (r : Reply) → Names (fieldsOf form r) → IsShortest form r (octetsIn form r)
+
+-- a reply r in its form, whose octets are s
+abbrev pub ShortestIn : Form → ℕ → Reply → List ℕ → Type 0
+ShortestIn form v r s = IsShortest form r s
 
 -- so of every answer: over a table, of the whole's, and of the octets that the answering call leaves
 abbrev pub ShortestAnswerOver : Type 0
-ShortestAnswerOver = EveryAnswerOver (ReplyIs IsShortest)
+ShortestAnswerOver = EveryAnswerOver (ReplyIs ShortestIn)
 
 abbrev pub ShortestAnswer : Type 0
-ShortestAnswer = EveryAnswer (ReplyIs IsShortest)
+ShortestAnswer = EveryAnswer (ReplyIs ShortestIn)
 
 abbrev pub ShortestCall : Type 0
-ShortestCall = EveryReply (λ form v r s len. IsShortest form v r s)
+ShortestCall = EveryReply (λ form v r s len. ShortestIn form v r s)
 
 -- ---- one that is longer
 

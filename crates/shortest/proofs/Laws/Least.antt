@@ -56,14 +56,18 @@ name-least tails from h (label {l = l} {ls = ls} {s = s} w) = go (find tails (jo
     go : (f : Option Tail) → length (rest .octets) ≤ length s → length (pointerOr f (literally from (joined (l ∷ ls)) l rest) .octets) ≤ length ((length l ∷ l) ++ s)
     go none r = simp length-append (omega arith)
     go (some t) r = simp length-append (omega (arith, some-octet w))
-name-least tails from h (pointer {l = l} {ls = ls} {t = t} m e low) = go (find tails (joined (l ∷ ls))) (subst (Holds tails) e (every-among (λ n. Holds tails (n .text)) h m))
+name-least tails from h (pointer {ls = ls} {t = t} m e low) = go ls (subst (Holds tails) e (every-among (λ n. Holds tails (n .text)) h m))
   where
-    here : Writing
-    here = literally from (joined (l ∷ ls)) l (writeLabels tails (from + (1 + length l)) ls)
+    here : List ℕ → List (List ℕ) → Writing
+    here l rest = literally from (joined (l ∷ rest)) l (writeLabels tails (from + (1 + length l)) rest)
 
-    go : (f : Option Tail) → isSome f ≡ true → length (pointerOr f here .octets) ≤ 2
-    go none q = absurd (true-not-false (sym q))
-    go (some u) q = omega arith
+    points : (l : List ℕ) (rest : List (List ℕ)) (f : Option Tail) → isSome f ≡ true → length (pointerOr f (here l rest) .octets) ≤ 2
+    points l rest none q = absurd (true-not-false (sym q))
+    points l rest (some u) q = omega arith
+
+    go : (left : List (List ℕ)) → Holds tails (joined left) → length (writeLabels tails from left .octets) ≤ 2
+    go [] q = omega arith
+    go (l ∷ rest) q = points l rest (find tails (joined (l ∷ rest))) q
 
 -- the labels that a name has written literally are endings of its own
 literal-endings : {earlier own : List Placed} {at : ℕ} {ls : List (List ℕ)} {s : List ℕ} (tails : List Tail) → HoldsEndings tails ls → NameWritten earlier at ls s own → Holding tails own

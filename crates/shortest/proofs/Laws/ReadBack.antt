@@ -15,7 +15,7 @@ use Rattle.octets.specs.Text.{same}
 use Rattle.octets.proofs.Laws.Label.{Plain, size, size-labels, joined-shorter}
 use Rattle.octets.proofs.Laws.Lists.{Every, every-append, every-weaken}
 use Rattle.octets.proofs.Laws.Text.{same-self, same-lengths}
-use Rattle.shortest.specs.Shortest.{Field, Placed, NameWritten, ended, label, pointer, FieldsWritten, done, field, named, textsOf, writtenOut, Read, SaysNames}
+use Rattle.shortest.specs.Shortest.{Field, Placed, pointerAt, NameWritten, ended, label, pointer, FieldsWritten, done, field, named, textsOf, writtenOut, Read, SaysNames}
 use Rattle.shortest.proofs.Laws.Endings.{find}
 use Rattle.shortest.proofs.Laws.Least.{every-among}
 
@@ -41,11 +41,11 @@ record AsWritten (earlier : List Placed) (at : ℕ) (ls : List (List ℕ)) (s : 
   octets : s ≡ writeLabels tails at ls .octets
   left : map tail own ≡ writeLabels tails at ls .tails
 
-as-written : {earlier own : List Placed} {at : ℕ} {ls : List (List ℕ)} {s : List ℕ} → Plain ls → NameWritten earlier at ls s own → AsWritten earlier at ls s own
-unfolding writeLabels literalLabel pointerTo first
-as-written plain ended = record { tails = []; some-of = tt; short = tt; octets = refl; left = refl }
-as-written plain (label {at = at} {l = l} {ls = ls} {s = s} {own = own} w) =
-    let rest = as-written (plain .1) w in
+as-written : {earlier own : List Placed} {at : ℕ} {ls : List (List ℕ)} {s : List ℕ} → Plain ls → Every (λ t. 1 ≤ length (labels (t .text))) (map tail earlier) → NameWritten earlier at ls s own → AsWritten earlier at ls s own
+unfolding writeLabels literalLabel pointerTo first labels joined
+as-written plain full ended = record { tails = []; some-of = tt; short = tt; octets = refl; left = refl }
+as-written plain full (label {at = at} {l = l} {ls = ls} {s = s} {own = own} w) =
+    let rest = as-written (plain .1) full w in
     let less : length (joined ls) < length (joined (l ∷ ls)) = joined-shorter l ls (plain .0 .0) in
     let shorter : Every (λ t. length (t .text) < length (joined (l ∷ ls))) (rest .tails) =
     every-weaken (λ t. length (t .text) ≤ length (joined ls)) (λ t. length (t .text) < length (joined (l ∷ ls))) (λ t h. omega arith) (rest .tails) (rest .short) in
@@ -57,22 +57,24 @@ as-written plain (label {at = at} {l = l} {ls = ls} {s = s} {own = own} w) =
       octets = rw unseen (ap (λ (x : List ℕ). (length l ∷ l) ++ x) (rest .octets));
       left = rw unseen (ap (λ (x : List Tail). record { offset = at; text = joined (l ∷ ls) } ∷ x) (rest .left));
     }
-as-written plain (pointer {l = l} {ls = ls} {t = t} m e low) =
-    let fits : find (tail t ∷ []) (joined (l ∷ ls)) ≡ some (tail t) = rw (e, same-self (joined (l ∷ ls))) in
-    let long : length (t .text) ≡ length (joined (l ∷ ls)) = ap length e in
-    record {
-      tails = tail t ∷ [];
-      some-of = (among-tails m, tt);
-      short = (omega arith, tt);
-      octets = rw fits;
-      left = rw fits;
-    }
+as-written {earlier = earlier} {at = at} plain full (pointer {ls = ls} {t = t} m e low) = go ls e
+  where
+    go : (left : List (List ℕ)) → t .text ≡ joined left → AsWritten earlier at left (pointerAt (t .offset)) []
+    go [] q =
+        let some-label : 1 ≤ length (labels (t .text)) = every-among (λ u. 1 ≤ length (labels (u .text))) full (among-tails m) in
+        let none-left : length (labels (t .text)) ≡ 0 = ap (λ (x : List ℕ). length (labels x)) q in
+        absurd (omega arith)
+    go (l ∷ rest) q =
+        let fits : find (tail t ∷ []) (joined (l ∷ rest)) ≡ some (tail t) = rw (q, same-self (joined (l ∷ rest))) in
+        let long : length (t .text) ≡ length (joined (l ∷ rest)) = ap length q in
+        record { tails = tail t ∷ []; some-of = (among-tails m, tt); short = (omega arith, tt); octets = rw fits; left = rw fits }
 
 -- one name after p, which ends where it starts
 name-reads : {earlier own : List Placed} {at : ℕ} {ls : List (List ℕ)} {s : List ℕ} (k : ℕ) (p : List ℕ) → length p ≡ at → at + size ls ≤ 0x4000 → Plain ls
     → Every (Ready k at p) (map tail earlier) → NameWritten earlier at ls s own → Written k at at ls (p ++ s) (map tail own) × (length s ≤ size ls)
 name-reads {earlier = earlier} {at = at} {ls = ls} k p e room plain ready w =
-    let a = as-written plain w in
+    let full = every-weaken (Ready k at p) (λ t. 1 ≤ length (labels (t .text))) (λ t r. omega (arith, r .byLabels)) (map tail earlier) ready in
+    let a = as-written plain full w in
     let r : Written k at at ls (p ++ writeLabels (a .tails) at ls .octets) (writeLabels (a .tails) at ls .tails) =
     labels-written (a .tails) k at ls p at e (omega arith) room
     (every-weaken (λ t. Among t (map tail earlier)) (Ready k at p) (λ t m. every-among (Ready k at p) ready m) (a .tails) (a .some-of)) plain in

@@ -32,7 +32,7 @@ use Rattle.demands.proofs.Laws.Forms.Ex.{ex-plain, ex-head}
 use Rattle.demands.proofs.Laws.Forms.Nt40.{nt40-length}
 use Rattle.demands.proofs.Laws.Forms.Response.{response-plain, response-head}
 use Rattle.demands.proofs.Laws.Sound.{Sound, every-sound}
-use Rattle.shortest.specs.Shortest.{Field, fixed, name, lastFields, fieldsOf, isName, textsOf, writtenOut, Names, IsShortest, ShortestReply, sample, LongerReply, ended, label, pointer, done, field, named, ShortestAnswerOver, ShortestAnswer, ShortestCall}
+use Rattle.shortest.specs.Shortest.{Field, fixed, name, lastFields, fieldsOf, isName, textsOf, writtenOut, Names, NoneShorter, ShortestReply, ShortestIn, sample, LongerReply, ended, label, pointer, done, field, named, ShortestAnswerOver, ShortestAnswer, ShortestCall}
 use Rattle.shortest.proofs.Laws.Least.{written, least, fields-one}
 use Rattle.shortest.proofs.Laws.ReadBack.{says-names}
 
@@ -100,18 +100,19 @@ plain-names texts h =
     (every-weaken (λ l. (1 ≤ length l) × (length l ≤ 63) × Dotless l) (λ l. sized 1 63 l ≡ true) (λ l q. rw (le-leb 1 (length l) (q .0), le-leb (length l) 63 (q .1))) (labels text) p))
     texts h)
 
+pub none-shorter : NoneShorter
+none-shorter form r each other places w = rw (by-fields form r) (least [] 0 tt tt (names-plain (textsOf (fieldsOf form r)) each) w)
+
 pub shortest-reply : ShortestReply
-shortest-reply form v r names =
+shortest-reply form r names =
     let fields : List Field = fieldsOf form r in
-    let plain : Every (λ text. Plain (labels text)) (textsOf fields) = names-plain (textsOf fields) (names .each) in
     let one = fields-one fields [] 0 tt (omega (arith, names .reached)) in
-    rw (by-fields form r)
-    (record {
+    record {
       places = one .0;
-      one = one .1;
-      least = λ other at w. least [] 0 tt tt plain w;
-      same = λ other at w. says-names (names .reached) plain w;
-    })
+      one = rw (by-fields form r) (one .1);
+      least = none-shorter form r (names .each);
+      same = λ other at w. says-names (names .reached) (names-plain (textsOf fields) (names .each)) w;
+    }
 
 -- ---- every answer's are
 
@@ -165,13 +166,13 @@ sound-names Response v r k = response-names v r k
 sound-names Ex v r k = ex-names v r k
 
 pub shortest-answer-over : ShortestAnswerOver
-shortest-answer-over = every-sound IsShortest (λ form v r k. shortest-reply form v r (sound-names form v r k))
+shortest-answer-over = every-sound ShortestIn (λ form v r k. shortest-reply form r (sound-names form v r k))
 
 pub shortest-answer : ShortestAnswer
-shortest-answer = every-answer (ReplyIs IsShortest) shortest-answer-over
+shortest-answer = every-answer (ReplyIs ShortestIn) shortest-answer-over
 
 pub shortest-call : ShortestCall
-shortest-call = every-reply IsShortest (λ form v r s len. IsShortest form v r s) shortest-answer (λ form v r s h. h)
+shortest-call = every-reply ShortestIn (λ form v r s len. ShortestIn form v r s) shortest-answer (λ form v r s h. h)
 
 -- ---- the longer one
 
