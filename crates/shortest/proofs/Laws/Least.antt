@@ -1,5 +1,5 @@
 -- Compared field by field: document 01's reply is one of those compared, and no longer than any.
-use mathlib.Core.Path.{_≡_, refl, sym, ap, _∙_, subst}
+use mathlib.Core.Path.{_≡_, refl, sym, subst}
 use mathlib.Core.Bool.{true}
 use mathlib.Core.List.{List, [], _∷_, _++_, map, map-append, List·Memᴰ as Among, List·Memᴰ·head, List·Memᴰ·tail}
 use mathlib.Core.Option.{Option, none, some}
@@ -16,20 +16,12 @@ use Rattle.octets.proofs.Laws.Lists.{Every, every-append, every-weaken, found, 
 use Rattle.octets.proofs.Laws.Text.{same-equal}
 use Rattle.names.proofs.Laws.Name.{labels-short}
 use Rattle.shortest.specs.Shortest.{Field, fixed, name, Placed, NameWritten, ended, label, pointer, FieldsWritten, done, field, named, textsOf, writtenOut}
+use Rattle.shortest.specs.Internal.ByField.{written}
 use Rattle.shortest.proofs.Laws.Endings.{find, Holds, HoldsEndings, Closed, endings-held, closed-after, holds-before}
 
 pub every-among : {A : Type 0} (P : A → Type 0) {x : A} {xs : List A} → Every P xs → Among x xs → P x
 every-among P h (List·Memᴰ·head e) = subst P (sym e) (h .0)
 every-among P h (List·Memᴰ·tail m) = every-among P (h .1) m
-
--- ---- fields, written as document 01 says
-
-unfoldable pub written : List Tail → ℕ → List Field → List ℕ
-written earlier at [] = []
-written earlier at (fixed s ∷ fields) = s ++ written earlier (at + length s) fields
-written earlier at (name text ∷ fields) =
-    let one = writeName earlier at text in
-    one .octets ++ written (earlier ++ one .tails) (at + length (one .octets)) fields
 
 -- ---- none is shorter
 

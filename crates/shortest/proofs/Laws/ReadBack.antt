@@ -1,21 +1,20 @@
 -- Each of the replies compared reads back. A name in it is what the writer makes of it with at most one tail to point to, and so the writer's own law holds of it.
-use mathlib.Core.Path.{_≡_, refl, sym, ap, _∙_, subst}
+use mathlib.Core.Path.{_≡_, refl, ap, subst}
 use mathlib.Core.List.{List, [], _∷_, _++_, map, map-append, append-assoc, List·Memᴰ as Among, List·Memᴰ·head, List·Memᴰ·tail}
-use mathlib.Core.Option.{Option, none, some}
+use mathlib.Core.Option.{none, some}
 use Prim.Native.Nat.{ℕ, suc, _+_, _<_, _≤_}
 use native.Mathlib.Omega.{arith}
 use lib.ListN.{length, length-append}
-use Rattle.names.specs.Name.{Tail, Writing, pointerTo, literalLabel, writeLabels}
+use Rattle.names.specs.Name.{Tail, pointerTo, literalLabel, writeLabels}
 use Rattle.names.specs.WalkRelation.{Walks}
 use Rattle.names.proofs.Laws.Name.{Ready, ready-later, Written, labels-written, labels-short}
 use Rattle.names.proofs.Laws.Walk.{longer, finds}
 use Rattle.octets.specs.Label.{labels, joined}
 use Rattle.octets.specs.Lists.{first}
-use Rattle.octets.specs.Text.{same}
 use Rattle.octets.proofs.Laws.Label.{Plain, size, size-labels, joined-shorter}
 use Rattle.octets.proofs.Laws.Lists.{Every, every-append, every-weaken}
 use Rattle.octets.proofs.Laws.Text.{same-self, same-lengths}
-use Rattle.shortest.specs.Shortest.{Field, Placed, pointerAt, NameWritten, ended, label, pointer, FieldsWritten, done, field, named, textsOf, writtenOut, Read, SaysNames}
+use Rattle.shortest.specs.Shortest.{Field, Placed, pointerAt, NameWritten, ended, label, pointer, FieldsWritten, done, field, named, textsOf, writtenOut, SaysNames}
 use Rattle.shortest.proofs.Laws.Endings.{find}
 use Rattle.shortest.proofs.Laws.Least.{every-among}
 

@@ -1,5 +1,5 @@
 -- #113 is proved: of both forms, for any texts that are names, and so of every answer.
-use mathlib.Core.Path.{_≡_, refl, sym, ap, ap₂, _∙_, subst}
+use mathlib.Core.Path.{_≡_, refl, sym, ap, ap₂, _∙_}
 use mathlib.Core.Bool.{Bool, true, false}
 use mathlib.Core.List.{List, [], _∷_, _++_, map, append-nil, append-assoc, List·Memᴰ·head, List·Memᴰ·tail}
 use mathlib.Core.Option.{Option, none, some}
@@ -33,7 +33,8 @@ use Rattle.demands.proofs.Laws.Forms.Nt40.{nt40-length}
 use Rattle.demands.proofs.Laws.Forms.Response.{response-plain, response-head}
 use Rattle.demands.proofs.Laws.Sound.{Sound, every-sound}
 use Rattle.shortest.specs.Shortest.{Field, fixed, name, lastFields, fieldsOf, isName, textsOf, writtenOut, Names, NoneShorter, ShortestReply, ShortestIn, sample, LongerReply, ended, label, pointer, done, field, named, ShortestAnswerOver, ShortestAnswer, ShortestCall}
-use Rattle.shortest.proofs.Laws.Least.{written, least, fields-one}
+use Rattle.shortest.specs.Internal.ByField.{written}
+use Rattle.shortest.proofs.Laws.Least.{least, fields-one}
 use Rattle.shortest.proofs.Laws.ReadBack.{says-names}
 
 -- ---- document 01's octets, field by field
