@@ -42,12 +42,13 @@ pub record Placed : Type 0 where
   pub offset : ℕ
   pub text : List ℕ
 
--- a pointer: the top two bits set, then 14 bits of offset
+-- a pointer: the top two bits set, then 14 bits for an offset below 4000h
 abbrev pub pointerAt : ℕ → List ℕ
 pointerAt offset = bigOctets 2 (0xC000 + offset)
 
--- A name's labels, or those left of it, at an offset, after names whose literally written labels are `earlier`: their octets, and what is written literally
--- here. A zero octet ends the name where none is left; a pointer ends it anywhere, at any earlier label whose text to the end of its name is what is left, case included.
+-- A name written at an offset, label by label, after names whose literally written labels are `earlier`: the labels that are left, their octets, and which of
+-- them are written literally. It ends with a zero octet where none is left, or anywhere with one pointer: to any of `earlier` from which the text to the end of
+-- its name is what is left, case included.
 pub data NameWritten (earlier : List Placed) : ℕ → List (List ℕ) → List ℕ → List Placed → Type 0 where
   ended : {at : ℕ} → NameWritten earlier at [] (0 ∷ []) []
   label : {at : ℕ} {l : List ℕ} {ls : List (List ℕ)} {s : List ℕ} {own : List Placed} → NameWritten earlier (at + (1 + length l)) ls s own
@@ -78,16 +79,8 @@ textsOf [] = []
 textsOf (fixed s ∷ fields) = textsOf fields
 textsOf (name text ∷ fields) = text ∷ textsOf fields
 
--- how many octets fields take with no pointer, at the most: a name two more than its text, for its first label's length and the zero octet
-abbrev pub writtenOut : List Field → ℕ
-writtenOut [] = 0
-writtenOut (fixed s ∷ fields) = length s + writtenOut fields
-writtenOut (name text ∷ fields) = 2 + length text + writtenOut fields
-
--- texts that are names, and 14 bits of offset reach every octet; an EX with nine names of 253 octets takes 2,344
-pub record Names (fields : List Field) : Type 0 where
-  pub each : all isName (textsOf fields) ≡ true
-  pub reached : writtenOut fields ≤ 0x4000
+abbrev pub AreNames : Form → Reply → Type 0
+AreNames form r = all isName (textsOf (fieldsOf form r)) ≡ true
 
 -- the walk from a name's first octet gives its labels, by some number of pointers
 abbrev pub Read : List ℕ → Placed → Type 0
@@ -98,35 +91,34 @@ pub record SaysNames (fields : List Field) (s : List ℕ) (places : List Placed)
   pub texts : map (λ n. n .text) places ≡ textsOf fields
   pub reads : (n : Placed) → Among n places → Read s n
 
--- s is one of the replies that say r in a form, none of them is shorter, and all say the same
-pub record IsShortest (form : Form) (r : Reply) (s : List ℕ) : Type 0 where
-  pub places : List Placed
-  pub one : Compared form r s places
-  pub least : (other : List ℕ) (at : List Placed) → Compared form r other at → length s ≤ length other
-  pub same : (other : List ℕ) (at : List Placed) → Compared form r other at → SaysNames (fieldsOf form r) other at
+-- document 01's octets are one of them, where the 14 bits of a pointer reach each
+abbrev pub DocumentReplyCompared : Type 0
+DocumentReplyCompared = (form : Form) (r : Reply) → length (octetsIn form r) ≤ 0x4000 → (places : List Placed) × Compared form r (octetsIn form r) places
 
--- none is shorter than document 01's octets, for any texts whatever that are names
+-- none of them is shorter, for any texts whatever that are names
 abbrev pub NoneShorter : Type 0
-NoneShorter =
-    (form : Form) (r : Reply) → all isName (textsOf (fieldsOf form r)) ≡ true → (other : List ℕ) (places : List Placed) → Compared form r other places → length (octetsIn form r) ≤ length other
+NoneShorter = (form : Form) (r : Reply) → AreNames form r → (other : List ℕ) (places : List Placed) → Compared form r other places → length (octetsIn form r) ≤ length other
 
--- and where pointers reach every octet, document 01's are one of them
-abbrev pub ShortestReply : Type 0
-ShortestReply = (form : Form) (r : Reply) → Names (fieldsOf form r) → IsShortest form r (octetsIn form r)
+-- and all of them say the same
+abbrev pub AllReadBack : Type 0
+AllReadBack = (form : Form) (r : Reply) → AreNames form r → (other : List ℕ) (places : List Placed) → Compared form r other places → SaysNames (fieldsOf form r) other places
 
--- a reply r in its form, whose octets are s
-abbrev pub ShortestIn : Form → ℕ → Reply → List ℕ → Type 0
-ShortestIn form v r s = IsShortest form r s
+-- a reply r in its form, whose octets s are one of these, with none that is shorter, and all say the same
+pub record Shortest (form : Form) (v : ℕ) (r : Reply) (s : List ℕ) : Type 0 where
+  pub places : List Placed
+  pub compared : Compared form r s places
+  pub least : (other : List ℕ) (at : List Placed) → Compared form r other at → length s ≤ length other
+  pub readBack : (other : List ℕ) (at : List Placed) → Compared form r other at → SaysNames (fieldsOf form r) other at
 
 -- so of every answer: over a table, of the whole's, and of the octets that the answering call leaves
 abbrev pub ShortestAnswerOver : Type 0
-ShortestAnswerOver = EveryAnswerOver (ReplyIs ShortestIn)
+ShortestAnswerOver = EveryAnswerOver (ReplyIs Shortest)
 
 abbrev pub ShortestAnswer : Type 0
-ShortestAnswer = EveryAnswer (ReplyIs ShortestIn)
+ShortestAnswer = EveryAnswer (ReplyIs Shortest)
 
 abbrev pub ShortestCall : Type 0
-ShortestCall = EveryReply (λ form v r s len. ShortestIn form v r s)
+ShortestCall = EveryReply (λ form v r s len. Shortest form v r s)
 
 -- ---- one that is longer
 
@@ -175,7 +167,7 @@ samplePlaces =
     record { offset = 40; text = 0x61 ∷ [] } ∷ record { offset = 43; text = 0x62 ∷ 0x2E ∷ 0x61 ∷ [] } ∷ record { offset = 48; text = 0x62 ∷ 0x2E ∷ 0x61 ∷ [] } ∷ []
 
 pub record LongerReply : Type 0 where
-  pub names : Names (fieldsOf Response sample)
+  pub names : AreNames Response sample
   pub document : octetsIn Response sample ≡ sampleShortest
-  pub one : Compared Response sample sampleLonger samplePlaces
+  pub compared : Compared Response sample sampleLonger samplePlaces
   pub longer : length (octetsIn Response sample) < length sampleLonger

@@ -11,11 +11,10 @@ use Rattle.octets.specs.Label.{labels, joined}
 use Rattle.octets.specs.Lists.{isSome}
 use Rattle.octets.specs.Number.{bigOctets, littleOctets}
 use Rattle.octets.specs.Text.{same}
-use Rattle.octets.proofs.Laws.Label.{Plain, size, size-positive, size-labels}
+use Rattle.octets.proofs.Laws.Label.{Plain}
 use Rattle.octets.proofs.Laws.Lists.{Every, every-append, every-weaken, found, true-not-false}
 use Rattle.octets.proofs.Laws.Text.{same-equal}
-use Rattle.names.proofs.Laws.Name.{labels-short}
-use Rattle.shortest.specs.Shortest.{Field, fixed, name, Placed, NameWritten, ended, label, pointer, FieldsWritten, done, field, named, textsOf, writtenOut}
+use Rattle.shortest.specs.Shortest.{Field, fixed, name, Placed, NameWritten, ended, label, pointer, FieldsWritten, done, field, named, textsOf}
 use Rattle.shortest.specs.Internal.ByField.{written}
 use Rattle.shortest.proofs.Laws.Endings.{find, Holds, HoldsEndings, Closed, endings-held, closed-after, holds-before}
 
@@ -80,7 +79,7 @@ least tails from closed h plain (named {earlier = earlier} {own = own} {text = t
     let rest = least all (from + length (now .octets)) (closed-after tails from (labels text) (plain .0) closed) (every-append (λ n. Holds all (n .text)) earlier own before after) (plain .1) w in
     simp length-append (omega (arith, name-least tails from h one))
 
--- ---- it is one of them
+-- ---- document 01's reply is one of them
 
 -- a tail, as a literally written label
 abbrev pub literal : Tail → Placed
@@ -95,11 +94,11 @@ among-self (t ∷ tails) =
 abbrev Low : Tail → Type 0
 Low t = t .offset < 0x4000
 
-name-one : (tails : List Tail) (at : ℕ) (ls : List (List ℕ)) → Every Low tails
+name-compared : (tails : List Tail) (at : ℕ) (ls : List (List ℕ)) → Every Low tails
     → NameWritten (map literal tails) at ls (writeLabels tails at ls .octets) (map literal (writeLabels tails at ls .tails))
 unfolding writeLabels literalLabel pointerTo
-name-one tails at [] low = ended
-name-one tails at (l ∷ ls) low = go (find tails text) refl (name-one tails (at + (1 + length l)) ls low)
+name-compared tails at [] low = ended
+name-compared tails at (l ∷ ls) low = go (find tails text) refl (name-compared tails (at + (1 + length l)) ls low)
   where
     text : List ℕ
     text = joined (l ∷ ls)
@@ -117,27 +116,33 @@ name-one tails at (l ∷ ls) low = go (find tails text) refl (name-one tails (at
         let there = found (λ t. same (t .text) text) (λ t. Among (literal t) (map literal tails)) tails t (among-self tails) q in
         pointer {t = literal t} (there .0) (same-equal (t .text) text (there .1)) (found (λ t. same (t .text) text) Low tails t low q .0)
 
--- the tails of a name stand within its labels
-own-low : (tails : List Tail) (at : ℕ) (ls : List (List ℕ)) → at + size ls ≤ 0x4000 → Every Low (writeLabels tails at ls .tails)
-unfolding writeLabels
+-- the tails of a name stand within its octets
+own-low : (tails : List Tail) (at : ℕ) (ls : List (List ℕ)) → at + length (writeLabels tails at ls .octets) ≤ 0x4000 → Every Low (writeLabels tails at ls .tails)
+unfolding writeLabels literalLabel
 own-low tails at [] room = tt
-own-low tails at (l ∷ ls) room = go (find tails (joined (l ∷ ls))) (own-low tails (at + (1 + length l)) ls (omega arith))
+own-low tails at (l ∷ ls) room = go (find tails (joined (l ∷ ls))) room (λ h. own-low tails (at + (1 + length l)) ls h)
   where
     rest : Writing
     rest = writeLabels tails (at + (1 + length l)) ls
 
-    go : (f : Option Tail) → Every Low (rest .tails) → Every Low (pointerOr f (literally at (joined (l ∷ ls)) l rest) .tails)
-    go none r = (omega (arith, size-positive ls), r)
-    go (some t) r = tt
+    here : Writing
+    here = literally at (joined (l ∷ ls)) l rest
 
-pub fields-one : (fields : List Field) (tails : List Tail) (at : ℕ) → Every Low tails → at + writtenOut fields ≤ 0x4000
+    go : (f : Option Tail) → at + length (pointerOr f here .octets) ≤ 0x4000 → (at + (1 + length l) + length (rest .octets) ≤ 0x4000 → Every Low (rest .tails)) → Every Low (pointerOr f here .tails)
+    go none h r = let n : length (l ++ rest .octets) ≡ length l + length (rest .octets) = length-append l (rest .octets) in (omega arith, r (omega arith))
+    go (some t) h r = tt
+
+pub fields-compared : (fields : List Field) (tails : List Tail) (at : ℕ) → Every Low tails → at + length (written tails at fields) ≤ 0x4000
     → (places : List Placed) × FieldsWritten (map literal tails) at fields (written tails at fields) places
 unfolding written writeName
-fields-one [] tails at low room = ([], done)
-fields-one (fixed s ∷ fields) tails at low room = let rest = fields-one fields tails (at + length s) low (omega arith) in (rest .0, field (rest .1))
-fields-one (name text ∷ fields) tails at low room =
+fields-compared [] tails at low room = ([], done)
+fields-compared (fixed s ∷ fields) tails at low room =
+    let n : length (s ++ written tails (at + length s) fields) ≡ length s + length (written tails (at + length s) fields) = length-append s (written tails (at + length s) fields) in
+    let rest = fields-compared fields tails (at + length s) low (omega arith) in
+    (rest .0, field (rest .1))
+fields-compared (name text ∷ fields) tails at low room =
     let one : Writing = writeLabels tails at (labels text) in
-    let long : size (labels text) ≤ length text + 2 = size-labels text in
-    let short : length (one .octets) ≤ size (labels text) = labels-short tails at (labels text) in
-    let rest = fields-one fields (tails ++ one .tails) (at + length (one .octets)) (every-append Low tails (one .tails) low (own-low tails at (labels text) (omega arith))) (omega arith) in
-    (record { offset = at; text = text } ∷ rest .0, named (name-one tails at (labels text) low) (rw (map-append literal tails (one .tails)) at (rest .1)))
+    let more : List ℕ = written (tails ++ one .tails) (at + length (one .octets)) fields in
+    let n : length (one .octets ++ more) ≡ length (one .octets) + length more = length-append (one .octets) more in
+    let rest = fields-compared fields (tails ++ one .tails) (at + length (one .octets)) (every-append Low tails (one .tails) low (own-low tails at (labels text) (omega arith))) (omega arith) in
+    (record { offset = at; text = text } ∷ rest .0, named (name-compared tails at (labels text) low) (rw (map-append literal tails (one .tails)) at (rest .1)))

@@ -1,16 +1,16 @@
 -- #113 is proved: of both forms, for any texts that are names, and so of every answer.
 use mathlib.Core.Path.{_≡_, refl, sym, ap, ap₂, _∙_}
-use mathlib.Core.Bool.{Bool, true, false}
+use mathlib.Core.Bool.{true}
 use mathlib.Core.List.{List, [], _∷_, _++_, map, append-nil, append-assoc, List·Memᴰ·head, List·Memᴰ·tail}
 use mathlib.Core.Option.{Option, none, some}
 use Prim.Native.Nat.{ℕ, _+_, _≤_}
 use native.Mathlib.Nat.{zero-add}
 use native.Mathlib.Omega.{arith}
-use lib.ListN.{length, length-append, length-replicate}
+use lib.ListN.{length, length-append}
 use borrow.Author.Tests.{le-leb}
 use Rattle.answers.specs.declared.Form.{Form}
 use Rattle.answers.specs.declared.Form.the-variants.{Nt40, Response, Ex}
-use Rattle.answers.specs.Wire.{responseVersion, exVersion, exVersionWithNextSite, sin-family}
+use Rattle.answers.specs.Wire.{responseVersion, exVersion, exVersionWithNextSite}
 use Rattle.names.specs.Name.{Tail, Writing, pointerTo, literalLabel, writeLabels, writeName, writeNames}
 use Rattle.octets.specs.Label.{parts, labels, joined}
 use Rattle.octets.specs.Lists.{all, first}
@@ -18,23 +18,21 @@ use Rattle.octets.specs.NameRule.{sized}
 use Rattle.octets.specs.Number.{bigOctets, littleOctets}
 use Rattle.octets.specs.Text.{same}
 use Rattle.octets.proofs.Laws.Label.{Plain, Dotless, labels-plain}
-use Rattle.octets.proofs.Laws.Lists.{Every, every-all, all-every, every-weaken}
+use Rattle.octets.proofs.Laws.Lists.{Every, every-all, all-every, every-weaken, every-append}
 use Rattle.octets.proofs.Laws.NameRule.{Writable}
-use Rattle.octets.proofs.Laws.Number.{length-little}
 use Rattle.octets.proofs.Laws.Text.{within-low, within-high}
 use Rattle.reply.specs.Reply.{Reply, u32, text16, ending, opening, nt40Octets, responseHead, responseNames, responseOctets, exHead, exNames, addressIf, exLast, exOctets, octetsIn}
 use Rattle.unicode.specs.Utf16.{pointsOctets, utf16}
 use Rattle.unicode.specs.Utf8.{pointsFrom}
 use Rattle.demands.specs.Derivation.{ReplyIs}
 use Rattle.demands.proofs.Laws.Derivation.{every-answer, every-reply}
-use Rattle.demands.proofs.Laws.Forms.{ending-same, ending-length}
-use Rattle.demands.proofs.Laws.Forms.Ex.{ex-plain, ex-head}
+use Rattle.demands.proofs.Laws.Forms.Ex.{ex-plain, ex-length}
 use Rattle.demands.proofs.Laws.Forms.Nt40.{nt40-length}
-use Rattle.demands.proofs.Laws.Forms.Response.{response-plain, response-head}
+use Rattle.demands.proofs.Laws.Forms.Response.{response-plain, response-length}
 use Rattle.demands.proofs.Laws.Sound.{Sound, every-sound}
-use Rattle.shortest.specs.Shortest.{Field, fixed, name, lastFields, fieldsOf, isName, textsOf, writtenOut, Names, NoneShorter, ShortestReply, ShortestIn, sample, LongerReply, ended, label, pointer, done, field, named, ShortestAnswerOver, ShortestAnswer, ShortestCall}
+use Rattle.shortest.specs.Shortest.{Field, fixed, name, lastFields, fieldsOf, ended, label, pointer, done, field, named, isName, textsOf, AreNames, DocumentReplyCompared, NoneShorter, AllReadBack, Shortest, ShortestAnswerOver, ShortestAnswer, ShortestCall, sample, LongerReply}
 use Rattle.shortest.specs.Internal.ByField.{written}
-use Rattle.shortest.proofs.Laws.Least.{least, fields-one}
+use Rattle.shortest.proofs.Laws.Least.{least, fields-compared}
 use Rattle.shortest.proofs.Laws.ReadBack.{says-names}
 
 -- ---- document 01's octets, field by field
@@ -101,79 +99,50 @@ plain-names texts h =
     (every-weaken (λ l. (1 ≤ length l) × (length l ≤ 63) × Dotless l) (λ l. sized 1 63 l ≡ true) (λ l q. rw (le-leb 1 (length l) (q .0), le-leb (length l) 63 (q .1))) (labels text) p))
     texts h)
 
+module _ (form : Form) (r : Reply) (names : AreNames form r) where
+  form-plain : Every (λ text. Plain (labels text)) (textsOf (fieldsOf form r))
+  form-plain = names-plain (textsOf (fieldsOf form r)) names
+
+pub document-reply-compared : DocumentReplyCompared
+document-reply-compared form r room = rw (by-fields form r) (fields-compared (fieldsOf form r) [] 0 tt (omega (arith, ap length (by-fields form r))))
+
 pub none-shorter : NoneShorter
-none-shorter form r each other places w = rw (by-fields form r) (least [] 0 tt tt (names-plain (textsOf (fieldsOf form r)) each) w)
+none-shorter form r names other places w = rw (by-fields form r) (least [] 0 tt tt (form-plain form r names) w)
 
-pub shortest-reply : ShortestReply
-shortest-reply form r names =
-    let fields : List Field = fieldsOf form r in
-    let one = fields-one fields [] 0 tt (omega (arith, names .reached)) in
-    record {
-      places = one .0;
-      one = rw (by-fields form r) (one .1);
-      least = none-shorter form r (names .each);
-      same = λ other at w. says-names (names .reached) (names-plain (textsOf fields) (names .each)) w;
-    }
+pub all-read-back : AllReadBack
+all-read-back form r names other places w = says-names (form-plain form r names) w
 
--- ---- every answer's are
+-- ---- every answer's texts are names, and its reply is short
 
-ending-short : (version : ℕ) → length (ending version) ≡ 8
-ending-short version = ap length (ending-same version) ∙ ending-length version
+last-plain : (site : Option (List ℕ)) → ((text : List ℕ) → site ≡ some text → Writable 63 text) → Every (λ text. Plain (labels text)) (textsOf (lastFields site))
+last-plain none h = tt
+last-plain (some text) h = (h text refl .plain, tt)
 
-address-short : (b : Bool) (ipv4 : List ℕ) → length ipv4 ≡ 4 → length (addressIf b ipv4) ≤ 17
-address-short true ipv4 e = simp (length-append, length-replicate) (omega (arith, length-little 4 sin-family))
-address-short false ipv4 e = omega arith
+texts-plain : (form : Form) (v : ℕ) (r : Reply) → Sound form v r → Every (λ text. Plain (labels text)) (textsOf (fieldsOf form r))
+texts-plain Nt40 v r k = tt
+texts-plain Response v r k = response-plain v r k
+texts-plain Ex v r k =
+    every-append (λ text. Plain (labels text)) (exNames r) (textsOf (lastFields (r .nextSite))) (ex-plain v r k) (last-plain (r .nextSite) (λ text e. k .nextSite text e .0))
 
-module _ (v : ℕ) (r : Reply) where
-  response-names : Sound Response v r → Names (fieldsOf Response r)
-  response-names k =
-      let end : length (r .ipv4 ++ u32 (r .flags) ++ ending responseVersion) ≤ 16 = simp length-append (omega (arith, k .ipv4, length-little 4 (r .flags), ending-short responseVersion)) in
-      record {
-        each = plain-names (responseNames r) (response-plain v r k);
-        reached = omega (arith, response-head v r k, k .forest .short, k .dns .short, k .host .short);
-      }
+short : (form : Form) (v : ℕ) (r : Reply) → Sound form v r → length (octetsIn form r) ≤ 0x4000
+short Nt40 v r k = omega (arith, nt40-length v r k)
+short Response v r k = omega (arith, response-length v r k)
+short Ex v r k = omega (arith, ex-length v r k)
 
-  -- name 8 and the version
-  last-names : (site : Option (List ℕ)) → ((text : List ℕ) → site ≡ some text → Writable 63 text) → Every (λ text. Plain (labels text)) (textsOf (lastFields site)) × (writtenOut (lastFields site) ≤ 73)
-  last-names none h = (tt, omega (arith, ending-short exVersion))
-  last-names (some text) h = ((h text refl .plain, tt), omega (arith, h text refl .short, ending-short exVersionWithNextSite))
-
-  ex-names : Sound Ex v r → Names (fieldsOf Ex r)
-  ex-names k =
-      let last = last-names (r .nextSite) (λ text e. k .nextSite text e .0) in
-      let p = ex-plain v r k in
-      record {
-        each = plain-names (textsOf (fieldsOf Ex r)) (p .0, (p .1 .0, (p .1 .1 .0, (p .1 .1 .1 .0, (p .1 .1 .1 .1 .0, (p .1 .1 .1 .1 .1 .0, (p .1 .1 .1 .1 .1 .1 .0, (p .1 .1 .1 .1 .1 .1 .1 .0, last .0))))))));
-        reached =
-            omega (
-              arith,
-              ex-head v r k,
-              k .forest .short,
-              k .dns .short,
-              k .host .short,
-              k .netbios .short,
-              k .server .short,
-              k .userShort,
-              k .ownSite .short,
-              k .clientSite .short,
-              address-short (r .withAddress) (r .ipv4) (k .ipv4),
-              last .1,
-            );
-      }
-
-sound-names : (form : Form) (v : ℕ) (r : Reply) → Sound form v r → Names (fieldsOf form r)
-sound-names Nt40 v r k = record { each = plain-names [] tt; reached = omega (arith, nt40-length v r k) }
-sound-names Response v r k = response-names v r k
-sound-names Ex v r k = ex-names v r k
+shortest : (form : Form) (v : ℕ) (r : Reply) → Sound form v r → Shortest form v r (octetsIn form r)
+shortest form v r k =
+    let names : AreNames form r = plain-names (textsOf (fieldsOf form r)) (texts-plain form v r k) in
+    let one = document-reply-compared form r (short form v r k) in
+    record { places = one .0; compared = one .1; least = none-shorter form r names; readBack = all-read-back form r names }
 
 pub shortest-answer-over : ShortestAnswerOver
-shortest-answer-over = every-sound ShortestIn (λ form v r k. shortest-reply form r (sound-names form v r k))
+shortest-answer-over = every-sound Shortest shortest
 
 pub shortest-answer : ShortestAnswer
-shortest-answer = every-answer (ReplyIs ShortestIn) shortest-answer-over
+shortest-answer = every-answer (ReplyIs Shortest) shortest-answer-over
 
 pub shortest-call : ShortestCall
-shortest-call = every-reply ShortestIn (λ form v r s len. ShortestIn form v r s) shortest-answer (λ form v r s h. h)
+shortest-call = every-reply Shortest (λ form v r s len. Shortest form v r s) shortest-answer (λ form v r s h. h)
 
 -- ---- the longer one
 
@@ -181,8 +150,12 @@ pub longer-reply : LongerReply
 unfolding all parts labels joined responseOctets responseHead opening text16 utf16 pointsOctets pointsFrom ending writeNames writeName writeLabels first same pointerTo literalLabel bigOctets littleOctets
 longer-reply =
     record {
-      names = record { each = refl; reached = omega arith };
+      names = refl;
       document = refl;
-      one = field (named (label ended) (named (label (label ended)) (named (pointer {t = record { offset = 43; text = sample .dns }} (List·Memᴰ·tail (List·Memᴰ·head refl)) refl (omega arith)) (field done))));
+      compared =
+          field
+          (named (label ended)
+          (named (label (label ended))
+          (named (pointer {t = record { offset = 43; text = sample .dns }} (List·Memᴰ·tail (List·Memᴰ·head refl)) refl (omega arith)) (field done))));
       longer = omega arith;
     }
