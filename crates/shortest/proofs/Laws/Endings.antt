@@ -1,17 +1,16 @@
 -- After each name the writer's tails are all endings of the names so far: each ending was written literally once, or was pointed to, and then it was there.
-use mathlib.Core.Path.{_≡_, refl, ap, _∙_}
+use mathlib.Core.Path.{_≡_, refl, sym, ap, _∙_}
 use mathlib.Core.Bool.{Bool, true, false}
 use mathlib.Core.List.{List, [], _∷_, _++_, append-nil}
 use mathlib.Core.Option.{Option, none, some}
 use Prim.Native.Nat.{ℕ, _+_}
-use native.Mathlib.Omega.{arith}
 use lib.ListN.{length}
 use Rattle.names.specs.Name.{Tail, Writing, literally, pointerOr, writeLabels}
 use Rattle.octets.specs.Label.{labels, joined}
 use Rattle.octets.specs.Lists.{first, firstOr, isSome}
 use Rattle.octets.specs.Text.{same}
 use Rattle.octets.proofs.Laws.Label.{Plain, labels-joined}
-use Rattle.octets.proofs.Laws.Lists.{Every, every-append, every-weaken, found, orElse, first-append}
+use Rattle.octets.proofs.Laws.Lists.{Every, every-append, every-weaken, found, orElse, first-append, true-not-false}
 use Rattle.octets.proofs.Laws.Text.{same-equal, same-self}
 
 -- a tail with this text is there: the writer's search finds one
@@ -37,7 +36,7 @@ endings-more a b more [] h = tt
 endings-more a b more (l ∷ ls) h = (more (joined (l ∷ ls)) (h .0), endings-more a b more ls (h .1))
 
 either-some : (x y : Option Tail) → isSome x ≡ true → isSome (orElse x y) ≡ true
-either-some none y e = let z : _≡_ {A = ℕ} 0 1 = cc in absurd (omega arith)
+either-some none y e = absurd (true-not-false (sym e))
 either-some (some t) y e = refl
 
 pub holds-before : (a b : List Tail) (text : List ℕ) → Holds a text → Holds (a ++ b) text

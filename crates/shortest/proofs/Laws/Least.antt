@@ -16,11 +16,8 @@ use Rattle.octets.proofs.Laws.Lists.{Every, every-append, every-weaken, found, 
 use Rattle.octets.proofs.Laws.Text.{same-equal}
 use Rattle.shortest.specs.Shortest.{Field, fixed, name, Placed, NameWritten, ended, label, pointer, FieldsWritten, done, field, named, textsOf}
 use Rattle.shortest.specs.Internal.ByField.{written}
+use Rattle.shortest.proofs.Laws.ReadBack.{every-among}
 use Rattle.shortest.proofs.Laws.Endings.{find, Holds, HoldsEndings, Closed, endings-held, closed-after, holds-before}
-
-pub every-among : {A : Type 0} (P : A → Type 0) {x : A} {xs : List A} → Every P xs → Among x xs → P x
-every-among P h (List·Memᴰ·head e) = subst P (sym e) (h .0)
-every-among P h (List·Memᴰ·tail m) = every-among P (h .1) m
 
 -- ---- none is shorter
 

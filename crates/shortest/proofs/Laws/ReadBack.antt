@@ -12,7 +12,11 @@ use Rattle.octets.specs.Label.{labels, joined}
 use Rattle.octets.proofs.Laws.Label.{Plain, labels-joined}
 use Rattle.octets.proofs.Laws.Lists.{Every, every-append}
 use Rattle.shortest.specs.Shortest.{Field, Placed, NameWritten, ended, label, pointer, FieldsWritten, done, field, named, textsOf, SaysNames}
-use Rattle.shortest.proofs.Laws.Least.{every-among}
+
+-- what holds of each holds of one among them
+pub every-among : {A : Type 0} (P : A → Type 0) {x : A} {xs : List A} → Every P xs → Among x xs → P x
+every-among P h (List·Memᴰ·head e) = subst P (sym e) (h .0)
+every-among P h (List·Memᴰ·tail m) = every-among P (h .1) m
 
 -- a literally written label, as a tail
 abbrev tail : Placed → Tail

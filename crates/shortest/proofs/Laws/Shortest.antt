@@ -99,18 +99,14 @@ plain-names texts h =
     (every-weaken (λ l. (1 ≤ length l) × (length l ≤ 63) × Dotless l) (λ l. sized 1 63 l ≡ true) (λ l q. rw (le-leb 1 (length l) (q .0), le-leb (length l) 63 (q .1))) (labels text) p))
     texts h)
 
-module _ (form : Form) (r : Reply) (names : AreNames form r) where
-  form-plain : Every (λ text. Plain (labels text)) (textsOf (fieldsOf form r))
-  form-plain = names-plain (textsOf (fieldsOf form r)) names
-
 pub document-reply-compared : DocumentReplyCompared
 document-reply-compared form r room = rw (by-fields form r) (fields-compared (fieldsOf form r) [] 0 tt (omega (arith, ap length (by-fields form r))))
 
 pub none-shorter : NoneShorter
-none-shorter form r names other places w = rw (by-fields form r) (least [] 0 tt tt (form-plain form r names) w)
+none-shorter form r names other places w = rw (by-fields form r) (least [] 0 tt tt (names-plain (textsOf (fieldsOf form r)) names) w)
 
 pub all-read-back : AllReadBack
-all-read-back form r names other places w = says-names (form-plain form r names) w
+all-read-back form r names other places w = says-names (names-plain (textsOf (fieldsOf form r)) names) w
 
 -- ---- every answer's texts are names, and its reply is short
 
