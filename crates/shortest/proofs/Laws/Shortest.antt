@@ -30,7 +30,7 @@ use Rattle.demands.proofs.Laws.Forms.Ex.{ex-plain, ex-length}
 use Rattle.demands.proofs.Laws.Forms.Nt40.{nt40-length}
 use Rattle.demands.proofs.Laws.Forms.Response.{response-plain, response-length}
 use Rattle.demands.proofs.Laws.Sound.{Sound, every-sound}
-use Rattle.shortest.specs.Shortest.{Field, fixed, name, lastFields, fieldsOf, ended, label, pointer, done, field, named, isName, textsOf, AreNames, DocumentReplyCompared, NoneShorter, AllReadBack, Shortest, ShortestAnswerOver, ShortestAnswer, ShortestCall, sample, LongerReply}
+use Rattle.shortest.specs.Shortest.{Field, fixed, name, lastFields, fieldsOf, ended, label, pointer, done, field, named, isName, textsOf, AreNames, DocumentReplyCompared, NoneShorter, AllReadBack, Shortest, ShortestAnswerOver, ShortestAnswer, ShortestCall, sample, LongerResponse, LongerEx}
 use Rattle.shortest.specs.Internal.ByField.{written}
 use Rattle.shortest.proofs.Laws.Least.{least, fields-compared}
 use Rattle.shortest.proofs.Laws.ReadBack.{says-names}
@@ -140,18 +140,36 @@ shortest-answer = every-answer (ReplyIs Shortest) shortest-answer-over
 pub shortest-call : ShortestCall
 shortest-call = every-reply Shortest (λ form v r s len. Shortest form v r s) shortest-answer (λ form v r s h. h)
 
--- ---- the longer one
+-- ---- the longer ones
 
-pub longer-reply : LongerReply
+pub longer-response : LongerResponse
 unfolding all parts labels joined responseOctets responseHead opening text16 utf16 pointsOctets pointsFrom ending writeNames writeName writeLabels first same pointerTo literalLabel bigOctets littleOctets
-longer-reply =
+longer-response =
     record {
       names = refl;
-      document = refl;
+      written = refl;
+      places = _;
       compared =
           field
           (named (label ended)
           (named (label (label ended))
-          (named (pointer {t = record { offset = 43; text = sample .dns }} (List·Memᴰ·tail (List·Memᴰ·head refl)) refl (omega arith)) (field done))));
+          (named (pointer {t = record { offset = 43; text = sample 19 .dns }} (List·Memᴰ·tail (List·Memᴰ·head refl)) refl (omega arith)) (field done))));
+      longer = omega arith;
+    }
+
+pub longer-ex : LongerEx
+unfolding all parts labels joined exOctets exHead ending writeNames writeName writeLabels first same pointerTo literalLabel bigOctets littleOctets
+longer-ex =
+    record {
+      names = refl;
+      written = refl;
+      places = _;
+      compared =
+          field
+          (named (label ended)
+          (named (label (label ended))
+          (named (pointer {t = record { offset = 27; text = sample 23 .dns }} (List·Memᴰ·tail (List·Memᴰ·head refl)) refl (omega arith))
+          (named ended (named ended (named ended (named ended (named ended
+          (field (named (pointer {t = record { offset = 24; text = sample 23 .forest }} (List·Memᴰ·head refl) refl (omega arith)) (field done)))))))))));
       longer = omega arith;
     }
