@@ -47,8 +47,9 @@ pub record Written (k run at : ℕ) (ls : List (List ℕ)) (s : List ℕ) (ts : 
   pub walks : Walks s run at ls count (length s)
   pub ready : Every (Ready (suc k) (length s) s) ts
 
-ended : (k run : ℕ) (p : List ℕ) → Written k run (length p) [] (p ++ (0 ∷ [])) []
-ended k run p =
+-- its last octet, after p
+pub end-written : (k run : ℕ) (p : List ℕ) → Written k run (length p) [] (p ++ (0 ∷ [])) []
+end-written k run p =
     let s : List ℕ = p ++ (0 ∷ []) in
     let n : length s ≡ length p + 1 = simp length-append in
     let h : length p < length s = omega arith in
@@ -67,13 +68,14 @@ pointer-there p t h =
     let m : (0xC000 + t) % 0x4000 ≡ t = omega arith in
     look-pointer s (length p) t (n, ap (λ (z : ℕ). z / 64) x ∙ y, ap (λ (z : List ℕ). big z % 0x4000) c ∙ ap (λ (z : ℕ). z % 0x4000) e ∙ m)
 
-pointed : (k run : ℕ) (p : List ℕ) (t : Tail) (ls : List (List ℕ)) → labels (t .text) ≡ ls → run ≤ 0x4000 → Ready k run p t → Written k run (length p) ls (p ++ pointerTo (t .offset)) []
+-- a pointer to a tail that is ready, after p
+pub pointer-written : (k run : ℕ) (p : List ℕ) (t : Tail) (ls : List (List ℕ)) → labels (t .text) ≡ ls → t .offset < 0x4000 → Ready k run p t → Written k run (length p) ls (p ++ pointerTo (t .offset)) []
 unfolding pointerTo bigOctets littleOctets
-pointed k run p t ls e h r =
+pointer-written k run p t ls e h r =
     let s : List ℕ = p ++ pointerTo (t .offset) in
     let n : length s ≡ length p + 2 = simp length-append in
     let w : Walks s (t .offset) (t .offset) ls (r .count) (r .next) = longer (pointerTo (t .offset)) (rw e at (r .walks)) in
-    let v : Walks s run (length p) ls (suc (r .count)) (length p + 2) = points (pointer-there p (t .offset) (omega arith)) (r .below) w in
+    let v : Walks s run (length p) ls (suc (r .count)) (length p + 2) = points (pointer-there p (t .offset) h) (r .below) w in
     let b : r .count < length ls = rw e at (r .byLabels) in
     record { count = suc (r .count); byPlace = omega arith; byLabels = omega arith; walks = subst (Walks s run (length p) ls (suc (r .count))) (sym n) v; ready = tt }
 
@@ -84,7 +86,8 @@ module _ (k run : ℕ) (p l : List ℕ) (ls : List (List ℕ)) (plain : Plain (l
       let n : length p < length (p ++ (literalLabel l ++ q)) = simp length-append (omega arith) in
       look-label (p ++ (literalLabel l ++ q)) (length p) (length l) (n, getD-append-seam p (length l) (l ++ q) 0, plain .0 .0, plain .0 .1)
 
-  label-written : (q : List ℕ) (ts : List Tail) → run ≤ length p → Written k run (length p + (1 + length l)) ls ((p ++ literalLabel l) ++ q) ts
+  -- a label, after p and before the rest of its name
+  pub label-written : (q : List ℕ) (ts : List Tail) → run ≤ length p → Written k run (length p + (1 + length l)) ls ((p ++ literalLabel l) ++ q) ts
       → Written k run (length p) (l ∷ ls) (p ++ (literalLabel l ++ q)) (record { offset = length p; text = joined (l ∷ ls) } ∷ ts)
   unfolding literalLabel
   label-written q ts h given =
@@ -112,7 +115,7 @@ pub labels-written : (earlier : List Tail) (k run : ℕ) (ls : List (List ℕ)) 
     → Every (Ready k run p) earlier → Plain ls
     → Written k run at ls (p ++ writeLabels earlier at ls .octets) (writeLabels earlier at ls .tails)
 unfolding writeLabels
-labels-written earlier k run [] p at e h room ready plain = subst (λ (x : ℕ). Written k run x [] (p ++ (0 ∷ [])) []) e (ended k run p)
+labels-written earlier k run [] p at e h room ready plain = subst (λ (x : ℕ). Written k run x [] (p ++ (0 ∷ [])) []) e (end-written k run p)
 labels-written earlier k run (l ∷ ls) p at e h room ready plain =
     let n : length (p ++ literalLabel l) ≡ at + (1 + length l) = unfold literalLabel in simp length-append (omega arith) in
     go (first (λ t. same (t .text) (joined (l ∷ ls))) earlier) refl
@@ -135,7 +138,7 @@ labels-written earlier k run (l ∷ ls) p at e h room ready plain =
     go (some t) q w =
         let f : Ready k run p t × (same (t .text) (joined (l ∷ ls)) ≡ true) = found (λ t. same (t .text) (joined (l ∷ ls))) (Ready k run p) earlier t ready q in
         let x : labels (t .text) ≡ l ∷ ls = ap labels (same-equal (t .text) (joined (l ∷ ls)) (f .1)) ∙ labels-joined (l ∷ ls) plain in
-        subst (λ (y : ℕ). Written k run y (l ∷ ls) (p ++ pointerTo (t .offset)) []) e (pointed k run p t (l ∷ ls) x (omega arith) (f .0))
+        subst (λ (y : ℕ). Written k run y (l ∷ ls) (p ++ pointerTo (t .offset)) []) e (pointer-written k run p t (l ∷ ls) x (omega (arith, f .0 .below)) (f .0))
 
 -- ---- how long names are
 

@@ -1,0 +1,4 @@
+pub mod ReadBack
+pub mod Endings
+pub mod Least
+pub mod Shortest
