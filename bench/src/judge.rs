@@ -8,10 +8,10 @@ pub fn long_name(k: usize) -> Vec<u8> {
     format!("{:059}{:04}", 0, k).into_bytes()
 }
 
-/// The same in letters of two octets, whose case goes by the number.
-fn accented_name(k: usize) -> Vec<u8> {
+/// The same with so many letters of two octets before them, whose case goes by the number.
+pub fn accented_name(letters: usize, k: usize) -> Vec<u8> {
     let letter = if k % 2 == 0 { "ø" } else { "Ø" };
-    format!("{}{:05}", letter.repeat(29), k).into_bytes()
+    format!("{}{:0width$}", letter.repeat(letters), k, width = 63 - 2 * letters).into_bytes()
 }
 
 /// Orders of subnets, each number once.
@@ -54,8 +54,9 @@ fn images() -> Vec<(&'static str, Image, u8)> {
         ("128 blocks, accounts that differ at the end", Image::of_users(|k| long_name(k * 7919 % 1000)), 0),
         ("128 blocks, the same in order", Image::of_users(long_name), 0),
         ("128 blocks, the same in falling order", Image::of_users(|k| long_name(999 - k)), 0),
-        ("128 blocks, accented accounts in one case", Image::of_users(|k| accented_name(k * 7919 % 1000 * 2)), 0),
-        ("128 blocks, accented accounts in either case", Image::of_users(|k| accented_name(k * 7919 % 1000)), 0),
+        ("128 blocks, accented accounts in one case", Image::of_users(|k| accented_name(29, k * 7919 % 1000 * 2)), 0),
+        ("128 blocks, accented accounts in either case", Image::of_users(|k| accented_name(29, k * 7919 % 1000)), 0),
+        ("128 blocks, an accent first in either case", Image::of_users(|k| accented_name(1, k * 7919 % 1000)), 0),
         ("128 blocks, the last account twice", Image::of_users(|k| long_name(k.min(USERS - 2))), 4),
     ]
 }

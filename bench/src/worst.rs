@@ -1,7 +1,7 @@
 //! What each public call costs at worst: of several inputs that could be its worst, the one of the most instructions, with its time
 //! and the most stack that any of them takes.
 use crate::image::{Image, Laden, Order};
-use crate::judge::{falling, mixed};
+use crate::judge::{accented_name, falling, mixed};
 use crate::measure::{instructions, medians_of, run_counted, stack, Call};
 use crate::pings::{element, equality, worst_filter, CLIENT, EX_VERSION};
 use crate::replies::{longest, with_text, worst_ex, Name, LABELS_MOST, LETTER, LONG, PAIR};
@@ -63,6 +63,10 @@ fn judgements() -> Worst {
     let mut images: Vec<(String, Image)> = tables().into_iter().map(|(input, table)| (input, table.image())).collect();
     images.push(("5,166 subnets, falling".into(), Image::of_subnets(falling)));
     images.push(("5,166 subnets, mixed".into(), Image::of_subnets(mixed)));
+    for letters in [1, 29] {
+        let image = Image::of_users(|k| accented_name(letters, k * 7919 % 1000));
+        images.push((format!("738 accounts, {letters} accented letters in either case"), image));
+    }
     for (input, image) in images {
         assert!(vinegarjar::judge(image.octets()).is_ok(), "{input}");
         worst.add(input, move || {
