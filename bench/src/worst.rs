@@ -154,10 +154,10 @@ fn text(name: Vec<u8>) -> String {
 
 /// A table of names in small letters, and a ping for the last of them in capitals, where there are any.
 fn in_other_case(name: Names) -> (Image, Vec<u8>) {
-    let user = text(name(USERS - 1)).to_uppercase();
+    let user = text(name(scattered(USERS - 1))).to_uppercase();
     let clauses: [(&[u8], &[u8]); 4] =
         [(b"DnsDomain", b"corp.example"), (b"User", user.as_bytes()), (b"AAC", &[0x10, 0, 0, 0]), (b"NtVer", &[0; 4])];
-    (Image::of_users(|k| text(name(k)).to_lowercase().into_bytes()), filter_of(&clauses))
+    (Image::of_users(|k| text(name(scattered(k))).to_lowercase().into_bytes()), filter_of(&clauses))
 }
 
 /// A ping that is answered, with the table judged and with it judged before.
