@@ -1,9 +1,9 @@
 //! What each public call costs at worst: of several inputs that could be its worst, the one of the most instructions, with its time
 //! and the most stack that any of them takes.
-use crate::image::{Image, Laden, Order};
-use crate::judge::{accented_name, falling, mixed};
+use crate::image::{Image, Laden, Order, USERS};
+use crate::judge::{falling, late_names, mixed, scattered, Names};
 use crate::measure::{instructions, medians_of, run_counted, stack, Call};
-use crate::pings::{element, equality, worst_filter, CLIENT, EX_VERSION};
+use crate::pings::{element, equality, filter_of, worst_filter, CLIENT, EX_VERSION};
 use crate::replies::{longest, with_text, worst_ex, Name, LABELS_MOST, LETTER, LONG, PAIR};
 use std::hint::black_box;
 use vinegarjar::{Form, Request, Stretch, Table};
@@ -63,10 +63,7 @@ fn judgements() -> Worst {
     let mut images: Vec<(String, Image)> = tables().into_iter().map(|(input, table)| (input, table.image())).collect();
     images.push(("5,166 subnets, falling".into(), Image::of_subnets(falling)));
     images.push(("5,166 subnets, mixed".into(), Image::of_subnets(mixed)));
-    for letters in [1, 29] {
-        let image = Image::of_users(|k| accented_name(letters, k * 7919 % 1000));
-        images.push((format!("738 accounts, {letters} accented letters in either case"), image));
-    }
+    images.extend(late_names().map(|(input, name)| (format!("738 {input}"), Image::of_users(|k| name(scattered(k))))));
     for (input, image) in images {
         assert!(vinegarjar::judge(image.octets()).is_ok(), "{input}");
         worst.add(input, move || {
@@ -151,22 +148,51 @@ fn written_filters() -> Worst {
     worst
 }
 
-/// The worst ping to each table, in each form. Refused ones cost less: what is refused is not chosen, planned or written.
+fn text(name: Vec<u8>) -> String {
+    String::from_utf8(name).expect("a name is UTF-8")
+}
+
+/// A table of names in small letters, and a ping for the last of them in capitals, where there are any.
+fn in_other_case(name: Names) -> (Image, Vec<u8>) {
+    let user = text(name(scattered(USERS - 1))).to_uppercase();
+    let clauses: [(&[u8], &[u8]); 4] =
+        [(b"DnsDomain", b"corp.example"), (b"User", user.as_bytes()), (b"AAC", &[0x10, 0, 0, 0]), (b"NtVer", &[0; 4])];
+    (Image::of_users(|k| text(name(scattered(k))).to_lowercase().into_bytes()), filter_of(&clauses))
+}
+
+/// A ping that is answered, with the table judged and with it judged before.
+fn add_ping(judged: &mut Worst, accepted: &mut Worst, input: &str, image: Image, filter: Vec<u8>) {
+    let image: &'static [u8] = image.octets().to_vec().leak();
+    let table = Table::new(image).expect("a good table");
+    let (again, [mut reply, mut reply_again]) = (filter.clone(), [[0; vinegarjar::REPLY_MOST]; 2]);
+    assert!(table.answer(CLIENT.into(), &filter, &mut reply).is_ok(), "{input}");
+    judged.add(input, move || {
+        black_box(&vinegarjar::answer_ping(black_box(image), CLIENT.into(), &filter, &mut reply));
+    });
+    accepted.add(input, move || {
+        black_box(&table.answer(CLIENT.into(), black_box(&again), &mut reply_again));
+    });
+}
+
+/// The worst ping to each table, in each form, and to tables of names that are told apart late. Refused ones cost less: what is
+/// refused is not chosen, planned or written.
 fn answers() -> [Worst; 2] {
     let (mut judged, mut accepted) = (Worst::new("answer_ping"), Worst::new("answer_ping, table judged before"));
     for (input, table) in tables() {
-        let image: &'static [u8] = table.image().octets().to_vec().leak();
         for (form, version) in [("NT40", 0), ("RESPONSE", 2), ("EX", EX_VERSION)] {
-            let (filter, table) = (worst_filter(&table, version), Table::new(image).expect("a good table"));
-            let (again, [mut reply, mut reply_again]) = (filter.clone(), [[0; vinegarjar::REPLY_MOST]; 2]);
-            assert!(table.answer(CLIENT.into(), &filter, &mut reply).is_ok(), "{input}");
-            judged.add(format!("{input}, {form}"), move || {
-                black_box(&vinegarjar::answer_ping(black_box(image), CLIENT.into(), &filter, &mut reply));
-            });
-            accepted.add(format!("{input}, {form}"), move || {
-                black_box(&table.answer(CLIENT.into(), black_box(&again), &mut reply_again));
-            });
+            let filter = worst_filter(&table, version);
+            add_ping(&mut judged, &mut accepted, &format!("{input}, {form}"), table.image(), filter);
         }
+    }
+    for (input, name) in late_names() {
+        let (image, filter) = in_other_case(name);
+        add_ping(
+            &mut judged,
+            &mut accepted,
+            &format!("738 {input}, NT40, the last asked for in capitals"),
+            image,
+            filter,
+        );
     }
     [judged, accepted]
 }

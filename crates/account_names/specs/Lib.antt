@@ -1,3 +1,2 @@
 pub mod AccountName
-pub mod FoldTwice
 pub mod Internal

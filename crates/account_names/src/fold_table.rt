@@ -1,5 +1,5 @@
 // What each code point below 530h folds to: statuses C and S of Unicode's CaseFolding.txt.
-pub const FOLD_END: usize = 0x530;
+use folding::fold::FOLD_END;
 
 pub const FOLD_TABLE: [u16; FOLD_END] = [
     0x000,

@@ -1,4 +1,3 @@
-// Account names compared by Unicode's case folding: document 02, #108.
+// Account names compared by Unicode's case folding, and its table: document 02, #108.
 pub mod compare;
-pub mod fold;
-mod fold_table;
+pub mod fold_table;

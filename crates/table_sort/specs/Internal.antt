@@ -1,3 +1,1 @@
 pub mod Swapped
-pub mod Neighbours
-pub mod OrderLikeness

@@ -1,3 +1,2 @@
 // Records sorted, so that those that are alike stand next to each other: document 01, "As a whole".
 pub mod sort;
-pub mod unique;

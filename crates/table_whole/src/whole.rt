@@ -14,7 +14,6 @@ use table::record::RecordKind;
 use table::server;
 use table::site;
 use table::subnet;
-use table_compare::compare::Order;
 use table_records::alike::Likeness;
 use table_records::alike::all_unique;
 use table_records::offset::offsets_of;
@@ -25,7 +24,8 @@ use table_refer::refer::all_sites_refer;
 use table_refer::refer::all_subnets_refer;
 use table_refer::refer::are_in_contexts;
 use table_refer::refer::has_context;
-use table_sort::unique::are_unique;
+use table_unique::unique::are_accounts_unique;
+use table_unique::unique::are_networks_unique;
 
 // Of each kind whose offsets are collected, as many records as the most blocks hold; of subnets it is `subnet::MOST`.
 const CONTEXTS_MOST: usize = context::FORMAT.count * BLOCKS_MOST;
@@ -39,7 +39,7 @@ fn are_accounts_good(image: &[u8], accounts: &mut [u16], contexts: &[u16]) -> bo
     requires { ⌜ AllOf kind.Account (now image) (now accounts) × AllOf kind.Context (now image) (now contexts) ⌝ }
     ensures { λ r. ⌜ r ≡ goodAccounts (tableFrom (now (image .entry))) ⌝ }
 {
-    are_in_contexts(image, accounts, contexts) & are_unique(image, accounts, Order::Accounts)
+    are_in_contexts(image, accounts, contexts) & are_accounts_unique(image, accounts)
 }
 
 fn good_accounts_of(image: &[u8], contexts: &[u16]) -> bool
@@ -123,7 +123,7 @@ fn are_subnets_unique(image: &[u8]) -> bool
 {
     let mut subnets: [u16; subnet::MOST] = [0; subnet::MOST];
     let count = offsets_of(image, RecordKind::Subnet, &mut subnets);
-    are_unique(image, &mut subnets[..count], Order::Subnets)
+    are_networks_unique(image, &mut subnets[..count])
 }
 
 // Whether the table is good as a whole, for an image of a whole block at least.

@@ -1,31 +1,30 @@
--- Laws of the order of account names: which are the same, which come before, and how a pair is read from its ranks on.
+-- Laws of the order of account names: which are the same, which come before, how a pair is read from its ranks on, and what of both is alike.
 use mathlib.Core.Path.{_≡_, refl, sym, ap, ap₂, _∙_, subst}
 use mathlib.Core.Bool.{Bool, true, false, _&&_, and-false}
 use mathlib.Core.List.{List, [], _∷_}
 use mathlib.Core.Option.{Option, none, some}
-use Prim.Native.Nat.{ℕ, zero, suc, _+_, _*_, _%_, _≤_, _<_}
+use Prim.Native.Nat.{ℕ, zero, suc, _+_, _≤_, _<_}
 use native.Mathlib.Nat.{not-suc-le-zero, le-of-suc-le-suc}
 use native.Mathlib.Numerals.{add-one}
 use native.Mathlib.Omega.{arith}
 use lib.ListN.{length, getD, drop, drop-of-length-le}
-use lib.Dec.{leb}
-use lib.Seq.{drop-cons}
-use borrow.Author.Tests.{lt-ltb, le-leb, lt-leb, leb-true}
+use lib.Dec.{eqb, leb, ltb}
+use borrow.Author.Tests.{le-leb, lt-leb, leb-true, lt-ltb, ltb-true, ltb-false, eqb-false}
 use Rattle.octets.specs.Fold.{foldPoint, foldPoints}
 use Rattle.octets.specs.Lists.{isSome, holds}
 use Rattle.octets.specs.Text.{same, lower}
 use Rattle.octets.proofs.Laws.Lists.{none-not-some, true-not-false}
 use Rattle.octets.proofs.Laws.Text.{same-sym, same-equal}
-use Rattle.unicode.specs.Utf8.{lead, pointsFrom, points, isUtf8}
+use Rattle.unicode.specs.Utf8.{points, isUtf8}
 use Rattle.unicode.specs.declared.utf8.PointAt.the-variants.{Bad, Point}
-use Rattle.unicode.specs.Internal.Point.{readableFrom, readable, PointRead, SixBits, LeadAt}
-use Rattle.unicode.proofs.Laws.Point.{two-point, end-points, some-more, readable-points}
+use Rattle.unicode.specs.Internal.Point.{pointLimit, readableFrom, PointRead, CodeRead, sizeOf}
+use Rattle.unicode.proofs.Laws.Point.{lead-one, end-points, some-more, readable-points}
 use Rattle.account_names.specs.declared.compare.Ordering.{Ordering}
 use Rattle.account_names.specs.declared.compare.Ordering.the-variants.{Less, Equal, Greater}
 use Rattle.account_names.specs.AccountName.{foldedText, sameAccountName}
 use Rattle.account_names.specs.Internal.Ordering.{compareNumbers, andThen, compare, isEqual}
-use Rattle.account_names.specs.Internal.NameOrder.{nameKey, equalIf, compareNames, RankRead, AsciiAt, Alike}
-use Rattle.account_names.proofs.Laws.Fold.{fold-ascii}
+use Rattle.account_names.specs.Internal.NameOrder.{nameKey, equalIf, compareNames, RankRead, GoesOn, Alike}
+use Rattle.folding.proofs.Laws.Fold.{fold-ascii}
 use Rattle.account_names.proofs.Laws.Ordering.{compare-equal, compare-passes, head-less, head-greater, head-equal}
 
 equal-if-not : (o : Ordering) → isEqual (equalIf false o) ≡ false
@@ -94,7 +93,7 @@ names-alike a b s t e f g = ap₂ equalIf (ap₂ _&&_ (sym f) (sym g)) e
 
 -- a name from its rank on: as the code reads it
 module _ (s : List ℕ) (at next : ℕ) where
-  pub ranked-point : (c r : ℕ) → PointRead s at (Point c next) → r ≡ foldPoint c → RankRead s at (r + 1) next
+  ranked-point : (c r : ℕ) → PointRead s at (Point c next) → r ≡ foldPoint c → RankRead s at (r + 1) next
   unfolding nameKey foldPoints isUtf8
   ranked-point c r p e =
       subst (λ (n : ℕ). RankRead s at n next) (sym (add-one r)) (
@@ -108,7 +107,7 @@ module _ (s : List ℕ) (at next : ℕ) where
   unfolding nameKey foldPoints isUtf8 readableFrom
   ranked-end h = (rw (drop-of-length-le s h), ap isSome (end-points s at h) ∙ sym (le-leb (length s) at h))
 
-  pub ranked-bad : PointRead s at Bad → RankRead s at 0 next
+  ranked-bad : PointRead s at Bad → RankRead s at 0 next
   unfolding nameKey foldPoints isUtf8
   ranked-bad p = (ap foldPoints (p .1), ap isSome (p .0) ∙ go (leb (length s) at) refl)
     where
@@ -131,13 +130,12 @@ module _ (a b : List ℕ) (i j next after : ℕ) where
   rank-greater (suc c) (suc d) p q h = sym (keys-greater (drop i a) (drop j b) (ap₂ compare (p .2) (q .2) ∙ sym (head-greater c d (nameKey (drop next a)) (nameKey (drop after b)) (le-of-suc-le-suc h))))
 
   pub rank-next : (x : ℕ) → RankRead a i x next → RankRead b j x after → (x ≡ 0 → ⊥)
-      → (i < next) × (next ≤ length a) × (after ≤ length b) × (compareNames (drop next a) (drop after b) ≡ compareNames (drop i a) (drop j b))
+      → (i < next) × (j < after) × GoesOn a i next b j after
   rank-next zero p q n = absurd (n refl)
   rank-next (suc c) p q n = (
     p .0,
-    p .1,
-    q .1,
-    names-alike (drop i a) (drop j b) (drop next a) (drop after b) (head-equal c c _ _ (omega arith) (omega arith) ∙ sym (ap₂ compare (p .2) (q .2))) (p .3) (q .3),
+    q .0,
+    (p .1, q .1, names-alike (drop i a) (drop j b) (drop next a) (drop after b) (head-equal c c _ _ (omega arith) (omega arith) ∙ sym (ap₂ compare (p .2) (q .2))) (p .3) (q .3)),
   )
 
 -- neither can be read on
@@ -154,51 +152,66 @@ module _ (a b : List ℕ) (i j : ℕ) (p : RankRead a i 0 i) (q : RankRead b j 0
   unfolding compareNames compare
   ends-both h k = rw (p .0, q .0, p .1, q .1, le-leb (length a) i h, le-leb (length b) j k)
 
--- an ASCII octet is its own code point
-module _ (x : ℕ) (h : x < 0x80) where
-  key-ascii : (s : List ℕ) → nameKey (x ∷ s) ≡ foldPoint x ∷ nameKey s
-  unfolding nameKey foldPoints readableFrom lead
-  key-ascii s = rw (lt-ltb x 0x80 h)
+-- a code point of each that fold alike, of one size
+pub points-alike : (a b : List ℕ) (i j size c d : ℕ) → PointRead a i (Point c (i + size)) → PointRead b j (Point d (j + size)) → foldPoint c ≡ foldPoint d → Alike a i b j size
+points-alike a b i j size c d p q e h =
+    let left = ranked-point a i (i + size) c (foldPoint c) p refl in
+    let right = ranked-point b j (j + size) d (foldPoint c) q e in
+    rank-next a b i j (i + size) (j + size) (foldPoint c + 1) left right (λ (z : foldPoint c + 1 ≡ 0). omega (arith, z)) .2
 
-  utf8-ascii : (s : List ℕ) → isUtf8 (x ∷ s) ≡ isUtf8 s
-  unfolding isUtf8 pointsFrom lead
-  utf8-ascii s = rw (lt-ltb x 0x80 h) (some-more x (points s))
+abbrev AsciiAt : List ℕ → ℕ → Type 0
+AsciiAt s at = (at < length s) × (getD s at 0 < 0x80)
 
 -- two ASCII octets, by what they fold to
-module _ (a b : List ℕ) (at : ℕ) (p : AsciiAt a at) (q : AsciiAt b at) where
-  first-keys : (nameKey (drop at a) ≡ lower (getD a at 0) ∷ nameKey (drop (suc at) a)) × (nameKey (drop at b) ≡ lower (getD b at 0) ∷ nameKey (drop (suc at) b))
-  first-keys = (
-    ap nameKey (drop-cons a at 0 (p .0)) ∙ key-ascii (getD a at 0) (p .1) (drop (suc at) a) ∙ ap (λ (n : ℕ). n ∷ nameKey (drop (suc at) a)) (fold-ascii (getD a at 0) (p .1)),
-    ap nameKey (drop-cons b at 0 (q .0)) ∙ key-ascii (getD b at 0) (q .1) (drop (suc at) b) ∙ ap (λ (n : ℕ). n ∷ nameKey (drop (suc at) b)) (fold-ascii (getD b at 0) (q .1)),
-  )
+module _ (a b : List ℕ) (i j : ℕ) (p : AsciiAt a i) (q : AsciiAt b j) where
+  pub letters-alike : lower (getD a i 0) ≡ lower (getD b j 0) → Alike a i b j 1
+  letters-alike e =
+      points-alike a b i j 1 (getD a i 0) (getD b j 0) (lead-one a i (getD a i 0) (p .0) refl (p .1)) (lead-one b j (getD b j 0) (q .0) refl (q .1)) (fold-ascii (getD a i 0) (p .1) ∙ e ∙ sym (fold-ascii (getD b j 0) (q .1)))
 
-  pub letters-less : lower (getD a at 0) < lower (getD b at 0) → Less ≡ compareNames (drop at a) (drop at b)
-  letters-less h =
-      sym (keys-less (drop at a) (drop at b) (ap₂ compare (first-keys .0) (first-keys .1) ∙ sym (head-less (lower (getD a at 0)) (lower (getD b at 0)) (nameKey (drop (suc at) a)) (nameKey (drop (suc at) b)) h)))
+  abbrev x : ℕ
+  x = lower (getD a i 0)
 
-  pub letters-greater : lower (getD b at 0) < lower (getD a at 0) → Greater ≡ compareNames (drop at a) (drop at b)
-  letters-greater h =
-      sym (keys-greater (drop at a) (drop at b) (ap₂ compare (first-keys .0) (first-keys .1) ∙ sym (head-greater (lower (getD a at 0)) (lower (getD b at 0)) (nameKey (drop (suc at) a)) (nameKey (drop (suc at) b)) h)))
+  abbrev y : ℕ
+  y = lower (getD b j 0)
 
-  pub letters-alike : lower (getD a at 0) ≡ lower (getD b at 0) → Alike a b at 1
-  letters-alike e h = (
-    omega (arith, p .0),
-    omega (arith, q .0),
-    ap₂ compareNames (ap (λ (n : ℕ). drop n a) (add-one at)) (ap (λ (n : ℕ). drop n b) (add-one at))
-        ∙ names-alike (drop at a) (drop at b) (drop (suc at) a) (drop (suc at) b)
-        (head-equal (lower (getD a at 0)) (lower (getD b at 0)) (nameKey (drop (suc at) a)) (nameKey (drop (suc at) b)) (omega (arith, e)) (omega (arith, e)) ∙ sym (ap₂ compare (first-keys .0) (first-keys .1)))
-        (ap isUtf8 (drop-cons a at 0 (p .0)) ∙ utf8-ascii (getD a at 0) (p .1) (drop (suc at) a))
-        (ap isUtf8 (drop-cons b at 0 (q .0)) ∙ utf8-ascii (getD b at 0) (q .1) (drop (suc at) b)),
-  )
+  left : RankRead a i (x + 1) (i + 1)
+  left = ranked-point a i (i + 1) (getD a i 0) x (lead-one a i (getD a i 0) (p .0) refl (p .1)) (sym (fold-ascii (getD a i 0) (p .1)))
 
--- a character of two octets that both have
-pub pair-alike : (a b : List ℕ) (at x bits : ℕ) → LeadAt a at x 0xC2 0xE0 → LeadAt b at x 0xC2 0xE0 → SixBits a (at + 1) 0x80 0xBF bits → SixBits b (at + 1) 0x80 0xBF bits → bits ≤ 63 → Alike a b at 2
-pair-alike a b at x bits la lb sa sb h k =
-    let c : ℕ = x % 32 * 64 + bits in
-    let p = ranked-point a at (at + 2) c (foldPoint c) (two-point a at x bits la sa c refl h) refl in
-    let q = ranked-point b at (at + 2) c (foldPoint c) (two-point b at x bits lb sb c refl h) refl in
-    let n = rank-next a b at at (at + 2) (at + 2) (foldPoint c + 1) p q (λ (e : foldPoint c + 1 ≡ 0). omega (arith, e)) in
-    (n .1, n .2, n .3)
+  right : RankRead b j (y + 1) (j + 1)
+  right = ranked-point b j (j + 1) (getD b j 0) y (lead-one b j (getD b j 0) (q .0) refl (q .1)) (sym (fold-ascii (getD b j 0) (q .1)))
+
+  pub letters-differ : eqb x y ≡ false → isEqual (compareNames (drop i a) (drop j b)) ≡ false
+  letters-differ e = go (ltb x y) refl (ltb y x) refl
+    where
+      go : (u : Bool) → ltb x y ≡ u → (v : Bool) → ltb y x ≡ v → isEqual (compareNames (drop i a) (drop j b)) ≡ false
+      go true f v g = let h : x < y = ltb-true x y f in sym (ap isEqual (rank-less a b i j (i + 1) (j + 1) (x + 1) (y + 1) left right (omega arith)))
+      go false f true g = let h : y < x = ltb-true y x g in sym (ap isEqual (rank-greater a b i j (i + 1) (j + 1) (x + 1) (y + 1) left right (omega arith)))
+      go false f false g =
+          let h : y ≤ x = ltb-false x y f in
+          let k : x ≤ y = ltb-false y x g in
+          absurd (eqb-false x y e (omega arith))
+
+-- a code point that was decoded, ranked
+pub ranked-code : (s : List ℕ) (at size code r : ℕ) → CodeRead s at size code → (code < pointLimit → r ≡ foldPoint code + 1) × (pointLimit ≤ code → r ≡ 0) → RankRead s at r (at + size)
+ranked-code s at size code r p q = go (ltb code pointLimit) refl
+  where
+    go : (b : Bool) → ltb code pointLimit ≡ b → RankRead s at r (at + size)
+    go true e =
+        let h : code < pointLimit = ltb-true code pointLimit e in
+        subst (λ (n : ℕ). RankRead s at n (at + size)) (sym (q .0 h)) (ranked-point s at (at + size) code (foldPoint code) (p .0 h) refl)
+    go false e =
+        let h : pointLimit ≤ code = ltb-false code pointLimit e in
+        subst (λ (n : ℕ). RankRead s at n (at + size)) (sym (q .1 h)) (ranked-bad s at (at + size) (p .1 h))
+
+-- an octet of ASCII, ranked as the code point that it is
+pub ranked-ascii : (s : List ℕ) (at r : ℕ) → AsciiAt s at → r ≡ foldPoint (getD s at 0) + 1 → RankRead s at r (at + sizeOf (getD s at 0))
+ranked-ascii s at r p e =
+    let x = getD s at 0 in
+    rw (lt-ltb x 0x80 (p .1)) (subst (λ (n : ℕ). RankRead s at n (at + 1)) (sym e) (ranked-point s at (at + 1) x (foldPoint x) (lead-one s at x (p .0) refl (p .1)) refl))
+
+-- a character that both have
+pub decoded-alike : (a b : List ℕ) (i j size code : ℕ) → CodeRead a i size code → CodeRead b j size code → code < pointLimit → Alike a i b j size
+decoded-alike a b i j size code p q h = points-alike a b i j size code code (p .0 h) (q .0 h) refl
 
 -- the same name is passed on
 module _ (a b : List ℕ) where

@@ -4,7 +4,7 @@ use mathlib.Core.Bool.{Bool, true, false, _&&_}
 use mathlib.Core.List.{List, [], _∷_}
 use Prim.Native.Nat.{ℕ, zero, suc, _+_, _≤_, _<_}
 use lib.Dec.{leb}
-use lib.ListN.{length, getD, drop}
+use lib.ListN.{length, drop}
 use Rattle.octets.specs.Fold.{foldPoints}
 use Rattle.unicode.specs.Utf8.{isUtf8}
 use Rattle.unicode.specs.Internal.Point.{readable}
@@ -31,9 +31,10 @@ abbrev pub RankRead : List ℕ → ℕ → ℕ → ℕ → Type 0
 RankRead s at zero next = (nameKey (drop at s) ≡ []) × (isUtf8 (drop at s) ≡ leb (length s) at)
 RankRead s at (suc point) next = (at < next) × (next ≤ length s) × (nameKey (drop at s) ≡ point ∷ nameKey (drop next s)) × (isUtf8 (drop at s) ≡ isUtf8 (drop next s))
 
-abbrev pub AsciiAt : List ℕ → ℕ → Type 0
-AsciiAt s at = (at < length s) × (getD s at 0 < 0x80)
+-- how they compare from an offset of each on is how they compare from a later one on
+abbrev pub GoesOn : List ℕ → ℕ → ℕ → List ℕ → ℕ → ℕ → Type 0
+GoesOn a i next b j after = (next ≤ length a) × (after ≤ length b) × (compareNames (drop next a) (drop after b) ≡ compareNames (drop i a) (drop j b))
 
--- so many octets of both at an offset, if any, change nothing in how they compare
-abbrev pub Alike : List ℕ → List ℕ → ℕ → ℕ → Type 0
-Alike a b at size = 1 ≤ size → (at + size ≤ length a) × (at + size ≤ length b) × (compareNames (drop (at + size) a) (drop (at + size) b) ≡ compareNames (drop at a) (drop at b))
+-- so many octets at an offset of each, if any, change nothing in it
+abbrev pub Alike : List ℕ → ℕ → List ℕ → ℕ → ℕ → Type 0
+Alike a i b j size = 1 ≤ size → GoesOn a i (i + size) b j (j + size)

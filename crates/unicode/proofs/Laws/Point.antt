@@ -1,4 +1,4 @@
--- Laws of a code point at an offset: octet by octet as the code reads it, and what it says of the text.
+-- Laws of a code point at an offset: what its octets, decoded one after the other, say of the text.
 use mathlib.Core.Path.{_≡_, refl, sym, ap, subst, _∙_}
 use mathlib.Core.Bool.{Bool, true, false, cond}
 use mathlib.Core.List.{List, [], _∷_}
@@ -6,16 +6,38 @@ use mathlib.Core.Option.{Option, none, some, Option·map}
 use Prim.Native.Nat.{ℕ, _+_, _*_, _%_, _≤_, _<_}
 use native.Mathlib.Numerals.{add-one}
 use native.Mathlib.Omega.{arith}
-use lib.Dec.{eqb, ltb}
-use lib.ListN.{length, getD, drop, drop-of-length-le}
+use lib.Dec.{eqb, leb, ltb}
+use lib.ListN.{length, getD, drop, drop-of-length-le, List·getD-eq-default}
 use lib.Seq.{drop-cons}
-use borrow.Author.Tests.{eqb-true, eqb-false, ne-eqb, ltb-true, ltb-false, lt-ltb, le-ltb}
+use borrow.Author.Tests.{eqb-true, eqb-false, ne-eqb, leb-true, ltb-true, ltb-false, lt-ltb, le-ltb}
 use Rattle.octets.specs.Lists.{isSome}
-use Rattle.octets.proofs.Laws.Lists.{none-not-some}
+use Rattle.octets.specs.Text.{within}
+use Rattle.octets.proofs.Laws.Lists.{none-not-some, both-left}
 use Rattle.unicode.specs.declared.utf8.PointAt.the-variants.{Bad, Point}
 use Rattle.unicode.specs.Utf8.{Partial, Decoded, bad, point, more, Decoder, between, partway, opens, closes, lead, follow, decode, onDecoded, pointsFrom, points}
-use Rattle.unicode.specs.Internal.Point.{readOn, readableFrom, readable, PointRead, SixBits, LeadAt}
+use Rattle.unicode.specs.Internal.Point.{readOn, readableFrom, readable, pointLimit, PointRead, SixBits, StandAt, CodeRead, CodeOf, sizeOf}
 use Rattle.unicode.proofs.Laws.Utf8.{Below, lead-below, follow-below}
+
+-- six bits read at an offset, or 64
+abbrev SixBitsAt : List ℕ → ℕ → ℕ → ℕ → ℕ → Type 0
+SixBitsAt s at low high r =
+    (r ≤ 63 → (at < length s) × (within low high (getD s at 0) ≡ true) × (r ≡ getD s at 0 % 64))
+    × (63 < r → at < length s → within low high (getD s at 0) ≡ false)
+
+-- the octet at an offset, from a first one on and before a last one
+abbrev LeadAt : List ℕ → ℕ → ℕ → ℕ → ℕ → Type 0
+LeadAt s at lead from before = (at < length s) × (lead ≡ getD s at 0) × (from ≤ lead) × (lead < before)
+
+-- a missing octet is 0, which no range from 1 on has
+pub six-at : (s : List ℕ) (at x low high r : ℕ) → x ≡ getD s at 0 → 1 ≤ low → SixBits x low high r → SixBitsAt s at low high r
+six-at s at x low high r e h p = (λ k. (inside (ltb at (length s)) refl (p .0 k .0), ap (within low high) (sym e) ∙ p .0 k .0, p .0 k .1 ∙ ap (λ (n : ℕ). n % 64) e), λ k q. ap (within low high) (sym e) ∙ p .1 k)
+  where
+    inside : (b : Bool) → ltb at (length s) ≡ b → within low high x ≡ true → at < length s
+    inside true f w = ltb-true at (length s) f
+    inside false f w =
+        let z : x ≡ 0 = e ∙ List·getD-eq-default s 0 (ltb-false at (length s) f) in
+        let k : low ≤ x = leb-true low x (both-left (leb low x) (leb x high) w) in
+        absurd (omega (arith, z, k, h))
 
 -- what is left at an offset, by the octet there
 module _ (decoder : Decoder) (s : List ℕ) (i : ℕ) (h : i < length s) where
@@ -40,7 +62,7 @@ module _ (s : List ℕ) (at : ℕ) where
   read-point c next h k r = (h, k, r .0, r .1, r .2)
 
   -- a later octet, by what was read of it
-  module _ (i : Partial) (next bits : ℕ) (r : Reading s at (more i) next) (six : SixBits s next (i .low) (i .high) bits) where
+  module _ (i : Partial) (next bits : ℕ) (r : Reading s at (more i) next) (six : SixBitsAt s next (i .low) (i .high) bits) where
     later-bad : 63 < bits → PointRead s at Bad
     unfolding follow pointsFrom readableFrom
     later-bad h = go (ltb next (length s)) refl
@@ -139,7 +161,7 @@ module _ (s : List ℕ) (at x y : ℕ) where
   abbrev later : ℕ → ℕ → ℕ → ℕ → Partial
   later left low high bits = record { left = left; low = low; high = high; bits = bits }
 
-  module _ (l : LeadAt s at x 0xC2 0xE0) (six : SixBits s (at + 1) 0x80 0xBF y) where
+  module _ (l : LeadAt s at x 0xC2 0xE0) (six : SixBitsAt s (at + 1) 0x80 0xBF y) where
     pub two-bad : 63 < y → PointRead s at Bad
     two-bad = later-bad s at (later 1 0x80 0xBF (x % 32)) (at + 1) y (lead-two s at x l) six
 
@@ -149,14 +171,14 @@ module _ (s : List ℕ) (at x y : ℕ) where
         (subst (λ (k : ℕ). Reading s at (point k) (at + 2)) (sym e) (later-good s at (later 1 0x80 0xBF (x % 32)) (at + 1) y (lead-two s at x l) six (at + 2) (omega arith) h))
 
   module _ (z low high : ℕ) where
-    module _ (l : LeadAt s at x 0xE0 0xF0) (e : low ≡ cond (eqb x 0xE0) 0xA0 0x80) (f : high ≡ cond (eqb x 0xED) 0x9F 0xBF) (six : SixBits s (at + 1) low high y) where
+    module _ (l : LeadAt s at x 0xE0 0xF0) (e : low ≡ cond (eqb x 0xE0) 0xA0 0x80) (f : high ≡ cond (eqb x 0xED) 0x9F 0xBF) (six : SixBitsAt s (at + 1) low high y) where
       led-three : Reading s at (opens 2 low high (x % 16)) (at + 1)
       led-three = rw (e, f) (lead-three s at x l)
 
       pub three-bad : 63 < y → PointRead s at Bad
       three-bad = later-bad s at (later 2 low high (x % 16)) (at + 1) y led-three six
 
-      module _ (h : y ≤ 63) (last : SixBits s (at + 2) 0x80 0xBF z) where
+      module _ (h : y ≤ 63) (last : SixBitsAt s (at + 2) 0x80 0xBF z) where
         second : Reading s at (opens 1 0x80 0xBF (x % 16 * 64 + y)) (at + 2)
         second = later-good s at (later 2 low high (x % 16)) (at + 1) y led-three six (at + 2) (omega arith) h
 
@@ -168,21 +190,21 @@ module _ (s : List ℕ) (at x y : ℕ) where
             read-point s at c (at + 3) (omega arith) (omega (arith, last .0 k .0))
             (subst (λ (m : ℕ). Reading s at (point m) (at + 3)) (sym q) (later-good s at (later 1 0x80 0xBF (x % 16 * 64 + y)) (at + 2) z second last (at + 3) (omega arith) k))
 
-    module _ (l : LeadAt s at x 0xF0 0xF5) (e : low ≡ cond (eqb x 0xF0) 0x90 0x80) (f : high ≡ cond (eqb x 0xF4) 0x8F 0xBF) (six : SixBits s (at + 1) low high y) where
+    module _ (l : LeadAt s at x 0xF0 0xF5) (e : low ≡ cond (eqb x 0xF0) 0x90 0x80) (f : high ≡ cond (eqb x 0xF4) 0x8F 0xBF) (six : SixBitsAt s (at + 1) low high y) where
       led-four : Reading s at (opens 3 low high (x % 8)) (at + 1)
       led-four = rw (e, f) (lead-four s at x l)
 
       pub four-bad : 63 < y → PointRead s at Bad
       four-bad = later-bad s at (later 3 low high (x % 8)) (at + 1) y led-four six
 
-      module _ (h : y ≤ 63) (next : SixBits s (at + 2) 0x80 0xBF z) where
+      module _ (h : y ≤ 63) (next : SixBitsAt s (at + 2) 0x80 0xBF z) where
         second-of-four : Reading s at (opens 2 0x80 0xBF (x % 8 * 64 + y)) (at + 2)
         second-of-four = later-good s at (later 3 low high (x % 8)) (at + 1) y led-four six (at + 2) (omega arith) h
 
         pub four-cut : 63 < z → PointRead s at Bad
         four-cut = later-bad s at (later 2 0x80 0xBF (x % 8 * 64 + y)) (at + 2) z second-of-four next
 
-        module _ (w : ℕ) (k : z ≤ 63) (last : SixBits s (at + 3) 0x80 0xBF w) where
+        module _ (w : ℕ) (k : z ≤ 63) (last : SixBitsAt s (at + 3) 0x80 0xBF w) where
           third : Reading s at (opens 1 0x80 0xBF ((x % 8 * 64 + y) * 64 + z)) (at + 3)
           third = later-good s at (later 2 0x80 0xBF (x % 8 * 64 + y)) (at + 2) z second-of-four next (at + 3) (omega arith) k
 
@@ -193,6 +215,47 @@ module _ (s : List ℕ) (at x y : ℕ) where
           four-point c q m =
               read-point s at c (at + 4) (omega arith) (omega (arith, last .0 m .0))
               (subst (λ (n : ℕ). Reading s at (point n) (at + 4)) (sym q) (later-good s at (later 1 0x80 0xBF ((x % 8 * 64 + y) * 64 + z)) (at + 3) w third last (at + 4) (omega arith) m))
+
+-- a code point decoded, or the limit of them
+module _ (s : List ℕ) (at size : ℕ) where
+  pub coded-bad : PointRead s at Bad → CodeRead s at size pointLimit
+  coded-bad p = (λ h. absurd (omega (arith, h)), λ h. p)
+
+  pub coded-point : (c : ℕ) → PointRead s at (Point c (at + size)) → CodeRead s at size c
+  coded-point c p = (λ h. p, λ h. absurd (omega (arith, h, p .2)))
+
+-- where a lead of two octets and the next one stand
+pub stand-two : (s : List ℕ) (at x second : ℕ) → at < length s → x ≡ getD s at 0 → second ≡ getD s (at + 1) 0 → x < 0xE0 → StandAt s at x second 0 0
+stand-two s at x second h e f k = (h, e, f, λ q. absurd (omega (arith, q, k)), λ q. absurd (omega (arith, q, k)))
+
+-- how many octets a lead tells
+module _ (x : ℕ) where
+  size-two : 0x80 ≤ x → x < 0xE0 → sizeOf x ≡ 2
+  size-two h k = rw (le-ltb x 0x80 h, lt-ltb x 0xE0 k)
+
+  pub size-three : 0xE0 ≤ x → x < 0xF0 → sizeOf x ≡ 3
+  size-three h k = let a : 0x80 ≤ x = omega arith in rw (le-ltb x 0x80 a, le-ltb x 0xE0 h, lt-ltb x 0xF0 k)
+
+  pub size-four : 0xF0 ≤ x → sizeOf x ≡ 4
+  size-four h =
+      let a : 0x80 ≤ x = omega arith in
+      let b : 0xE0 ≤ x = omega arith in
+      rw (le-ltb x 0x80 a, le-ltb x 0xE0 b, le-ltb x 0xF0 h)
+
+  module _ (second third fourth code : ℕ) where
+    pub code-two : 0x80 ≤ x → x < 0xE0 → CodeOf 2 x second 0 0 code → CodeOf (sizeOf x) x second third fourth code
+    code-two h k f s at p =
+        subst (λ (n : ℕ). CodeRead s at n code) (sym (size-two h k)) (f s at (stand-two s at x second (p .0) (p .1) (p .2) k))
+
+    pub code-three : 0xE0 ≤ x → x < 0xF0 → CodeOf 3 x second third 0 code → CodeOf (sizeOf x) x second third fourth code
+    code-three h k f s at p = subst (λ (n : ℕ). CodeRead s at n code) (sym (size-three h k)) (f s at (p .0, p .1, p .2, p .3, λ q. absurd (omega (arith, q, k))))
+
+    pub code-four : 0xF0 ≤ x → CodeOf 4 x second third fourth code → CodeOf (sizeOf x) x second third fourth code
+    code-four h f s at p = subst (λ (n : ℕ). CodeRead s at n code) (sym (size-four h)) (f s at p)
+
+pub some-low : (b : Bool) (low its : ℕ) → 1 ≤ its → low ≡ cond b its 0x80 → 1 ≤ low
+some-low true low its h e = omega (arith, h, e)
+some-low false low its h e = omega (arith, e)
 
 -- a text's code points by the one at an offset
 

@@ -1,61 +1,78 @@
-use mathlib.Core.Path.{subst}
+use mathlib.Core.Path.{refl, ap, _∙_}
+use Prim.Native.Nat.{ℕ, _+_}
 use native.Mathlib.Omega.{arith}
-use Rattle.unicode.specs.Internal.Point.{PointRead}
-use Rattle.account_names.proofs.Laws.NameOrder.{ranked-point, ranked-end, ranked-bad}
+use Rattle.octets.specs.Fold.{foldPoint}
+use Rattle.account_names.proofs.Laws.NameOrder.{ranked-end, ranked-code, ranked-ascii}
 use borrow.Author.Needs.{needs}
 use Rattle.account_names.proofs.compare.rank_at.Statement.{statement}
 use Rattle.account_names.proofs.compare.rank_at.Tie as tie
-use Rattle.account_names.proofs.fold.fold_point.Reads as fold-point-reads
-use Rattle.unicode.proofs.utf8.point_at.Reads as point-at-reads
-
-point-at-requires : tie.Need-point-at-requires
-point-at-requires c κs = search needs
-
-enum-known-point : tie.Need-enum-known-point
-enum-known-point c = search needs
-
-fold-point-requires : tie.Need-fold-point-requires
-fold-point-requires c κs = search needs
-
-add-t9 : tie.Need-add-t9
-add-t9 c =
-    let a = c .before .before .before .before .before .before .args in
-    let p = subst (PointRead (a .s .now) (a .at)) (c .before .before .point .given .1) (c .before .before .before .before .point-at .ensures) in
-    omega (arith, c .fold-point .ensures .1 (p .2))
-
-enum-told : tie.Need-enum-told
-enum-told c = search needs
-
-enum-told-2 : tie.Need-enum-told-2
-enum-told-2 c = search needs
 
 returns : tie.Need-returns
 returns c =
-    let a = c .before .before .before .before .before .before .args in
-    let g = c .before .before .point .given in
-    let p = subst (PointRead (a .s .now) (a .at)) (g .1) (c .before .before .before .before .point-at .ensures) in
-    ranked-point (a .s .now) (a .at) (g .0 .1 .0) (g .0 .0) (c .fold-point .result) p (c .fold-point .ensures .0)
+    let a = c .before .before .before .args in
+    ranked-end (a .s .now) (a .at) (a .at) (c .if1 .taken)
+
+shared-slice-read-lead : tie.Need-shared-slice-read-lead
+shared-slice-read-lead c = search needs
+
+wide-requires : tie.Need-wide-requires
+wide-requires c κs = search needs
+
+rank-of-requires : tie.Need-rank-of-requires
+rank-of-requires c κs = search needs
 
 returns-2 : tie.Need-returns-2
 returns-2 c =
-    let a = c .before .before .before .before .args in
-    ranked-end (a .s .now) (a .at) (a .at) (subst (PointRead (a .s .now) (a .at)) (c .enum-told .given .1) (c .before .before .point-at .ensures))
+    let a = c .before .before .before .before .before .before .before .args in
+    let w = c .before .wide .ensures in
+    ranked-ascii (a .s .now) (a .at) _ (omega arith, c .before .before .if2 .taken) (c .rank-of .ensures .0 (omega (arith, w .1)) ∙ ap (λ (n : ℕ). foldPoint n + 1) (w .0))
+
+add-octet-at : tie.Need-add-octet-at
+add-octet-at c = search needs
+
+octet-at-requires : tie.Need-octet-at-requires
+octet-at-requires c κs = search needs
+
+add-octet-at-2 : tie.Need-add-octet-at-2
+add-octet-at-2 c = search needs
+
+octet-at-requires-2 : tie.Need-octet-at-requires-2
+octet-at-requires-2 c κs = search needs
+
+add-octet-at-3 : tie.Need-add-octet-at-3
+add-octet-at-3 c = search needs
+
+octet-at-requires-3 : tie.Need-octet-at-requires-3
+octet-at-requires-3 c κs = search needs
+
+point-of-requires : tie.Need-point-of-requires
+point-of-requires c κs = search needs
+
+rank-of-requires-2 : tie.Need-rank-of-requires-2
+rank-of-requires-2 c κs = search needs
 
 returns-3 : tie.Need-returns-3
 returns-3 c =
-    let a = c .before .before .before .before .args in
-    ranked-bad (a .s .now) (a .at) (a .at) (subst (PointRead (a .s .now) (a .at)) (c .enum-told2 .given .1) (c .before .before .point-at .ensures))
+    let a = c .before .before .before .before .before .before .before .before .before .before .args in
+    ranked-code (a .s .now) (a .at) _ _ _
+    (c .before .point-of .ensures (a .s .now) (a .at) (omega arith, refl, c .before .before .before .before .octet-at .ensures, λ h. c .before .before .before .octet-at2 .ensures, λ h. c .before .before .octet-at3 .ensures))
+    (c .rank-of2 .ensures)
 
 pub rank-at-spec : {M : Type 1} → statement M
 rank-at-spec =
     tie.close
     (tie.spec
-    point-at-requires
-    enum-known-point
-    fold-point-requires
-    add-t9
-    enum-told
-    enum-told-2
     returns
+    shared-slice-read-lead
+    wide-requires
+    rank-of-requires
     returns-2
+    add-octet-at
+    octet-at-requires
+    add-octet-at-2
+    octet-at-requires-2
+    add-octet-at-3
+    octet-at-requires-3
+    point-of-requires
+    rank-of-requires-2
     returns-3)

@@ -14,16 +14,16 @@ offsets-of-requires c κs = search needs
 array-borrow-prefix-subnets : tie.Need-array-borrow-prefix-subnets
 array-borrow-prefix-subnets c = search needs
 
-slice-aggregate-are-unique : tie.Need-slice-aggregate-are-unique
-slice-aggregate-are-unique c = let o = c .before .before .offsets-of in found-count (o .result) 5376 (o .last .1 .1 .0) (o .kept .1 .1 .0) (o .ensures .1)
+slice-aggregate-are-networks-unique : tie.Need-slice-aggregate-are-networks-unique
+slice-aggregate-are-networks-unique c = let o = c .before .before .offsets-of in found-count (o .result) 5376 (o .last .1 .1 .0) (o .kept .1 .1 .0) (o .ensures .1)
 
-are-unique-requires : tie.Need-are-unique-requires
-are-unique-requires c κs = search needs
+are-networks-unique-requires : tie.Need-are-networks-unique-requires
+are-networks-unique-requires c κs = search needs
 
 returns : tie.Need-returns
 returns c =
     let o = c .before .before .before .before .offsets-of in
-    c .before .are-unique .ensures ∙ subnets-unique (c .before .before .before .before .before .before .before .args .image .now) (take (o .result) (o .last .1 .1 .0)) (o .ensures .0)
+    c .before .are-networks-unique .ensures ∙ subnets-unique (c .before .before .before .before .before .before .before .args .image .now) (take (o .result) (o .last .1 .1 .0)) (o .ensures .0)
 
 pub are-subnets-unique-spec : {M : Type 1} → statement M
 are-subnets-unique-spec =
@@ -32,6 +32,6 @@ are-subnets-unique-spec =
     slice-aggregate-offsets-of
     offsets-of-requires
     array-borrow-prefix-subnets
-    slice-aggregate-are-unique
-    are-unique-requires
+    slice-aggregate-are-networks-unique
+    are-networks-unique-requires
     returns)
