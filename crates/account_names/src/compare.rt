@@ -270,18 +270,30 @@ fn plain_start(a: &[u8], b: &[u8]) -> usize
     }
 }
 
-// Most accounts differ from the name looked up in a letter of ASCII: the folding table is copied only where that does not tell.
-pub fn same_account_name(a: &[u8], b: &[u8]) -> bool
-    ensures { λ r. ⌜ r ≡ sameAccountName (now (a .entry)) (now (b .entry)) ⌝ }
+// Whether the names are the same from an offset on. The folding table is copied here.
+fn same_rest(a: &[u8], b: &[u8], start: usize) -> bool
+    requires { ⌜ (start ≤ length (now a)) × (start ≤ length (now b)) ⌝ }
+    ensures { λ r. ⌜ r ≡ isEqual (compareNames (drop start (now (a .entry))) (drop start (now (b .entry)))) ⌝ }
 {
-    let start = plain_start(a, b);
-    if other_letter_at(a, b, start) {
-        return false;
-    }
     let fold_table = FOLD_TABLE;
     match compare_from(&fold_table, a, b, start) {
         Ordering::Less => false,
         Ordering::Equal => true,
         Ordering::Greater => false,
     }
+}
+
+// Most accounts differ from the name looked up in a letter of ASCII: the folding table is copied only where that does not tell. What
+// copies it is called in two places, and so is not inlined: it would stand in the frame of every comparison.
+pub fn same_account_name(a: &[u8], b: &[u8]) -> bool
+    ensures { λ r. ⌜ r ≡ sameAccountName (now (a .entry)) (now (b .entry)) ⌝ }
+{
+    let start = plain_start(a, b);
+    if a.len() <= start {
+        return same_rest(a, b, start);
+    }
+    if other_letter_at(a, b, start) {
+        return false;
+    }
+    same_rest(a, b, start)
 }
