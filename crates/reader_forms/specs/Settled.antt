@@ -1,8 +1,8 @@
 -- The two calls of the reader together give what document 01 says that reading gives: the reading has everything but the texts of names, and the second
 -- call gives those, from a name's first offset.
 use mathlib.Core.Path.{_≡_}
-use mathlib.Core.List.{List, [], _∷_}
-use mathlib.Core.Option.{Option, none, some}
+use mathlib.Core.List.{List, [], _∷_, map}
+use mathlib.Core.Option.{Option, none, some, Option·map}
 use Prim.Native.Nat.{ℕ, _<_}
 use lib.ListN.{length}
 use Rattle.answers.specs.declared.Form.{Form}
@@ -26,6 +26,23 @@ use Rattle.reader_forms.specs.declared.reading.Reading.{Reading}
 use Rattle.reader_forms.specs.declared.reading.Reading.the-variants as reading
 use Rattle.reader_forms.specs.Reading.{readingLength, ReadReplyPromise}
 
+-- the names of a reading, in their places
+abbrev pub namesRead : Fields → List NameAt
+namesRead (fields.Nt40 f) = []
+namesRead (fields.Response f) = f .forest ∷ f .context ∷ f .host ∷ []
+namesRead (fields.Ex f) =
+    f .forest ∷ f .context ∷ f .host ∷ f .«context_netbios» ∷ f .«server_netbios» ∷ f .user ∷ f .«own_site» ∷ f .«client_site» ∷ []
+
+-- and name 8
+abbrev pub siteRead : NextSite → Option NameAt
+siteRead nextSite.Absent = none
+siteRead (nextSite.Name n) = some n
+
+abbrev pub lastRead : Fields → Option NameAt
+lastRead (fields.Nt40 f) = none
+lastRead (fields.Response f) = none
+lastRead (fields.Ex f) = siteRead (f .«next_site»)
+
 -- a name with its text, by what the second call gives at each offset
 abbrev pub nameFrom : (ℕ → List ℕ) → NameAt → reader.NameRead
 nameFrom text n = record { start = n .start; text = text (n .start); pointers = n .pointers }
@@ -41,7 +58,7 @@ responseFrom text f =
       user = f .user;
       domain = f .domain;
       guid = f .guid;
-      names = nameFrom text (f .forest) ∷ nameFrom text (f .context) ∷ nameFrom text (f .host) ∷ [];
+      names = map (nameFrom text) (namesRead (fields.Response f));
       ipv4 = f .ipv4;
       flags = f .flags;
       version = f .version;
@@ -51,31 +68,15 @@ abbrev pub addressFrom : Address → Option Stretch
 addressFrom address.Absent = none
 addressFrom (address.At t) = some t
 
-abbrev pub nextSiteFrom : (ℕ → List ℕ) → NextSite → Option reader.NameRead
-nextSiteFrom text nextSite.Absent = none
-nextSiteFrom text (nextSite.Name n) = some (nameFrom text n)
-
-abbrev pub exNamesFrom : (ℕ → List ℕ) → ExFields → List reader.NameRead
-exNamesFrom text f =
-    nameFrom text (f .forest)
-    ∷ nameFrom text (f .context)
-    ∷ nameFrom text (f .host)
-    ∷ nameFrom text (f .«context_netbios»)
-    ∷ nameFrom text (f .«server_netbios»)
-    ∷ nameFrom text (f .user)
-    ∷ nameFrom text (f .«own_site»)
-    ∷ nameFrom text (f .«client_site»)
-    ∷ []
-
 abbrev pub exFrom : (ℕ → List ℕ) → ExFields → reader.ExFields
 exFrom text f =
     record {
       opcode = f .opcode;
       flags = f .flags;
       guid = f .guid;
-      names = exNamesFrom text f;
+      names = map (nameFrom text) (namesRead (fields.Ex f));
       ipv4 = addressFrom (f .ipv4);
-      nextSite = nextSiteFrom text (f .«next_site»);
+      nextSite = Option·map (nameFrom text) (lastRead (fields.Ex f));
       version = f .version;
     }
 

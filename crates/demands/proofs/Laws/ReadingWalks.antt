@@ -18,15 +18,15 @@ use Rattle.reader.proofs.Laws.Name.{reader-walks}
 use Rattle.reader_forms.specs.declared.reading.Fields.{Fields}
 use Rattle.reader_forms.specs.declared.reading.Reading.the-variants as reading
 use Rattle.reader_forms.specs.Reading.{noName, fieldsAs, readingAs}
+use Rattle.reader_forms.specs.Settled.{namesRead, lastRead}
 use Rattle.reader_forms.proofs.Laws.Names.{SiteHas, AllHave, all-have}
 use Rattle.reader_names.specs.declared.NameAt.{NameAt}
 use Rattle.reader_names.specs.Name.{nameAs}
 use Rattle.reader_text.specs.declared.NameText.{NameText}
 use Rattle.reader_text.specs.Text.{nameTextAs, textGiven}
 use Rattle.reader_text.proofs.Laws.Text.{given-text}
-use Rattle.demands.specs.Demand3.{namesIn, lastIn}
-use Rattle.demands.specs.Demand3Calls.{namesRead, lastRead}
-use Rattle.demands.specs.ReadingWalks.{NameIsWalk, ReadingWalks}
+use Rattle.demands.specs.Demand3.{NameIsWalk, ReadingWalks}
+use Rattle.demands.proofs.Laws.Demand3.{namesIn, lastIn}
 use Rattle.demands.proofs.Laws.Demand3Calls.{names-there, last-there, name-spelt, spelt-given}
 
 module _ (s : List ℕ) where

@@ -1,17 +1,19 @@
--- The reader and the walk: what the reader accepts is the walk's, and it accepts every walk within its two limits.
+-- The reader and the walk: what the reader accepts is the walk's, it accepts every walk within its two limits, and its steps are enough.
 use mathlib.Core.Path.{_≡_, refl, sym, ap, _∙_, subst}
-use mathlib.Core.Bool.{not, _||_}
-use mathlib.Core.List.{List, [], _∷_}
+use mathlib.Core.Bool.{Bool, true, false, not, _||_}
+use mathlib.Core.List.{List, [], _∷_, flatMap}
 use mathlib.Core.Option.{some}
 use Prim.Native.Nat.{ℕ, zero, suc, _+_, _<_, _≤_}
-use native.Mathlib.Nat.{zero-add, add-zero}
+use native.Mathlib.Nat.{zero-add, add-zero, suc-mul}
 use native.Mathlib.Omega.{arith}
 use lib.Dec.{eqb, ltb}
-use lib.ListN.{length}
+use lib.ListN.{length, length-append}
 use borrow.Author.Tests.{lt-ltb, le-ltb, ne-eqb, ltb-true, ltb-false, not-false}
+use Rattle.answers.specs.declared.Refusal.{Refusal}
 use Rattle.answers.specs.declared.Refusal.the-variants.{ReplyText}
 use Rattle.answers.specs.Try.{Try, refused, good, refusedIf, _>>=_}
 use Rattle.answers.proofs.Laws.Try.{refused-not-good, refusedIf-good}
+use Rattle.names.specs.Name.{literalLabel}
 use Rattle.names.specs.Walk.{Look, end, label, pointer, missing, reserved, lookAt, onLook, labelAt, WalkedName, steps}
 use Rattle.names.specs.WalkRelation.{Walks, ends, reads, points}
 use Rattle.names.proofs.Laws.Walk.{walk-inside, finds, bound, bound-read, bound-jump, bound-steps}
@@ -19,7 +21,18 @@ use Rattle.octets.proofs.Laws.Label.{size, size-positive}
 use Rattle.octets.proofs.Laws.Lists.{cut-length, neither-left}
 use Rattle.reader.specs.Field.{Read}
 use Rattle.reader.specs.Name.{cutAfter, labelBefore, endingAt, readNameFrom, readName}
-use Rattle.reader.specs.ReaderWalks.{ReaderWalks}
+use Rattle.reader.specs.ReaderWalks.{ReaderWalks, writtenOut, ReaderAccepts, ReaderStepsEnough}
+
+-- what a look leads to, with k steps more
+abbrev looked : ℕ → List ℕ → ℕ → ℕ → ℕ → ℕ → Look → Try (Read WalkedName)
+looked k s run at spent pointers v =
+    onLook v (good (record { value = record { labels = []; pointers = pointers }; next = at + 1 }))
+    (λ n.
+    refusedIf (ltb 255 (spent + 1 + n + 1)) ReplyText
+    (refusedIf (ltb (length s) (at + 1 + n)) (cutAfter pointers)
+    (readNameFrom k s run (at + 1 + n) (spent + 1 + n) pointers >>= λ f. good (labelBefore (labelAt s at n) f))))
+    (λ t. refusedIf (not (ltb t run) || eqb pointers 16) ReplyText (readNameFrom k s t t spent (pointers + 1) >>= λ f. good (endingAt (at + 2) f)))
+    (refused (cutAfter pointers)) (refused ReplyText)
 
 -- ---- the reader accepts a walk within its limits
 
@@ -57,10 +70,65 @@ accepts {s} {run} {at} (points {t = t} {c = c} {ls = ls} e h w) (suc k) spent po
     rw (from-pointer s run at spent pointers k t e h (omega arith), accepts w k spent (pointers + 1) (bound-jump s run at t k h b) room (omega arith))
     (ap (λ (x : ℕ). Given ls x (at + 2)) z)
 
-pub name-here : {s : List ℕ} {at c next : ℕ} {ls : List (List ℕ)} → Walks s at at ls c next → size ls ≤ 255 → c ≤ 16 → readName s at ≡ good (record { value = record { labels = ls; pointers = c }; next = next })
+written-out-size : (ls : List (List ℕ)) → length (writtenOut ls) ≡ size ls
+unfolding flatMap literalLabel
+written-out-size [] = refl
+written-out-size (l ∷ ls) = simp length-append (omega (arith, simp length-append at (written-out-size ls)))
+
+pub reader-accepts : ReaderAccepts
 unfolding readName
-name-here {s} {at} {c} {next} {ls} w room few =
-    accepts w (steps s) 0 0 (bound-steps s at (walk-inside w)) (omega arith) (omega arith) ∙ ap (λ (x : ℕ). Given ls x next) (zero-add c)
+reader-accepts s at c next ls w room few =
+    accepts w _ 0 0 (omega (arith, bound-steps s at (walk-inside w))) (omega (arith, written-out-size ls)) (omega arith) ∙ ap (λ (x : ℕ). Given ls x next) (zero-add c)
+
+pub name-here : {s : List ℕ} {at c next : ℕ} {ls : List (List ℕ)} → Walks s at at ls c next → size ls ≤ 255 → c ≤ 16 → readName s at ≡ good (record { value = record { labels = ls; pointers = c }; next = next })
+name-here {s} {at} {c} {next} {ls} w room few = reader-accepts s at c next ls w (omega (arith, written-out-size ls)) few
+
+-- ---- steps that are enough give the same, however many they are
+
+-- what is refused before is no matter
+unless-refused : {A : Type 0} (b : Bool) (r : Refusal) (x y : Try A) → (b ≡ false → x ≡ y) → refusedIf b r x ≡ refusedIf b r y
+unless-refused true r x y e = refl
+unless-refused false r x y e = e refl
+
+same-steps : (k j : ℕ) (s : List ℕ) (run at spent pointers : ℕ) → bound s run at < k → bound s run at < j → readNameFrom k s run at spent pointers ≡ readNameFrom j s run at spent pointers
+unfolding readNameFrom
+same-steps zero j s run at spent pointers b d = absurd (omega arith)
+same-steps (suc k) zero s run at spent pointers b d = absurd (omega arith)
+same-steps (suc k) (suc j) s run at spent pointers b d = go (lookAt s at) (λ r a u p. same-steps k j s r a u p)
+  where
+    go : (v : Look) → ((r a u p : ℕ) → bound s r a < k → bound s r a < j → readNameFrom k s r a u p ≡ readNameFrom j s r a u p) → looked k s run at spent pointers v ≡ looked j s run at spent pointers v
+    go end deeper = refl
+    go (label n) deeper =
+        unless-refused (ltb 255 (spent + 1 + n + 1)) ReplyText _ _ (λ e.
+        unless-refused (ltb (length s) (at + 1 + n)) (cutAfter pointers) _ _ (λ f.
+        let h : at + 1 + n ≤ length s = ltb-false (length s) (at + 1 + n) f in
+        ap (λ (x : Try (Read WalkedName)). x >>= λ g. good (labelBefore (labelAt s at n) g))
+        (deeper run (at + 1 + n) (spent + 1 + n) pointers (bound-read s run at n k h b) (bound-read s run at n j h d))))
+    go (pointer t) deeper =
+        unless-refused (not (ltb t run) || eqb pointers 16) ReplyText _ _ (λ e.
+        let h : t < run = ltb-true t run (not-false (ltb t run) (neither-left (not (ltb t run)) (eqb pointers 16) e)) in
+        ap (λ (x : Try (Read WalkedName)). x >>= λ g. good (endingAt (at + 2) g)) (deeper t t spent (pointers + 1) (bound-jump s run at t k h b) (bound-jump s run at t j h d)))
+    go missing deeper = refl
+    go reserved deeper = refl
+
+-- past the end one look is enough
+past-end : (k : ℕ) (s : List ℕ) (run at spent pointers : ℕ) → 1 ≤ k → length s ≤ at → readNameFrom k s run at spent pointers ≡ refused (cutAfter pointers)
+unfolding readNameFrom lookAt
+past-end zero s run at spent pointers one h = absurd (omega arith)
+past-end (suc k) s run at spent pointers one h = rw (le-ltb at (length s) h)
+
+pub reader-steps-enough : ReaderStepsEnough
+unfolding readName
+reader-steps-enough s at k = by (ltb at (length s)) refl
+  where
+    by : (b : Bool) → ltb at (length s) ≡ b → readNameFrom (steps s + k) s at at 0 0 ≡ readName s at
+    by true e =
+        let h : bound s at at < steps s = bound-steps s at (ltb-true at (length s) e) in
+        same-steps (steps s + k) _ s at at 0 0 (omega arith) h
+    by false e =
+        let past : length s ≤ at = ltb-false at (length s) e in
+        let one : 1 ≤ steps s = omega (arith, suc-mul (length s) (suc (length s))) in
+        past-end (steps s + k) s at at 0 0 (omega arith) past ∙ sym (past-end _ s at at 0 0 one past)
 
 -- ---- what the reader accepts is the walk's
 
@@ -93,16 +161,7 @@ agrees (suc k) s run at spent pointers f e = go (lookAt s at) refl e (λ r a u p
         let m : g .value .pointers ≡ pointers + suc (y .0) = omega (arith, y .1) in
         subst (ReadsTo s run at pointers) z (suc (y .0), m, points v h (y .2))
 
-    go : (v : Look) → lookAt s at ≡ v
-        → onLook v (good (record { value = record { labels = []; pointers = pointers }; next = at + 1 }))
-        (λ n.
-        refusedIf (ltb 255 (spent + 1 + n + 1)) ReplyText
-        (refusedIf (ltb (length s) (at + 1 + n)) (cutAfter pointers)
-        (readNameFrom k s run (at + 1 + n) (spent + 1 + n) pointers >>= λ g. good (labelBefore (labelAt s at n) g))))
-        (λ t. refusedIf (not (ltb t run) || eqb pointers 16) ReplyText (readNameFrom k s t t spent (pointers + 1) >>= λ g. good (endingAt (at + 2) g)))
-        (refused (cutAfter pointers)) (refused ReplyText)
-        ≡ good f
-        → Deeper → ReadsTo s run at pointers f
+    go : (v : Look) → lookAt s at ≡ v → looked k s run at spent pointers v ≡ good f → Deeper → ReadsTo s run at pointers f
     go end v q d =
         let z : record { value = record { labels = []; pointers = pointers }; next = at + 1 } ≡ f = cc in
         subst (ReadsTo s run at pointers) z (0, sym (add-zero pointers), ends v)
@@ -120,6 +179,6 @@ agrees (suc k) s run at spent pointers f e = go (lookAt s at) refl e (λ r a u p
 pub reader-walks : ReaderWalks
 unfolding readName
 reader-walks s at f e =
-    let d = agrees (steps s) s at at 0 0 f e in
+    let d = agrees _ s at at 0 0 f e in
     let z : d .0 ≡ f .value .pointers = omega (arith, d .1) in
     finds (d .2) ∙ ap (λ (c : ℕ). some (record { labels = f .value .labels; pointers = c })) z

@@ -1,7 +1,7 @@
 -- The two calls together give what document 01 says that reading gives: every name was read where it starts, and as many as the form has.
 use mathlib.Core.Path.{_≡_, refl, sym, ap, _∙_, subst}
 use mathlib.Core.List.{List, [], _∷_, map}
-use mathlib.Core.Option.{Option, none, some}
+use mathlib.Core.Option.{Option, none, some, Option·map}
 use Prim.Native.Nat.{ℕ, zero, suc, _+_, _<_}
 use native.Mathlib.Omega.{arith}
 use lib.ListN.{length, drop, getD}
@@ -21,7 +21,7 @@ use Rattle.reader_names.specs.Name.{nameAs}
 use Rattle.reader_text.specs.Text.{nameText, textOctets, textGiven}
 use Rattle.reader_text.proofs.Laws.Text.{given-text}
 use Rattle.reader_forms.specs.Reading.{noName, addressAs, nextSiteAs, fieldsAs, readingAs, readingLength}
-use Rattle.reader_forms.specs.Settled.{nameFrom, addressFrom, nextSiteFrom, fieldsFrom, readFrom, ReadingSettled}
+use Rattle.reader_forms.specs.Settled.{siteRead, nameFrom, addressFrom, fieldsFrom, readFrom, ReadingSettled}
 use Rattle.reader_forms.proofs.Laws.Names.{SiteHas, AllHave, all-have}
 
 -- ---- a list as its elements one by one
@@ -61,7 +61,7 @@ module _ (s : List ℕ) (text : ℕ → List ℕ) (gives : (at : ℕ) → at < l
       map-length [] = refl
       map-length (x ∷ xs) = ap suc (map-length xs)
 
-  site-back : (site : Option NameRead) → SiteHas s Told name-told site → nextSiteFrom text (nextSiteAs site) ≡ site
+  site-back : (site : Option NameRead) → SiteHas s Told name-told site → Option·map (nameFrom text) (siteRead (nextSiteAs site)) ≡ site
   site-back none e = refl
   site-back (some n) e = ap some (name-back n e)
 
@@ -86,8 +86,8 @@ module _ (s : List ℕ) (text : ℕ → List ℕ) (gives : (at : ℕ) → at < l
             version = f .version;
           })
   fields-back (reader.ex f) t =
-      ap (λ (x : List NameRead). made x (addressFrom (addressAs (f .ipv4))) (nextSiteFrom text (nextSiteAs (f .nextSite)))) (places-back 8 (f .names) (t .0) (t .1))
-      ∙ ap (λ (x : Option Stretch). made (f .names) x (nextSiteFrom text (nextSiteAs (f .nextSite)))) (address-back (f .ipv4))
+      ap (λ (x : List NameRead). made x (addressFrom (addressAs (f .ipv4))) (Option·map (nameFrom text) (siteRead (nextSiteAs (f .nextSite))))) (places-back 8 (f .names) (t .0) (t .1))
+      ∙ ap (λ (x : Option Stretch). made (f .names) x (Option·map (nameFrom text) (siteRead (nextSiteAs (f .nextSite))))) (address-back (f .ipv4))
       ∙ ap (λ (x : Option NameRead). made (f .names) (f .ipv4) x) (site-back (f .nextSite) (t .2))
     where
       made : List NameRead → Option Stretch → Option NameRead → reader.Fields
