@@ -13,7 +13,7 @@ use Rattle.table.specs.Site.{Site}
 use Rattle.table.specs.Table.{Table}
 use Rattle.table_whole.specs.Whole.{sitesUnique}
 use Rattle.table_find.specs.declared.search.SiteKey.the-variants.{Any, OtherThan}
-use Rattle.table_find.specs.Find.{subnetFor, siteOfSubnet, siteFor}
+use Rattle.table_lookup.specs.Lookup.{subnetFor, siteOfSubnet, siteFor}
 use Rattle.table_find.specs.Internal.Key.{isSite}
 
 -- the first site is no other than itself
