@@ -239,6 +239,12 @@ found-by t (some number) e = go (first p (t .sites)) refl
     go none q = absurd (false≢true (sym (ap isSome q) ∙ first-any p (t .sites) ∙ e))
     go (some s) q = (s, first-among p (t .sites) s q, same-number (s .number) number (first-holds p (t .sites) s q), q)
 
+-- with more than one site the subnet decides
+pub several : (t : Table) (caller : Caller) (sites : List Site) → 1 < length sites → siteFor t caller sites ≡ siteOfSubnet t (subnetFor t caller)
+several t caller [] h = absurd (omega arith)
+several t caller (s ∷ []) h = absurd (omega arith)
+several t caller (s ∷ r ∷ rest) h = refl
+
 module _ (image : List ℕ) (t : Table) (caller : Caller) (e : tableIn image ≡ good t) where
   abbrev address : ℕ
   address = addressNumber (caller .address)
@@ -263,15 +269,6 @@ module _ (image : List ℕ) (t : Table) (caller : Caller) (e : tableIn image ≡
           absurd (false≢true (sym unheld ∙ d .holding))
       go (some m) q = ap some (one-decides address (t .subnets) ns m n same (near .decides m q) d)
 
-  several : 1 < length (t .sites) → clientSite t caller ≡ siteOfSubnet t (subnetFor t caller)
-  unfolding clientSite
-  several h = go (t .sites) h
-    where
-      go : (sites : List Site) → 1 < length sites → siteFor t caller sites ≡ siteOfSubnet t (subnetFor t caller)
-      go [] k = absurd (omega arith)
-      go (s ∷ []) k = absurd (omega arith)
-      go (s ∷ r ∷ rest) k = refl
-
   referring : Every (λ n. noneOr (hasSite t) (n .site) ≡ true) (t .subnets)
   unfolding refersRightly
   referring =
@@ -286,9 +283,9 @@ module _ (image : List ℕ) (t : Table) (caller : Caller) (e : tableIn image ≡
       record {
         lone = λ s q. ap (siteFor t caller) q;
         decided =
-            λ h n d. subst (FoundBy (n .site) (t .sites)) (sym (several h ∙ ap (siteOfSubnet t) (deciding (t .subnets) (λ k. (λ a. a, λ a. a)) n d)))
+            λ h n d. subst (FoundBy (n .site) (t .sites)) (sym (several t caller (t .sites) h ∙ ap (siteOfSubnet t) (deciding (t .subnets) (λ k. (λ a. a, λ a. a)) n d)))
             (found-by t (n .site) (every-among (λ m. noneOr (hasSite t) (m .site) ≡ true) (t .subnets) n referring (d .among)));
-        unheld = λ h w. several h ∙ ap (siteOfSubnet t) (unfound w);
+        unheld = λ h w. several t caller (t .sites) h ∙ ap (siteOfSubnet t) (unfound w);
       }
 
 pub site-of-client : SiteOfClient
