@@ -19,7 +19,7 @@ use Rattle.table.specs.Context.{Context}
 use Rattle.table.specs.Site.{Site}
 use Rattle.table.specs.Countings.{sameSite}
 use Rattle.table.specs.Table.{Table}
-use Rattle.table_find.specs.Find.{contextByDnsName, accountByName, siteByNumber, siteIfAny, clientSite}
+use Rattle.table_lookup.specs.Lookup.{contextByDnsName, accountByName, siteByNumber, siteIfAny, clientSite}
 use Rattle.table_find.specs.LogOn.{mayLogOn}
 
 -- document 01's user x is not none, for the user asked for

@@ -12,7 +12,8 @@ use Rattle.octets.specs.Lists.{isSome, holds}
 use Rattle.octets.specs.Sid.{isSid, guidSize}
 use Rattle.table.specs.Context.{Context}
 use Rattle.table.specs.Table.{Table}
-use Rattle.table_find.specs.Find.{contextByGuid, contextByDnsName, contextBySid, holdsSid, defaultContext}
+use Rattle.table_find.specs.Find.{holdsSid}
+use Rattle.table_lookup.specs.Lookup.{contextByGuid, contextByDnsName, contextBySid, defaultContext}
 
 -- the GUID's context where a GUID is given, else the DNS name's where one is given, else the default
 abbrev pub contextFor : Table → Option (List ℕ) → Option (List ℕ) → Option Context

@@ -1,6 +1,6 @@
 -- Document 01, "The table image": the blocks of an image, and what each block has at which octets.
 use mathlib.Core.List.{List}
-use Prim.Native.Nat.{ℕ, _*_, _/_}
+use Prim.Native.Nat.{ℕ, _/_}
 use lib.ListN.{length, getD}
 use Rattle.octets.specs.Lists.{cut, pieces}
 use Rattle.octets.specs.Number.{u16At}
@@ -20,10 +20,6 @@ imageMost = 65536
 -- the blocks of an image
 unfoldable pub blocksOf : List ℕ → List (List ℕ)
 blocksOf image = pieces (length image / blockSize) blockSize image
-
--- the block at a place
-abbrev pub blockAt : List ℕ → BlockPlace → List ℕ
-blockAt image place = cut image (blockSize * place .0) blockSize
 
 abbrev pub kindIn : List ℕ → ℕ
 kindIn block = getD block 0 0

@@ -8,7 +8,8 @@ use Rattle.octets.specs.Lists.{keep}
 use Rattle.table.specs.declared.ContextNumber.{ContextNumber}
 use Rattle.table.specs.Account.{Account}
 use Rattle.table.specs.Table.{Table}
-use Rattle.table_find.specs.Find.{isAccountOf, accountByName}
+use Rattle.table_find.specs.Find.{isAccountOf}
+use Rattle.table_lookup.specs.Lookup.{accountByName}
 use Rattle.table_whole.specs.Judgement.{tableIn}
 
 -- what was found and nothing else

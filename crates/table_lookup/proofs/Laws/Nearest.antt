@@ -13,8 +13,9 @@ use Rattle.table.specs.Address.{addressNumber}
 use Rattle.table.specs.Format.{recordsIn}
 use Rattle.table.specs.Subnet.{Subnet, subnetFormat, subnetOf}
 use Rattle.table.specs.Table.{isUsed, bodies, recordsOf, tableOf}
-use Rattle.table_find.specs.Find.{inSubnet, nearer, nearest, subnetFor}
+use Rattle.table_find.specs.Find.{inSubnet}
+use Rattle.table_lookup.specs.Lookup.{nearer, nearest, subnetFor}
 use Rattle.table_find.specs.Internal.Nearest.{longer, nearerHeld, nearestOver, nearestIn}
 
 -- the nearer of two, where there are two; the first of equal ones
 abbrev nearerOf : Option Subnet → Option Subnet → Option Subnet
