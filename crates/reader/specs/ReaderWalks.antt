@@ -19,6 +19,10 @@ ReaderWalks = (s : List ℕ) (at : ℕ) (f : Read WalkedName) → readName s at 
 abbrev pub writtenOut : List (List ℕ) → List ℕ
 writtenOut labels = flatMap literalLabel labels ++ (0 ∷ [])
 
+-- and it keeps to the two limits of document 01
+abbrev pub ReaderLimits : Type 0
+ReaderLimits = (s : List ℕ) (at : ℕ) (f : Read WalkedName) → readName s at ≡ good f → (length (writtenOut (f .value .labels)) ≤ 255) × (f .value .pointers ≤ 16)
+
 -- where the walk ends with a name of at most 255 octets written out and at most 16 pointers, it accepts that name, with the labels, the count and the end of its field
 abbrev pub ReaderAccepts : Type 0
 ReaderAccepts =
