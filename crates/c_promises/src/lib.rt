@@ -1,0 +1,1 @@
+// What the exported calls promise. It holds no code.
