@@ -2,8 +2,8 @@ use mathlib.Core.Path.{ap, _∙_}
 use Rattle.locator.specs.Answer.{answerNumber}
 use Rattle.c_answer.specs.Answer.{answerMembers}
 use borrow.Author.Needs.{needs}
-use Rattle.vinegarjar.proofs.locator_answer_ping.Statement.{statement}
-use Rattle.vinegarjar.proofs.locator_answer_ping.Tie as tie
+use Rattle.vinegarjar.proofs.vinegarjar_answer_ping.Statement.{statement}
+use Rattle.vinegarjar.proofs.vinegarjar_answer_ping.Tie as tie
 
 answer-ping-requires : tie.Need-answer-ping-requires
 answer-ping-requires c κs = search needs
@@ -20,10 +20,10 @@ same-length c = search needs
 returns : tie.Need-returns
 returns c =
     let e = c .before .before .before .before .answer-ping .ensures in
-    (c .answer-number .ensures ∙ ap answerNumber (e .0), (c .before .answer-members .ensures ∙ ap answerMembers (e .0), e .1))
+    (c .answer-number .ensures ∙ ap answerNumber (e .0), c .before .answer-members .ensures ∙ ap answerMembers (e .0), e .1)
 
-pub locator-answer-ping-spec : {M : Type 1} → statement M
-locator-answer-ping-spec =
+pub vinegarjar-answer-ping-spec : {M : Type 1} → statement M
+vinegarjar-answer-ping-spec =
     tie.close
     (tie.spec
     answer-ping-requires
