@@ -3,6 +3,7 @@ ghost use mathlib.Core.Path.{_≡_};
 ghost use Rattle.table.specs.Account.{accountOf};
 ghost use Rattle.table_find.specs.Find.{isAccountOf};
 ghost use Rattle.table_find.specs.LogOn.{mayLogOn};
+use account_names::compare::first_letters_differ;
 use account_names::compare::same_account_name;
 use octets::number::has_bits;
 use table::ContextNumber;
@@ -22,7 +23,11 @@ pub fn is_account(octets: &[u8], context: ContextNumber, name: &[u8]) -> bool
     if own.0 != context.0 {
         return false;
     }
-    same_account_name(account::name(octets), name)
+    let held = account::name(octets);
+    if first_letters_differ(held, name) {
+        return false;
+    }
+    same_account_name(held, name)
 }
 
 // Whether the account is not disabled and of a kind that AAC allows.
