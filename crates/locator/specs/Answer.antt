@@ -74,19 +74,19 @@ octetsWritten (good a) = a .octets
 
 -- document 01's values of an answer: its number; with a refusal length 0, context 0 and no form
 abbrev pub answerNumber : Answer → ℕ
-answerNumber (answer.Answered length context form) = 0
+answerNumber (answer.Answered len context form) = 0
 answerNumber (answer.Refused r) = number r
 
 abbrev pub answerLength : Answer → ℕ
-answerLength (answer.Answered length context form) = length
+answerLength (answer.Answered len context form) = len
 answerLength (answer.Refused r) = 0
 
 abbrev pub answerContext : Answer → ℕ
-answerContext (answer.Answered length context form) = context .0
+answerContext (answer.Answered len context form) = context .0
 answerContext (answer.Refused r) = 0
 
 abbrev pub answerForm : Answer → Option Form
-answerForm (answer.Answered length context form) = some form
+answerForm (answer.Answered len context form) = some form
 answerForm (answer.Refused r) = none
 
 -- what `answer_ping` promises to return, and to leave in the buffer

@@ -90,15 +90,15 @@ readingAs s (good f) = reading.Read (length s) (fieldsAs f)
 
 -- document 01's values of a reading: its number; with a refusal length 0 and no fields
 abbrev pub readingNumber : Reading → ℕ
-readingNumber (reading.Read length fields) = 0
+readingNumber (reading.Read len f) = 0
 readingNumber (reading.Refused r) = number r
 
 abbrev pub readingLength : Reading → ℕ
-readingLength (reading.Read length fields) = length
+readingLength (reading.Read len f) = len
 readingLength (reading.Refused r) = 0
 
 abbrev pub readingFields : Reading → Option Fields
-readingFields (reading.Read length fields) = some fields
+readingFields (reading.Read len f) = some f
 readingFields (reading.Refused r) = none
 
 -- what `read_reply` promises
