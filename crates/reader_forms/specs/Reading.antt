@@ -2,11 +2,11 @@
 use Rattle.answers.specs.declared.Form.{Form}
 use mathlib.Core.Path.{_≡_}
 use mathlib.Core.List.{List, [], map}
-use mathlib.Core.Option.{Option, none, some}
+use mathlib.Core.Option.{Option, none, some, Option·map}
 use Prim.Native.Nat.{ℕ}
 use lib.ListN.{length, getD}
 use Rattle.answers.specs.Refusal.{number}
-use Rattle.answers.specs.Try.{Try, refused, good}
+use Rattle.answers.specs.Try.{Try, refused, good, numberOf, valueOf}
 use Rattle.reader.specs.declared.field.Stretch.{Stretch}
 use Rattle.reader.specs.Reader as reader
 use Rattle.reader_names.specs.declared.NameAt.{NameAt}
@@ -102,5 +102,8 @@ readingFields (reading.Read len f) = some f
 readingFields (reading.Refused r) = none
 
 -- what `read_reply` promises
-abbrev pub ReadReplyPromise : List ℕ → Form → ℕ → Reading → Type 0
-ReadReplyPromise reply form v r = r ≡ readingAs reply (reader.readIn form v reply)
+pub record ReadReplyPromise (reply : List ℕ) (form : Form) (v : ℕ) (r : Reading) : Type 0 where
+  pub same : r ≡ readingAs reply (reader.readIn form v reply)
+  pub numbered : readingNumber r ≡ numberOf (reader.readIn form v reply)
+  pub sized : readingLength r ≡ reader.readLength (reader.readIn form v reply) reply
+  pub given : readingFields r ≡ Option·map fieldsAs (valueOf (reader.readIn form v reply))
