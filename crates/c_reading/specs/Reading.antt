@@ -68,5 +68,5 @@ fieldsMembers (fields.Ex f) =
     ++ nextSiteMembers (f .«next_site»)
 
 abbrev pub readingMembers : Reading → List ℕ
-readingMembers (reading.Read length f) = length ∷ fieldsMembers f
+readingMembers (reading.Read len f) = len ∷ fieldsMembers f
 readingMembers (reading.Refused r) = absent 54

@@ -8,7 +8,7 @@ use lib.Dec.{eqb}
 use lib.ListN.{length}
 use Rattle.answers.specs.declared.Refusal.the-variants.{ClauseValue}
 use Rattle.answers.specs.Refusal.{number}
-use Rattle.answers.specs.Try.{Try, refused, good, refusedIf, _>>=_}
+use Rattle.answers.specs.Try.{Try, refused, good, refusedIf, _>>=_, numberOf, valueOf}
 use Rattle.answers.specs.Wire.{NETLOGON-NT-VERSION-1}
 use Rattle.octets.specs.Lists.{holds}
 use Rattle.octets.specs.Number.{little}
@@ -79,5 +79,7 @@ judgedVersion (judged.Version v) = v
 judgedVersion (judged.Refused r) = 0
 
 -- what `judge_values` promises
-abbrev pub JudgeValuesPromise : List ℕ → Request → Judged → Type 0
-JudgeValuesPromise filter request r = r ≡ judgedValues (pingIn filter request)
+pub record JudgeValuesPromise (filter : List ℕ) (request : Request) (r : Judged) : Type 0 where
+  pub same : r ≡ judgedValues (pingIn filter request)
+  pub numbered : judgedNumber r ≡ numberOf (pingIn filter request)
+  pub given : judgedVersion r ≡ Option·getD (Option·map (λ p. p .version) (valueOf (pingIn filter request))) 0

@@ -2,11 +2,11 @@
 use Rattle.answers.specs.declared.Form.{Form}
 use mathlib.Core.Path.{_≡_}
 use mathlib.Core.List.{List, [], map}
-use mathlib.Core.Option.{Option, none, some}
+use mathlib.Core.Option.{Option, none, some, Option·map}
 use Prim.Native.Nat.{ℕ}
 use lib.ListN.{length, getD}
 use Rattle.answers.specs.Refusal.{number}
-use Rattle.answers.specs.Try.{Try, refused, good}
+use Rattle.answers.specs.Try.{Try, refused, good, numberOf, valueOf}
 use Rattle.reader.specs.declared.field.Stretch.{Stretch}
 use Rattle.reader.specs.Reader as reader
 use Rattle.reader_names.specs.declared.NameAt.{NameAt}
@@ -90,17 +90,20 @@ readingAs s (good f) = reading.Read (length s) (fieldsAs f)
 
 -- document 01's values of a reading: its number; with a refusal length 0 and no fields
 abbrev pub readingNumber : Reading → ℕ
-readingNumber (reading.Read length fields) = 0
+readingNumber (reading.Read len f) = 0
 readingNumber (reading.Refused r) = number r
 
 abbrev pub readingLength : Reading → ℕ
-readingLength (reading.Read length fields) = length
+readingLength (reading.Read len f) = len
 readingLength (reading.Refused r) = 0
 
 abbrev pub readingFields : Reading → Option Fields
-readingFields (reading.Read length fields) = some fields
+readingFields (reading.Read len f) = some f
 readingFields (reading.Refused r) = none
 
 -- what `read_reply` promises
-abbrev pub ReadReplyPromise : List ℕ → Form → ℕ → Reading → Type 0
-ReadReplyPromise reply form v r = r ≡ readingAs reply (reader.readIn form v reply)
+pub record ReadReplyPromise (reply : List ℕ) (form : Form) (v : ℕ) (r : Reading) : Type 0 where
+  pub same : r ≡ readingAs reply (reader.readIn form v reply)
+  pub numbered : readingNumber r ≡ numberOf (reader.readIn form v reply)
+  pub sized : readingLength r ≡ reader.readLength (reader.readIn form v reply) reply
+  pub given : readingFields r ≡ Option·map fieldsAs (valueOf (reader.readIn form v reply))

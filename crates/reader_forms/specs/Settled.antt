@@ -86,13 +86,13 @@ fieldsFrom text (fields.Response f) = reader.response (responseFrom text f)
 fieldsFrom text (fields.Ex f) = reader.ex (exFrom text f)
 
 abbrev pub readFrom : (ℕ → List ℕ) → Reading → Try reader.Fields
-readFrom text (reading.Read len fields) = good (fieldsFrom text fields)
+readFrom text (reading.Read len f) = good (fieldsFrom text f)
 readFrom text (reading.Refused r) = refused r
 
 -- whatever octets, form and version: from what both calls promise, the second at offsets within the reply, what document 01 says follows
 abbrev pub ReadingSettled : Type 0
 ReadingSettled =
-    (s : List ℕ) (form : Form) (v : ℕ) (reading : Reading) (texts : ℕ → NameText)
-    → ReadReplyPromise s form v reading
+    (s : List ℕ) (form : Form) (v : ℕ) (given : Reading) (texts : ℕ → NameText)
+    → ReadReplyPromise s form v given
     → ((at : ℕ) → at < length s → NameTextPromise s at (texts at))
-    → (readFrom (λ at. textGiven (texts at)) reading ≡ readIn form v s) × (readingLength reading ≡ readLength (readIn form v s) s)
+    → (readFrom (λ at. textGiven (texts at)) given ≡ readIn form v s) × (readingLength given ≡ readLength (readIn form v s) s)

@@ -7,7 +7,7 @@ use lib.Dec.{eqb}
 use lib.ListN.{length}
 use Rattle.answers.specs.declared.Refusal.the-variants.{ImageLength, BlockCheck, BlockLayout, TableWhole}
 use Rattle.answers.specs.Refusal.{number}
-use Rattle.answers.specs.Try.{Try, refused, good, refusedIf}
+use Rattle.answers.specs.Try.{Try, refused, good, refusedIf, numberOf}
 use Rattle.octets.specs.Lists.{all}
 use Rattle.octets.specs.Text.{within}
 use Rattle.table_whole.specs.declared.judge.Judgement.{Judgement}
@@ -47,5 +47,6 @@ judgementNumber Passed = 0
 judgementNumber (Refused r) = number r
 
 -- what `judge` promises
-abbrev pub JudgePromise : List ℕ → Judgement → Type 0
-JudgePromise image r = r ≡ judgedAs (tableIn image)
+pub record JudgePromise (image : List ℕ) (r : Judgement) : Type 0 where
+  pub same : r ≡ judgedAs (tableIn image)
+  pub numbered : judgementNumber r ≡ numberOf (tableIn image)

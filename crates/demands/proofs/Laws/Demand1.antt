@@ -134,33 +134,33 @@ demand-1 =
       judge =
           λ image j r p e.
           subst (λ (x : Judgement). ForImage (judgementNumber x)) (sym e) (
-          only-returned judgedAs judgement.Refused (λ q r h. cc) (λ a r h. cc) (By ForImage) Any (tableIn image) (table-only (By ForImage) refl refl refl refl image) j r p e .0);
+          only-returned judgedAs judgement.Refused (λ q r h. cc) (λ a r h. cc) (By ForImage) Any (tableIn image) (table-only (By ForImage) refl refl refl refl image) j r (p .same) e .0);
       «take_apart» =
           λ filter t r p e.
           subst (λ (x : Taken). ForFilter (takenNumber x)) (sym e) (
-          only-returned takenAs taken.Refused (λ q r h. cc) (λ a r h. cc) (By ForFilter) Any (requestIn filter) (request-only (By ForFilter) refl refl refl refl filter) t r p e .0);
+          only-returned takenAs taken.Refused (λ q r h. cc) (λ a r h. cc) (By ForFilter) Any (requestIn filter) (request-only (By ForFilter) refl refl refl refl filter) t r (p .same) e .0);
       «judge_values» =
           λ filter request j r p e.
           subst (λ (x : Judged). ForValues (judgedNumber x)) (sym e) (
-          only-returned judgedValues judged.Refused (λ q r h. cc) (λ a r h. cc) (By ForValues) Any (pingIn filter request) (ping-only (By ForValues) refl filter request) j r p e .0);
+          only-returned judgedValues judged.Refused (λ q r h. cc) (λ a r h. cc) (By ForValues) Any (pingIn filter request) (ping-only (By ForValues) refl filter request) j r (p .same) e .0);
       «write_filter» =
           λ source request before after w r p e.
           let t : Try (List ℕ) = filterFor source request (length before) in
-          let o = only-returned writtenAs written.Refused (λ q r h. cc) (λ a r h. cc) (By ForWriting) Any t (filter-only (By ForWriting) refl refl refl source request (length before)) w r (p .returned) e in
+          let o = only-returned writtenAs written.Refused (λ q r h. cc) (λ a r h. cc) (By ForWriting) Any t (filter-only (By ForWriting) refl refl refl source request (length before)) w r (p .returned .same) e in
           (subst (λ (x : Written). ForWriting (writtenNumber x)) (sym e) (o .0), ap writtenLength e, p .left ∙ ap (λ (x : Try (List ℕ)). over (writtenOctets x) before) (o .1) ∙ over-none before);
       «answer_ping» =
           λ image caller filter before after a r p e.
           let t : Try Outcome = answerTo image caller filter (length before) in
-          let o = only-returned answerAs answer.Refused (λ q r h. cc) (λ a r h. cc) (By ForPing) Any t (answer-only image caller filter (length before)) a r (p .returned) e in
+          let o = only-returned answerAs answer.Refused (λ q r h. cc) (λ a r h. cc) (By ForPing) Any t (answer-only image caller filter (length before)) a r (p .returned .same) e in
           (subst (λ (x : Answer). ForPing (answerNumber x)) (sym e) (o .0), ap answerLength e, ap answerContext e, ap answerForm e, p .left ∙ ap (λ (x : Try Outcome). over (octetsWritten x) before) (o .1) ∙ over-none before);
       «read_reply» =
           λ reply form v x r p e.
-          let o = only-returned (readingAs reply) reading.Refused (λ q r h. cc) (λ a r h. cc) (By ForReply) (λ f. formRead f ≡ form) (readIn form v reply) (reading-only (By ForReply) refl refl refl refl refl form v reply) x r p e in
+          let o = only-returned (readingAs reply) reading.Refused (λ q r h. cc) (λ a r h. cc) (By ForReply) (λ f. formRead f ≡ form) (readIn form v reply) (reading-only (By ForReply) refl refl refl refl refl form v reply) x r (p .same) e in
           (subst (λ (x : Reading). ForReply (readingNumber x)) (sym e) (o .0), ap readingLength e, ap readingFields e);
       «name_text» =
           λ reply start t r p e.
           let o = only-returned textLengthAs text.Refused (λ q r h. cc) (λ a r h. cc) (By ForName) Any (nameText reply start)
-          (only-then (By ForName) Any (readName reply start) _ (name-only (By ForName) refl refl reply start) (λ f. tt)) (t .len) r (ap (λ (x : NameText). x .len) p) e in
+          (only-then (By ForName) Any (readName reply start) _ (name-only (By ForName) refl refl reply start) (λ f. tt)) (t .len) r (ap (λ (x : NameText). x .len) (p .same)) e in
           (subst (λ (x : TextLength). ForName (textNumber x)) (sym e) (o .0), ap textLength e, ap (λ (l : TextLength). take (textLength l) (t .octets)) e);
       «number_of» = λ r n p. subst ForAny (sym p) (number-known r);
     }

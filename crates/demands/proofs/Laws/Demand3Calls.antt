@@ -70,7 +70,7 @@ module _ (s : List ℕ) where
   name-spelt at f e = rw e
 
   pub spelt-given : (start : ℕ) (text : List ℕ) → nameText s start ≡ good text → (t : NameText) → NameTextPromise s start t → t ≡ nameTextAs (good text)
-  spelt-given start text e t p = p ∙ ap nameTextAs e
+  spelt-given start text e t p = p .same ∙ ap nameTextAs e
 
   names-spelt : (f : Fields) → AllHave s Spelt name-spelt f → (k : ℕ) → k < length (namesRead (fieldsAs f)) → Spelt (getD (namesIn f) k noName)
   names-spelt (nt40 f) a k h = absurd (omega arith)
@@ -108,7 +108,7 @@ reading-walked form v r s w given promise =
     let many : length (namesRead (fieldsAs f)) ≡ length (namesOf form r) = subst (λ (x : Form). length (namesRead (fieldsAs f)) ≡ length (namesOf x r)) formed (names-many f r) in
     record {
       read = fieldsAs f;
-      accepted = promise ∙ ap (readingAs s) (w .accepted);
+      accepted = promise .same ∙ ap (readingAs s) (w .accepted);
       many = many;
       names =
           λ k h.

@@ -71,4 +71,4 @@ module _ (s : List ℕ) where
       ((λ k h. rw (names-there f k h) (names-walk f a k h)), (λ n l. last-walks f a n (sym (last-there f) ∙ l)))
 
 pub reading-walks : ReadingWalks
-reading-walks s form v len read promise = walks s form v len read (readIn form v s) refl promise
+reading-walks s form v len read promise = walks s form v len read (readIn form v s) refl (promise .same)

@@ -16,11 +16,10 @@ use Rattle.reader.specs.Field.{Read}
 use Rattle.reader.specs.Name.{readName}
 use Rattle.reader.specs.Reader as reader
 use Rattle.reader.proofs.Laws.Name.{reader-walks}
-use Rattle.reader.specs.Reader.{NameRead, joinedName, readIn, readLength}
+use Rattle.reader.specs.Reader.{NameRead, joinedName, readIn}
 use Rattle.reader_names.specs.Name.{nameAs}
 use Rattle.reader_text.specs.Text.{nameText, textOctets, textGiven}
-use Rattle.reader_text.proofs.Laws.Text.{given-text}
-use Rattle.reader_forms.specs.Reading.{noName, addressAs, nextSiteAs, fieldsAs, readingAs, readingLength}
+use Rattle.reader_forms.specs.Reading.{noName, addressAs, nextSiteAs, fieldsAs, readingAs}
 use Rattle.reader_forms.specs.Settled.{siteRead, nameFrom, addressFrom, fieldsFrom, readFrom, ReadingSettled}
 use Rattle.reader_forms.proofs.Laws.Names.{SiteHas, AllHave, all-have}
 
@@ -97,13 +96,11 @@ module _ (s : List ℕ) (text : ℕ → List ℕ) (gives : (at : ℕ) → at < l
       address-back none = refl
       address-back (some x) = refl
 
-  reading-back : (form : Form) (v : ℕ) (t : Try reader.Fields) → readIn form v s ≡ t → (readFrom text (readingAs s t) ≡ t) × (readingLength (readingAs s t) ≡ readLength t s)
-  reading-back form v (refused r) e = (refl, refl)
-  reading-back form v (good f) e = (ap good (fields-back f (all-have s Told name-told form v f e)), refl)
+  reading-back : (form : Form) (v : ℕ) (t : Try reader.Fields) → readIn form v s ≡ t → readFrom text (readingAs s t) ≡ t
+  reading-back form v (refused r) e = refl
+  reading-back form v (good f) e = ap good (fields-back f (all-have s Told name-told form v f e))
 
 pub reading-settled : ReadingSettled
-reading-settled s form v r texts e gives =
+reading-settled s form v r texts promise gives =
     let text : ℕ → List ℕ = λ at. textGiven (texts at) in
-    let told : (at : ℕ) → at < length s → text at ≡ textOctets (nameText s at) = λ at h. ap textGiven (gives at h) ∙ given-text (nameText s at) in
-    let back = reading-back s text told form v (readIn form v s) refl in
-    (ap (readFrom text) e ∙ back .0, ap readingLength e ∙ back .1)
+    (ap (readFrom text) (promise .same) ∙ reading-back s text (λ at h. gives at h .given) form v (readIn form v s) refl, promise .sized)

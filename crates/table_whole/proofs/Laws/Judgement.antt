@@ -9,7 +9,7 @@ use lib.ListN.{length}
 use borrow.Author.Tests.{eqb-true, not-true, not-false, leb-true, le-leb, lt-leb}
 use Rattle.answers.specs.declared.Refusal.{Refusal}
 use Rattle.answers.specs.declared.Refusal.the-variants.{ImageLength, BlockCheck, BlockLayout, TableWhole}
-use Rattle.answers.specs.Try.{Try, refused, good}
+use Rattle.answers.specs.Try.{Try, refused, good, numberOf}
 use Rattle.answers.proofs.Laws.Try.{refusedIf-good}
 use Rattle.octets.specs.Lists.{all, any, keep, holds, pieces}
 use Rattle.octets.proofs.Laws.Lists.{Every, every-all, every-map, every-flat, every-keep, both-left, both-right, other-right, cut-length, pieces-wide}
@@ -39,8 +39,9 @@ use Rattle.table.proofs.Laws.Format.{format-fills}
 use Rattle.table_check.specs.Check.{goodCheck}
 use Rattle.table_layout.specs.Field.{zeros, textField, lastText}
 use Rattle.table_layout.specs.Layout.{nonzero, serverLayout, forestLayout, flagsLayout, sidLayout, isEmpty, isContextNetbios, contextLayout, siteLayout, subnetLayout, recordLayout, recordsLayout, bodyLayout, blockLayout, layoutsFrom}
-use Rattle.table_whole.specs.Judgement.{goodLength, tableIn, Accepted, judgedAs}
+use Rattle.table_whole.specs.Judgement.{goodLength, tableIn, Accepted, judgedAs, judgementNumber, JudgePromise}
 use Rattle.table_whole.specs.Whole.{contextsUnique, sitesUnique, accountsUnique, subnetsUnique, refersRightly, goodWhole}
+use Rattle.table_whole.specs.declared.judge.Judgement.{Judgement}
 use Rattle.table_whole.specs.declared.judge.Judgement.the-variants.{Passed, Refused}
 
 -- ---- what an accepted image holds
@@ -406,6 +407,13 @@ module _ (image : List ℕ) where
         passed e = rw (l, c, y, e)
 
 -- ---- what a judgement says of the image
+
+pub judge-promised : (image : List ℕ) (r : Judgement) → r ≡ judgedAs (tableIn image) → JudgePromise image r
+judge-promised image r e = record { same = e; numbered = ap judgementNumber e ∙ numbers (tableIn image) }
+  where
+    numbers : (t : Try Table) → judgementNumber (judgedAs t) ≡ numberOf t
+    numbers (refused x) = refl
+    numbers (good t) = refl
 
 pub passed-accepted : (image : List ℕ) → Passed ≡ judgedAs (tableIn image) → Accepted image
 passed-accepted image e = go (tableIn image) refl e

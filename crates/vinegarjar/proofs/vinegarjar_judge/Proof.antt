@@ -11,7 +11,7 @@ judgement-number-requires : tie.Need-judgement-number-requires
 judgement-number-requires c κs = search needs
 
 returns : tie.Need-returns
-returns c = c .judgement-number .ensures ∙ ap judgementNumber (c .before .judge .ensures)
+returns c = c .judgement-number .ensures ∙ ap judgementNumber (c .before .judge .ensures .same)
 
 pub vinegarjar-judge-spec : {M : Type 1} → statement M
 vinegarjar-judge-spec = tie.close (tie.spec judge-requires judgement-number-requires returns)

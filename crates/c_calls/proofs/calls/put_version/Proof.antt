@@ -19,7 +19,7 @@ judged-number-requires c κs = search needs
 returns : tie.Need-returns
 returns c =
     let filter = c .before .before .before .before .before .args .filter .now in
-    let e = c .before .before .judge-values .ensures ∙ ap (λ r. judgedValues (pingIn filter r)) (c .before .before .before .request-of .ensures) in
+    let e = c .before .before .judge-values .ensures .same ∙ ap (λ r. judgedValues (pingIn filter r)) (c .before .before .before .request-of .ensures) in
     (c .judged-number .ensures ∙ ap judgedNumber e, c .before .judged-version .ensures ∙ ap judgedVersion e)
 
 pub put-version-spec : {M : Type 1} → statement M
