@@ -3,6 +3,7 @@ use mathlib.Core.Path.{_≡_, refl, sym, ap, _∙_, subst}
 use mathlib.Core.List.{List}
 use mathlib.Core.Logic.{_⊎_, inl, inr}
 use Prim.Native.Nat.{ℕ}
+use lib.ListN.{length}
 use Rattle.answers.specs.declared.Form.{Form}
 use Rattle.answers.specs.declared.Form.the-variants.{Nt40, Response, Ex}
 use Rattle.answers.specs.Try.{Try, refused, good}
@@ -18,22 +19,29 @@ use Rattle.filter_read.specs.declared.read.Taken.the-variants as taken
 use Rattle.filter_read.specs.declared.value.Judged.{Judged}
 use Rattle.filter_read.specs.declared.value.Judged.the-variants as judged
 use Rattle.filter_read.specs.Taken.{takenNumber, TakeApartPromise}
+use Rattle.filter_read.proofs.Laws.Taken.{take-apart-promised}
+use Rattle.filter_read.proofs.Laws.Value.{judge-values-promised}
 use Rattle.filter_read.specs.Value.{judgedNumber, judgedVersion, JudgeValuesPromise}
 use Rattle.filter_write.specs.declared.write.Written.{Written}
 use Rattle.filter_write.specs.declared.write.Written.the-variants as written
 use Rattle.filter_write.specs.Write.{writtenNumber, writtenLength}
+use Rattle.filter_write.proofs.Laws.Write.{write-filter-promised}
 use Rattle.locator.specs.declared.Answer.{Answer}
 use Rattle.locator.specs.declared.Answer.the-variants as answer
-use Rattle.locator.specs.Answer.{answerNumber}
+use Rattle.locator.specs.Answer.{answerTo, answerNumber}
+use Rattle.locator.proofs.Laws.Answer.{answer-promised}
 use Rattle.octets.specs.Buffer.{over}
 use Rattle.octets.proofs.Laws.Buffer.{over-none}
 use Rattle.reader_forms.specs.declared.reading.Reading.{Reading}
 use Rattle.reader_forms.specs.declared.reading.Reading.the-variants as reading
 use Rattle.reader_forms.specs.Reading.{readingNumber, ReadReplyPromise}
+use Rattle.reader_forms.proofs.Laws.Reading.{read-reply-promised}
+use Rattle.reader_text.proofs.Laws.Text.{name-text-promised}
 use Rattle.reader_text.specs.Text.{nameText, textLengthAs, textOctets, textNumber}
 use Rattle.table_whole.specs.declared.judge.Judgement.{Judgement}
 use Rattle.table_whole.specs.declared.judge.Judgement.the-variants as judgement
 use Rattle.table_whole.specs.Judgement.{tableIn, judgedAs, judgementNumber, JudgePromise}
+use Rattle.table_whole.proofs.Laws.Judgement.{judge-promised}
 use Rattle.c_promises.specs.Calls.{filterTaken, textAt, callerAt, pingAnswered, ExportedNameText}
 use Rattle.c_promises.specs.Demand1Exported.{DoneOr, zeros, Demand1Exported}
 
@@ -73,22 +81,22 @@ read reply members form version (reading.Refused x) r p e f = inr (subst ForRepl
 named : (reply text : List ℕ) (start len r : ℕ) (t : Try (List ℕ)) → nameText reply start ≡ t → ExportedNameText reply start text len r → DoneOr ForName r ((text ≡ zeros 253) × (len ≡ 0))
 named reply text start len r (good octets) q p = inl (p .0 ∙ ap (λ t. textNumber (textLengthAs t)) q)
 named reply text start len r (refused x) q p =
-    let d = demand-1 .«name_text» reply start (textAt reply start) x refl (ap textLengthAs q) in
+    let d = demand-1 .«name_text» reply start (textAt reply start) x (name-text-promised reply start _ refl) (ap textLengthAs q) in
     inr (subst ForName (sym (p .0)) (d .0), (p .1 ∙ ap (λ t. over (textOctets t) (zeros 253)) q ∙ over-none (zeros 253), p .2 ∙ d .1))
 
 pub demand-1-exported : Demand1Exported
 demand-1-exported =
     record {
-      «vinegarjar_judge» = λ image r p. judged-image image (judgedAs (tableIn image)) r refl p;
+      «vinegarjar_judge» = λ image r p. judged-image image (judgedAs (tableIn image)) r (judge-promised image _ refl) p;
       «vinegarjar_check» = λ octets check p. p;
-      «vinegarjar_take_apart» = λ filter request r p. taken-apart filter request (filterTaken filter) r refl (p .0) (p .1);
-      «vinegarjar_judge_values» = λ filter request version r p. judged-values filter request (valuesJudged filter request) version r refl (p .0) (p .1);
+      «vinegarjar_take_apart» = λ filter request r p. taken-apart filter request (filterTaken filter) r (take-apart-promised filter _ refl) (p .0) (p .1);
+      «vinegarjar_judge_values» = λ filter request version r p. judged-values filter request (valuesJudged filter request) version r (judge-values-promised filter (requestGiven request) _ refl) (p .0) (p .1);
       «vinegarjar_write_filter» = λ source request before after len r p.
-          written-filter source request before after (filterWritten source request before) len r (record { returned = refl; left = p .2 }) (p .0) (p .1);
+          written-filter source request before after (filterWritten source request before) len r (record { returned = write-filter-promised source (requestGiven request) before _ (refl, p .2) .0; left = p .2 }) (p .0) (p .1);
       «vinegarjar_answer_ping» = λ image client filter before after answer r p.
-          answered image client filter before after answer (pingAnswered image client filter before) r (record { returned = refl; left = p .2 }) (p .0) (p .1);
-      «vinegarjar_read_nt40» = λ reply reading r p. read reply reading Nt40 0 (replyRead Nt40 0 reply) r refl (p .0) (p .1);
-      «vinegarjar_read_response» = λ reply reading r p. read reply reading Response 0 (replyRead Response 0 reply) r refl (p .0) (p .1);
-      «vinegarjar_read_ex» = λ version reply reading r p. read reply reading Ex version (replyRead Ex version reply) r refl (p .0) (p .1);
+          answered image client filter before after answer (pingAnswered image client filter before) r (record { returned = answer-promised (answerTo image (callerAt client) filter (length before)) _ (refl, p .2) .0; left = p .2 }) (p .0) (p .1);
+      «vinegarjar_read_nt40» = λ reply reading r p. read reply reading Nt40 0 (replyRead Nt40 0 reply) r (read-reply-promised reply Nt40 0 _ refl) (p .0) (p .1);
+      «vinegarjar_read_response» = λ reply reading r p. read reply reading Response 0 (replyRead Response 0 reply) r (read-reply-promised reply Response 0 _ refl) (p .0) (p .1);
+      «vinegarjar_read_ex» = λ version reply reading r p. read reply reading Ex version (replyRead Ex version reply) r (read-reply-promised reply Ex version _ refl) (p .0) (p .1);
       «vinegarjar_name_text» = λ reply start text len r p. named reply text start len r (nameText reply start) refl p;
     }
