@@ -3,12 +3,12 @@
 use Rattle.filter_read.specs.Value.{judgedNumber, JudgeValuesPromise}
 use Rattle.filter_read.specs.Taken.{takenNumber, TakeApartPromise}
 use Rattle.table_whole.specs.Judgement.{judgementNumber, JudgePromise}
-use Rattle.table_check.specs.Check.{CheckOfPromise}
+use Rattle.table_check.specs.Check.{checkOf, CheckOfPromise}
 use mathlib.Core.Path.{_≡_}
 use mathlib.Core.Bool.{true, _||_}
 use mathlib.Core.List.{List, [], _∷_}
 use mathlib.Core.Option.{none}
-use Prim.Native.Nat.{ℕ}
+use Prim.Native.Nat.{ℕ, _<_}
 use lib.Dec.{eqb}
 use Rattle.answers.specs.declared.Form.{Form}
 use Rattle.answers.specs.declared.Refusal.{Refusal}
@@ -71,8 +71,8 @@ abbrev pub ForAny : ℕ → Type 0
 ForAny n = within 1 9 n || within 11 19 n || within 31 35 n ≡ true
 
 pub record Demand1 : Type 0 where
-  -- it refuses nothing, and has its field to make the list whole
-  pub «check_of» : (octets : List ℕ) → (c : Check) × CheckOfPromise octets c
+  -- it refuses nothing: of all octets it gives the two sums of the definition, 16 bits each
+  pub «check_of» : (octets : List ℕ) (c : Check) → CheckOfPromise octets c → (c ≡ checkOf octets) × (c .a < 65536) × (c .b < 65536)
   pub judge : (image : List ℕ) (j : Judgement) (r : Refusal) → JudgePromise image j → j ≡ judgement.Refused r → ForImage (judgementNumber j)
   pub «take_apart» : (filter : List ℕ) (t : Taken) (r : Refusal) → TakeApartPromise filter t → t ≡ taken.Refused r → ForFilter (takenNumber t)
   pub «judge_values» : (filter : List ℕ) (request : Request) (j : Judged) (r : Refusal) → JudgeValuesPromise filter request j → j ≡ judged.Refused r → ForValues (judgedNumber j)

@@ -1,4 +1,4 @@
--- Document 01, "Sample answers": P1 to P12 as one table under one statement.
+-- Document 01, "Sample answers": P1 to P12 as one table under one statement, with a row for document 02, #101.
 use mathlib.Core.Path.{_≡_}
 use mathlib.Core.List.{List, [], _∷_, _++_, map, flatMap}
 use mathlib.Core.Option.{Option, none, some}
@@ -8,7 +8,7 @@ use Rattle.answers.specs.declared.Form.{Form}
 use Rattle.answers.specs.declared.Form.the-variants.{Nt40, Response, Ex}
 use Rattle.answers.specs.Try.{Try, refused, good}
 use Rattle.filter.specs.declared.request.ClauseName.{ClauseName}
-use Rattle.filter.specs.declared.request.ClauseName.the-variants.{User, Aac, DomainGuid, NtVer}
+use Rattle.filter.specs.declared.request.ClauseName.the-variants.{DnsDomain, User, Aac, DomainGuid, NtVer}
 use Rattle.filter_octets.specs.Octets.{element, equalityFor}
 use Rattle.names.specs.Walk.{WalkedName, walk}
 use Rattle.octets.specs.Lists.{cut}
@@ -181,6 +181,8 @@ samples =
     ∷ row (summary (pings 0 (asks 2 (forUser (0x61 ∷ 0x2E ∷ 0x2E ∷ 0x62 ∷ []) ∷ [])) 2000)) (0 ∷ 100 ∷ 1 ∷ 2 ∷ 21 ∷ [])
     -- P12: the check of 508 zero octets
     ∷ row (let c = checkOf (replicate 508 0) in u16 (c .a) ++ u16 (c .b)) (0x01 ∷ 0x00 ∷ 0xFC ∷ 0x01 ∷ [])
+    -- #101: no NtVer
+    ∷ row (summary (pings 0 (filter (record { name = DnsDomain; octets = corp } ∷ [])) 2000)) (0 ∷ 30 ∷ 1 ∷ 1 ∷ 19 ∷ [])
     ∷ []
 
 abbrev pub SamplesHold : Type 0

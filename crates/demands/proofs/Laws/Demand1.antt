@@ -1,8 +1,9 @@
 -- Demand 1 is proved: each definition names the reasons for which it refuses, and what follows it names its own.
 use mathlib.Core.Path.{_≡_, refl, sym, ap, _∙_, subst}
-use mathlib.Core.List.{List}
+use mathlib.Core.List.{List, [], _∷_}
 use mathlib.Core.Option.{Option, none, some}
-use Prim.Native.Nat.{ℕ}
+use Prim.Native.Nat.{ℕ, _<_}
+use native.Mathlib.Omega.{arith}
 use lib.ListN.{length, take}
 use Rattle.answers.specs.declared.Refusal.{Refusal}
 use Rattle.answers.specs.declared.Refusal.the-variants.{ImageLength, BlockCheck, BlockLayout, TableWhole}
@@ -43,7 +44,8 @@ use Rattle.reader_text.specs.Text.{nameText, textLengthAs, textLength, textNumb
 use Rattle.table.specs.declared.Caller.{Caller}
 use Rattle.table.specs.Context.{Context}
 use Rattle.table.specs.Table.{Table}
-use Rattle.table_check.specs.Check.{checkOf}
+use Rattle.table_check.specs.declared.check.Check.{Check}
+use Rattle.table_check.specs.Check.{grow, grown, checkOf}
 use Rattle.table_whole.specs.declared.judge.Judgement.{Judgement}
 use Rattle.table_whole.specs.declared.judge.Judgement.the-variants as judgement
 use Rattle.table_whole.specs.Judgement.{tableIn, judgedAs, judgementNumber}
@@ -126,11 +128,20 @@ number-known ReplyText = refl
 number-known ReplyFixed = refl
 number-known ReplyLeftOver = refl
 
+-- two sums of 16 bits each
+abbrev Sums : Check → Type 0
+Sums c = (c .a < 65536) × (c .b < 65536)
+
+sums-grown : (c : Check) (octets : List ℕ) → Sums c → Sums (grown c octets)
+unfolding grown
+sums-grown c [] h = h
+sums-grown c (x ∷ xs) h = sums-grown (grow c x) xs (omega arith, omega arith)
+
 pub demand-1 : Demand1
-unfolding any nameText
+unfolding any nameText checkOf
 demand-1 =
     record {
-      «check_of» = λ octets. (checkOf octets, refl);
+      «check_of» = λ octets c p. let s = subst Sums (sym p) (sums-grown (record { a = 1; b = 0 }) octets (omega arith, omega arith)) in (p, s .0, s .1);
       judge =
           λ image j r p e.
           subst (λ (x : Judgement). ForImage (judgementNumber x)) (sym e) (

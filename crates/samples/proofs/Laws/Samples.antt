@@ -32,6 +32,7 @@ use Rattle.table.specs.Forest.{forestOf}
 use Rattle.table.specs.Context.{contextOf}
 use Rattle.table.specs.Account.{accountOf}
 use Rattle.table.specs.Site.{siteOf}
+use Rattle.table.specs.SameName.{sameDnsName}
 use Rattle.table.specs.Subnet.{sameNetwork, subnetOf}
 use Rattle.account_names.specs.AccountName.{foldedText, sameAccountName}
 use Rattle.table.specs.Block.{blocksOf}
@@ -47,5 +48,5 @@ use Rattle.choose.specs.Judge.{contextUsed, contextIn}
 use Rattle.samples.specs.Samples.{checked, block, example, corp, CORP, DC1, dc1, HQ, ann, guid, ipv4, image, filter, version, six, caller, pings, summary, refusal, P1, asks, forUser, samples, SamplesHold}
 
 pub samples-hold : SamplesHold
-unfolding samples checked block example corp CORP DC1 dc1 HQ ann guid ipv4 image filter version six caller pings summary refusal P1 asks forUser elementAt equality one siblings andOf clausesOf isNamed hasUnknown hasDuplicate requestOf requestIn wrongValue versionAsked pingIn lengthOctets element pointerTo literalLabel writeLabels writeName writeNames lookAt walkFrom walk parts labels joined all any first keep unique pieces isDnsName isPlainName isUserName isAccountName little big littleOctets bigOctets has isSid same lower pointOctets pointsOctets utf16 lead follow pointsFrom isUtf8 readOctets readStretch readFixed readNameFrom readName readNames readOpcode readNumber readTokens readAddress hasNextSite readLast readEx text16 ending opening nt40Octets responseHead responseOctets exHead exOctets grown checkOf goodCheck zeros textField goodLength tableIn serverLayout forestLayout contextLayout accountLayout siteLayout subnetLayout flagsLayout lastText recordsLayout bodyLayout blockLayout layoutsFrom serverOf forestOf contextOf accountOf siteOf subnetOf blocksOf bodies recordsOf tableOf foldPairs foldFrom foldTable foldPoint foldPoints foldedText sameAccountName contextsUnique accountsUnique sameNetwork subnetsUnique sitesUnique hasContext hasSite refersRightly goodWhole pingFrom answerOver answerTo wrongUser replyTo mayLogOn isKnown isUserUnknown formOf isHeldBack opcodeOf namesApplication exFlags responseFlags nextSite replyFor contextByGuid nameCompared isNamedBy contextByDnsName holdsSid contextBySid contextByNumber defaultContext accountByName siteByNumber addressNumber networkOf isPrefixOnly sharePrefix inSubnet nearest subnetFor clientSite contextUsed contextIn flatMap bind
+unfolding samples checked block example corp CORP DC1 dc1 HQ ann guid ipv4 image filter version six caller pings summary refusal P1 asks forUser elementAt equality one siblings andOf clausesOf isNamed hasUnknown hasDuplicate requestOf requestIn wrongValue versionAsked pingIn lengthOctets element pointerTo literalLabel writeLabels writeName writeNames lookAt walkFrom walk parts labels joined all any first keep unique pieces isDnsName isPlainName isUserName isAccountName little big littleOctets bigOctets has isSid same lower pointOctets pointsOctets utf16 lead follow pointsFrom isUtf8 readOctets readStretch readFixed readNameFrom readName readNames readOpcode readNumber readTokens readAddress hasNextSite readLast readEx text16 ending opening nt40Octets responseHead responseOctets exHead exOctets grown checkOf goodCheck zeros textField goodLength tableIn serverLayout forestLayout contextLayout accountLayout siteLayout subnetLayout flagsLayout lastText recordsLayout bodyLayout blockLayout layoutsFrom serverOf forestOf contextOf accountOf siteOf subnetOf blocksOf bodies recordsOf tableOf foldPairs foldFrom foldTable foldPoint foldPoints foldedText sameAccountName sameDnsName contextsUnique accountsUnique sameNetwork subnetsUnique sitesUnique hasContext hasSite refersRightly goodWhole pingFrom answerOver answerTo wrongUser replyTo mayLogOn isKnown isUserUnknown formOf isHeldBack opcodeOf namesApplication exFlags responseFlags nextSite replyFor contextByGuid nameCompared isNamedBy contextByDnsName holdsSid contextBySid contextByNumber defaultContext accountByName siteByNumber addressNumber networkOf isPrefixOnly sharePrefix inSubnet nearest subnetFor clientSite contextUsed contextIn flatMap bind
 samples-hold = refl
