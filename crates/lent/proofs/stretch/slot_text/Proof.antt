@@ -1,6 +1,6 @@
 use borrow.Author.Needs.{needs}
-use Rattle.lent.proofs.stretch.stretch_of.Statement.{statement}
-use Rattle.lent.proofs.stretch.stretch_of.Tie as tie
+use Rattle.lent.proofs.stretch.slot_text.Statement.{statement}
+use Rattle.lent.proofs.stretch.slot_text.Tie as tie
 
 enum-told : tie.Need-enum-told
 enum-told c = search needs
@@ -20,5 +20,5 @@ returns c = rw (c .before .enum-told .given .1) (c .part .ensures)
 returns-2 : tie.Need-returns-2
 returns-2 c = rw (c .before .enum-told2 .given .1) (c .part2 .ensures)
 
-pub stretch-of-spec : {M : Type 1} → statement M
-stretch-of-spec = tie.close (tie.spec enum-told part-requires enum-told-2 part-requires-2 returns returns-2)
+pub slot-text-spec : {M : Type 1} → statement M
+slot-text-spec = tie.close (tie.spec enum-told part-requires enum-told-2 part-requires-2 returns returns-2)
