@@ -1,8 +1,8 @@
 use lib.ListN.{length}
 use Prim.Native.Nat.{_-_, _≤_}
 use borrow.Author.Needs.{needs}
-use Rattle.vectors.proofs.parse.space_count.Statement.{statement}
-use Rattle.vectors.proofs.parse.space_count.Tie as tie
+use Rattle.vectors.proofs.answer.space_count.Statement.{statement}
+use Rattle.vectors.proofs.answer.space_count.Tie as tie
 
 abbrev Inv-loop : tie.InvT-loop
 Inv-loop line n₀ i₀ n i = (i ≤ length line) × (n ≤ i)

@@ -1,20 +1,20 @@
 use lib.ListN.{length}
 use Prim.Native.Nat.{_-_, _≤_}
 use borrow.Author.Needs.{needs}
-use Rattle.vectors.proofs.parse.word_start.Statement.{statement}
-use Rattle.vectors.proofs.parse.word_start.Tie as tie
+use Rattle.console.proofs.field.field_start.Statement.{statement}
+use Rattle.console.proofs.field.field_start.Tie as tie
 
 abbrev Inv-loop : tie.InvT-loop
-Inv-loop line number start₀ i₀ start i = start ≤ length line
+Inv-loop text separator number start₀ i₀ start i = start ≤ length text
 
 abbrev μ-loop : tie.MeasureT-loop
-μ-loop line number start₀ i₀ start i = number - i
+μ-loop text separator number start₀ i₀ start i = number - i
 
 loop-holds : tie.Need-loop-holds Inv-loop μ-loop
 loop-holds c = search needs
 
-word-end-requires : tie.Need-word-end-requires Inv-loop μ-loop
-word-end-requires c κs = search needs
+field-end-requires : tie.Need-field-end-requires Inv-loop μ-loop
+field-end-requires c κs = search needs
 
 returns : tie.Need-returns Inv-loop μ-loop
 returns c = search needs
@@ -34,14 +34,14 @@ loop-again c = search needs
 returns-2 : tie.Need-returns-2 Inv-loop μ-loop
 returns-2 c = search needs
 
-pub word-start-spec : {M : Type 1} → statement M
-word-start-spec =
+pub field-start-spec : {M : Type 1} → statement M
+field-start-spec =
     tie.close
     (tie.spec
     Inv-loop
     μ-loop
     loop-holds
-    word-end-requires
+    field-end-requires
     returns
     add-start
     add-i
