@@ -2,8 +2,7 @@
 use mathlib.Core.Bool.{Bool, true, false}
 use mathlib.Core.Option.{Option, none, some}
 use Prim.Native.Nat.{ℕ}
-use Rattle.answers.specs.declared.Refusal.{Refusal}
-use Rattle.answers.specs.Refusal.{number}
+use Rattle.answers.specs.{declared.Refusal.Refusal, Refusal.number}
 
 pub data Try (A : Type 0) : Type 0 where
   refused : Refusal → Try A

@@ -5,9 +5,8 @@ use mathlib.Core.List.{List}
 use Prim.Native.Nat.{ℕ}
 use lib.ListN.{length}
 use Rattle.answers.specs.declared.Form.{Form}
-use Rattle.filter_read.specs.declared.read.Taken.{Taken}
+use Rattle.filter_read.specs.{declared.read.Taken.Taken, Value.judgedNumber, Value.judgedVersion}
 use Rattle.filter_read.specs.Taken.{requestIn, takenAs, takenNumber}
-use Rattle.filter_read.specs.Value.{judgedNumber, judgedVersion}
 use Rattle.filter_write.specs.Write.{writtenNumber, writtenLength, WriteFilterLeaves}
 use Rattle.locator.specs.declared.Answer.{Answer}
 use Rattle.locator.specs.Answer.{answerTo, answerAs, answerNumber, AnswerPingLeaves}

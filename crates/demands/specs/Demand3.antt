@@ -9,16 +9,12 @@ use Rattle.answers.specs.declared.Form.{Form}
 use Rattle.answers.specs.declared.Form.the-variants.{Nt40, Response, Ex}
 use Rattle.names.specs.Walk.{WalkedName, walk}
 use Rattle.octets.specs.Label as label
-use Rattle.reader_forms.specs.declared.reading.Fields.{Fields}
-use Rattle.reader_forms.specs.declared.reading.Reading.{Reading}
+use Rattle.reader_forms.specs.{declared.reading.Fields.Fields, declared.reading.Reading.Reading, Reading.noName, Reading.ReadReplyPromise, Settled.namesRead}
+use Rattle.reader_forms.specs.{Settled.lastRead}
 use Rattle.reader_forms.specs.declared.reading.Reading.the-variants as reading
-use Rattle.reader_forms.specs.Reading.{noName, ReadReplyPromise}
-use Rattle.reader_forms.specs.Settled.{namesRead, lastRead}
-use Rattle.reader_names.specs.declared.NameAt.{NameAt}
-use Rattle.reader_names.specs.Name.{nameAs}
-use Rattle.reader_text.specs.declared.NameText.{NameText}
+use Rattle.reader_names.specs.{declared.NameAt.NameAt, Name.nameAs}
+use Rattle.reader_text.specs.{declared.NameText.NameText, Text.textGiven, Text.NameTextPromise}
 use Rattle.reader_text.specs.declared.TextLength.the-variants.{Octets}
-use Rattle.reader_text.specs.Text.{textGiven, NameTextPromise}
 use Rattle.reply.specs.Reply.{Reply, responseNames, exNames}
 use Rattle.demands.specs.Derivation.{ReplyIs, EveryAnswerOver, EveryReply}
 use Rattle.demands.specs.Places.{nameStart, lastStart}

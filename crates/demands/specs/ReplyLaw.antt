@@ -6,13 +6,11 @@ use mathlib.Core.List.{List, map}
 use mathlib.Core.Option.{Option, none, some, Option·map}
 use Prim.Native.Nat.{ℕ}
 use lib.ListN.{length}
-use Rattle.answers.specs.declared.Form.{Form}
+use Rattle.answers.specs.{declared.Form.Form, Try.Try, Try.good}
 use Rattle.answers.specs.declared.Form.the-variants.{Nt40, Response, Ex}
-use Rattle.answers.specs.Try.{Try, good}
 use Rattle.answers.specs.Wire.{nt40Version, responseVersion, exVersion, exVersionWithNextSite}
 use Rattle.octets.specs.Lists.{cut}
-use Rattle.unicode.specs.Utf8.{isUtf8}
-use Rattle.unicode.specs.Utf16.{utf16}
+use Rattle.unicode.specs.{Utf8.isUtf8, Utf16.utf16}
 use Rattle.reader.specs.declared.field.Stretch.{Stretch}
 use Rattle.reader.specs.Reader.{NameRead, Nt40Fields, ResponseFields, ExFields, Fields, nt40, response, ex, readIn, readLength}
 use Rattle.reply.specs.Reply.{Reply, responseNames, exNames}

@@ -5,12 +5,9 @@ use mathlib.Core.Option.{none, some}
 use Prim.Native.Nat.{ℕ}
 use Rattle.answers.specs.declared.Form.the-variants.{Nt40}
 use Rattle.answers.specs.Try.{good}
-use Rattle.filter.specs.declared.request.ClauseName.{ClauseName}
+use Rattle.filter.specs.{declared.request.ClauseName.ClauseName, declared.request.Request.Request, Request.clause, Request.octetsOf}
 use Rattle.filter.specs.declared.request.ClauseName.the-variants.{NtVer}
-use Rattle.filter.specs.declared.request.Request.{Request}
-use Rattle.filter.specs.Request.{clause, octetsOf}
-use Rattle.filter_read.specs.Taken.{requestIn}
-use Rattle.filter_read.specs.Value.{pingFrom}
+use Rattle.filter_read.specs.{Taken.requestIn, Value.pingFrom}
 use Rattle.locator.specs.Answer.{Outcome, answerTo}
 use Rattle.table.specs.declared.Caller.{Caller}
 

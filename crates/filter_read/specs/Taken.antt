@@ -11,12 +11,9 @@ use Rattle.answers.specs.Refusal.{number}
 use Rattle.answers.specs.Try.{Try, refused, good, refusedIf, numberOf, valueOf}
 use Rattle.octets.specs.Lists.{any, first, unique, cut}
 use Rattle.octets.specs.Text.{sameFolded}
-use Rattle.filter_position.specs.declared.position.RawClause.{RawClause}
-use Rattle.filter.specs.declared.request.Clause.{Clause}
+use Rattle.filter_position.specs.{declared.position.RawClause.RawClause, Filter.filterLimit, Filter.clausesOf}
+use Rattle.filter.specs.{declared.request.Clause.Clause, declared.request.ClauseName.ClauseName, declared.request.Request.Request}
 use Rattle.filter.specs.declared.request.Clause.the-variants.{Absent, Present}
-use Rattle.filter.specs.declared.request.ClauseName.{ClauseName}
-use Rattle.filter.specs.declared.request.Request.{Request}
-use Rattle.filter_position.specs.Filter.{filterLimit, clausesOf}
 use Rattle.filter.specs.Request.{clauseNames, spelling, requestBy}
 use Rattle.filter_read.specs.declared.read.Taken.{Taken}
 use Rattle.filter_read.specs.declared.read.Taken.the-variants as taken

@@ -7,17 +7,13 @@ use Prim.Native.Nat.{ℕ}
 use lib.Dec.{eqb}
 use lib.ListN.{length}
 use Rattle.answers.specs.declared.Refusal.the-variants.{ClauseValue}
-use Rattle.answers.specs.Refusal.{number}
+use Rattle.answers.specs.{Refusal.number, Wire.NETLOGON-NT-VERSION-1}
 use Rattle.answers.specs.Try.{Try, refused, good, refusedIf, _>>=_, numberOf, valueOf}
-use Rattle.answers.specs.Wire.{NETLOGON-NT-VERSION-1}
-use Rattle.octets.specs.Lists.{holds}
-use Rattle.octets.specs.Number.{little}
+use Rattle.octets.specs.{Lists.holds, Number.little}
 use Rattle.unicode.specs.UserName.{isUserName}
-use Rattle.filter_read.specs.declared.value.Judged.{Judged}
+use Rattle.filter_read.specs.{declared.value.Judged.Judged, Taken.requestIn}
 use Rattle.filter_read.specs.declared.value.Judged.the-variants as judged
-use Rattle.filter.specs.declared.request.Request.{Request}
-use Rattle.filter.specs.Request.{octetsOf}
-use Rattle.filter_read.specs.Taken.{requestIn}
+use Rattle.filter.specs.{declared.request.Request.Request, Request.octetsOf}
 
 -- what the clauses of a request say that the answer goes by: absent, or their octets; an absent AAC is 0
 pub record Ping : Type 0 where

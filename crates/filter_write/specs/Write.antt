@@ -1,5 +1,5 @@
 -- Document 01, "The filter": the writer, with 6, 5 and 19.
-use Rattle.octets.specs.Buffer.{over}
+use Rattle.octets.specs.{Buffer.over, Lists.any}
 use mathlib.Core.Path.{_≡_}
 use mathlib.Core.Bool.{not}
 use mathlib.Core.List.{List, []}
@@ -9,7 +9,6 @@ use lib.ListN.{length}
 use Rattle.answers.specs.declared.Refusal.the-variants.{FilterShape, FilterLength, NoRoom}
 use Rattle.answers.specs.Refusal.{number}
 use Rattle.answers.specs.Try.{Try, refused, good, refusedIf, numberOf}
-use Rattle.octets.specs.Lists.{any}
 use Rattle.filter.specs.declared.request.Request.{Request}
 use Rattle.filter_position.specs.Filter.{filterLimit}
 use Rattle.filter_octets.specs.Octets.{filterOctets}

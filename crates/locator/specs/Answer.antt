@@ -1,6 +1,6 @@
 -- Document 01, "Answer numbers": the answer in three layers, and the whole as one function of table image, caller, filter and room. The first layer, the
 -- table of an image (1 to 4), is `tableIn`, the second, the ping of a filter (5 to 9), is `pingFrom`.
-use Rattle.octets.specs.Buffer.{over}
+use Rattle.octets.specs.{Buffer.over, Label.labels, Lists.any, Lists.holds}
 use mathlib.Core.Path.{_≡_}
 use mathlib.Core.Bool.{Bool, true, false, _&&_}
 use mathlib.Core.List.{List, []}
@@ -8,24 +8,17 @@ use mathlib.Core.Option.{Option, none, some, Option·map, Option·getD}
 use Prim.Native.Nat.{ℕ}
 use lib.Dec.{eqb, ltb}
 use lib.ListN.{length}
-use Rattle.answers.specs.declared.Form.{Form}
+use Rattle.answers.specs.{declared.Form.Form, Refusal.number}
 use Rattle.answers.specs.declared.Form.the-variants.{Nt40, Response, Ex}
 use Rattle.answers.specs.declared.Refusal.the-variants.{UserLabelEmpty, NoRoom}
-use Rattle.answers.specs.Refusal.{number}
 use Rattle.answers.specs.Try.{Try, refused, good, refusedIf, _>>=_, numberOf, valueOf}
 use Rattle.filter_read.specs.Value.{Ping, pingFrom}
-use Rattle.octets.specs.Label.{labels}
-use Rattle.octets.specs.Lists.{any, holds}
 use Rattle.reply.specs.Reply.{octetsIn}
-use Rattle.table.specs.declared.Caller.{Caller}
-use Rattle.table.specs.declared.ContextNumber.{ContextNumber}
+use Rattle.table.specs.{declared.Caller.Caller, declared.ContextNumber.ContextNumber, Context.Context, Table.Table}
 use Rattle.table_whole.specs.Judgement.{tableIn}
-use Rattle.table.specs.Context.{Context}
-use Rattle.table.specs.Table.{Table}
 use Rattle.locator.specs.declared.Answer.{Answer}
 use Rattle.locator.specs.declared.Answer.the-variants as answer
-use Rattle.choose.specs.Choose.{formOf, replyFor}
-use Rattle.choose.specs.Judge.{contextIn}
+use Rattle.choose.specs.{Choose.formOf, Choose.replyFor, Judge.contextIn}
 
 abbrev pub isEx : Form → Bool
 isEx Nt40 = false

@@ -5,11 +5,9 @@ use mathlib.Core.Option.{some}
 use Prim.Native.Nat.{ℕ, _+_, _≤_}
 use lib.ListN.{length}
 use Rattle.answers.specs.Try.{good}
-use Rattle.names.specs.Name.{literalLabel}
+use Rattle.names.specs.{Name.literalLabel, WalkRelation.Walks}
 use Rattle.names.specs.Walk.{WalkedName, walk, steps}
-use Rattle.names.specs.WalkRelation.{Walks}
-use Rattle.reader.specs.Field.{Read}
-use Rattle.reader.specs.Name.{readNameFrom, readName}
+use Rattle.reader.specs.{Field.Read, Name.readNameFrom, Name.readName}
 
 -- where it accepts a name at an offset, its labels and its count are the walk's from there
 abbrev pub ReaderWalks : Type 0

@@ -7,24 +7,17 @@ use Prim.Native.Nat.{ℕ, _<_}
 use lib.ListN.{length}
 use Rattle.answers.specs.declared.Form.{Form}
 use Rattle.answers.specs.Try.{Try, refused, good}
-use Rattle.reader.specs.declared.field.Stretch.{Stretch}
+use Rattle.reader.specs.{declared.field.Stretch.Stretch, Reader.readIn, Reader.readLength}
 use Rattle.reader.specs.Reader as reader
-use Rattle.reader.specs.Reader.{readIn, readLength}
 use Rattle.reader_names.specs.declared.NameAt.{NameAt}
-use Rattle.reader_text.specs.declared.NameText.{NameText}
-use Rattle.reader_text.specs.Text.{textGiven, NameTextPromise}
-use Rattle.reader_forms.specs.declared.reading.Nt40Fields.{Nt40Fields}
-use Rattle.reader_forms.specs.declared.reading.ResponseFields.{ResponseFields}
-use Rattle.reader_forms.specs.declared.reading.Address.{Address}
+use Rattle.reader_text.specs.{declared.NameText.NameText, Text.textGiven, Text.NameTextPromise}
+use Rattle.reader_forms.specs.{declared.reading.Nt40Fields.Nt40Fields, declared.reading.ResponseFields.ResponseFields, declared.reading.Address.Address}
+use Rattle.reader_forms.specs.{declared.reading.NextSite.NextSite, declared.reading.ExFields.ExFields, declared.reading.Fields.Fields}
+use Rattle.reader_forms.specs.{declared.reading.Reading.Reading, Reading.readingLength, Reading.ReadReplyPromise}
 use Rattle.reader_forms.specs.declared.reading.Address.the-variants as address
-use Rattle.reader_forms.specs.declared.reading.NextSite.{NextSite}
 use Rattle.reader_forms.specs.declared.reading.NextSite.the-variants as nextSite
-use Rattle.reader_forms.specs.declared.reading.ExFields.{ExFields}
-use Rattle.reader_forms.specs.declared.reading.Fields.{Fields}
 use Rattle.reader_forms.specs.declared.reading.Fields.the-variants as fields
-use Rattle.reader_forms.specs.declared.reading.Reading.{Reading}
 use Rattle.reader_forms.specs.declared.reading.Reading.the-variants as reading
-use Rattle.reader_forms.specs.Reading.{readingLength, ReadReplyPromise}
 
 -- the names of a reading, in their places
 abbrev pub namesRead : Fields → List NameAt

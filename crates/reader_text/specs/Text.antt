@@ -5,11 +5,9 @@ use Prim.Native.Nat.{ℕ}
 use lib.ListN.{length, take, replicate}
 use Rattle.answers.specs.Refusal.{number}
 use Rattle.answers.specs.Try.{Try, refused, good, _>>=_, numberOf}
-use Rattle.octets.specs.Buffer.{over}
-use Rattle.octets.specs.Label.{joined}
+use Rattle.octets.specs.{Buffer.over, Label.joined}
 use Rattle.reader.specs.Name.{textMost, readName}
-use Rattle.reader_text.specs.declared.NameText.{NameText}
-use Rattle.reader_text.specs.declared.TextLength.{TextLength}
+use Rattle.reader_text.specs.{declared.NameText.NameText, declared.TextLength.TextLength}
 use Rattle.reader_text.specs.declared.TextLength.the-variants.{Octets, Refused}
 
 -- the labels joined by dots of the name that the reader accepts at an offset, or why it accepts none

@@ -11,13 +11,11 @@ use Rattle.filter.specs.declared.request.ClauseName.{ClauseName}
 use Rattle.filter.specs.declared.request.ClauseName.the-variants.{DnsDomain, User, Aac, DomainGuid, NtVer}
 use Rattle.filter_octets.specs.Octets.{element, equalityFor}
 use Rattle.names.specs.Walk.{WalkedName, walk}
-use Rattle.octets.specs.Lists.{cut}
-use Rattle.octets.specs.Number.{little}
+use Rattle.octets.specs.{Lists.cut, Number.little}
 use Rattle.reader.specs.Reader.{Fields, nt40, response, ex, readIn}
 use Rattle.reply.specs.Reply.{u16, u32}
-use Rattle.table.specs.Bits.{roleNt4Wanted}
+use Rattle.table.specs.{Bits.roleNt4Wanted, declared.Caller.Caller}
 use Rattle.table_check.specs.Check.{checkOf}
-use Rattle.table.specs.declared.Caller.{Caller}
 use Rattle.locator.specs.Answer.{Outcome, answerTo, answerAs, octetsWritten, answerNumber, answerLength, answerContext, answerForm}
 
 -- the base table

@@ -10,10 +10,7 @@ use Rattle.answers.specs.declared.Form.{Form}
 use Rattle.answers.specs.declared.Form.the-variants.{Nt40, Response, Ex}
 use Rattle.answers.specs.Wire.{responseVersion, exVersion, exVersionWithNextSite}
 use Rattle.names.specs.Walk.{walk}
-use Rattle.octets.specs.Label.{labels, joined}
-use Rattle.octets.specs.Lists.{all}
-use Rattle.octets.specs.NameRule.{sized, labelMost}
-use Rattle.octets.specs.Number.{bigOctets}
+use Rattle.octets.specs.{Label.labels, Label.joined, Lists.all, NameRule.sized, NameRule.labelMost, Number.bigOctets}
 use Rattle.reply.specs.Reply.{Reply, u32, ending, nt40Octets, responseHead, responseNames, exHead, exNames, addressIf, octetsIn}
 use Rattle.demands.specs.Derivation.{ReplyIs, EveryAnswerOver, EveryReply}
 

@@ -2,10 +2,8 @@
 use mathlib.Core.List.{List}
 use Prim.Native.Nat.{ℕ, _/_}
 use lib.ListN.{length, getD}
-use Rattle.octets.specs.Lists.{cut, pieces}
-use Rattle.octets.specs.Number.{u16At}
-use Rattle.table.specs.declared.BlockPlace.{BlockPlace}
-use Rattle.table.specs.Countings.{blockPlace}
+use Rattle.octets.specs.{Lists.cut, Lists.pieces, Number.u16At}
+use Rattle.table.specs.{declared.BlockPlace.BlockPlace, Countings.blockPlace}
 
 abbrev pub blockSize : ℕ
 blockSize = 512

@@ -4,16 +4,10 @@ use mathlib.Core.List.{List}
 use Prim.Native.Nat.{ℕ, _-_}
 use lib.Dec.{eqb, leb}
 use lib.ListN.{length, take, getD}
-use Rattle.octets.specs.Lists.{holds}
-use Rattle.octets.specs.Text.{same}
-use Rattle.table.specs.declared.ContextNumber.{ContextNumber}
-use Rattle.table.specs.Account.{Account}
-use Rattle.table.specs.Address.{addressNumber, sharePrefix}
-use Rattle.table.specs.Context.{Context}
-use Rattle.table.specs.Countings.{sameContext}
+use Rattle.octets.specs.{Lists.holds, Text.same}
+use Rattle.table.specs.{declared.ContextNumber.ContextNumber, Account.Account, Address.addressNumber, Address.sharePrefix, Context.Context}
+use Rattle.table.specs.{Countings.sameContext, SameName.sameDnsName, Subnet.Subnet}
 use Rattle.account_names.specs.AccountName.{sameAccountName}
-use Rattle.table.specs.SameName.{sameDnsName}
-use Rattle.table.specs.Subnet.{Subnet}
 
 -- the name as it is compared: a DnsDomain value of two octets or more whose last octet is a dot, and whose last but one is not, is compared without that dot
 unfoldable pub nameCompared : List ℕ → List ℕ

@@ -4,10 +4,8 @@ use mathlib.Core.List.{List, [], _∷_, _++_}
 use mathlib.Core.Option.{none, some}
 use Prim.Native.Nat.{ℕ}
 use Rattle.answers.specs.Try.{good}
-use Rattle.table.specs.Context.{Context}
-use Rattle.table.specs.Table.{Table}
-use Rattle.table_lookup.specs.Lookup.{contextByDnsName}
-use Rattle.table_lookup.specs.NearestSubnet.{Among}
+use Rattle.table.specs.{Context.Context, Table.Table}
+use Rattle.table_lookup.specs.{Lookup.contextByDnsName, NearestSubnet.Among}
 use Rattle.table_whole.specs.Judgement.{tableIn}
 
 pub record ClosingDotIn (t : Table) : Type 0 where

@@ -4,18 +4,9 @@ use mathlib.Core.List.{List, [], _∷_}
 use mathlib.Core.Option.{Option, none, some}
 use Prim.Native.Nat.{ℕ}
 use lib.Dec.{ltb}
-use Rattle.octets.specs.Lists.{first, keep}
-use Rattle.octets.specs.Text.{same}
-use Rattle.table.specs.declared.Caller.{Caller}
-use Rattle.table.specs.declared.ContextNumber.{ContextNumber}
-use Rattle.table.specs.declared.SiteNumber.{SiteNumber}
-use Rattle.table.specs.Account.{Account}
-use Rattle.table.specs.Address.{addressNumber}
-use Rattle.table.specs.Context.{Context}
-use Rattle.table.specs.Countings.{sameContext, sameSite}
-use Rattle.table.specs.Site.{Site}
-use Rattle.table.specs.Subnet.{Subnet}
-use Rattle.table.specs.Table.{Table}
+use Rattle.octets.specs.{Lists.first, Lists.keep, Text.same}
+use Rattle.table.specs.{declared.Caller.Caller, declared.ContextNumber.ContextNumber, declared.SiteNumber.SiteNumber, Account.Account, Address.addressNumber}
+use Rattle.table.specs.{Context.Context, Countings.sameContext, Countings.sameSite, Site.Site, Subnet.Subnet, Table.Table}
 use Rattle.table_find.specs.Find.{isNamedBy, holdsSid, isAccountOf, inSubnet}
 
 unfoldable pub contextByGuid : Table → List ℕ → Option Context

@@ -8,12 +8,7 @@ use lib.Dec.{ltb}
 use lib.ListN.{length}
 use Rattle.answers.specs.Try.{good}
 use Rattle.octets.specs.Lists.{all, any, isSome}
-use Rattle.table.specs.declared.Caller.{Caller}
-use Rattle.table.specs.declared.SiteNumber.{SiteNumber}
-use Rattle.table.specs.Address.{addressNumber}
-use Rattle.table.specs.Site.{Site}
-use Rattle.table.specs.Subnet.{Subnet}
-use Rattle.table.specs.Table.{Table}
+use Rattle.table.specs.{declared.Caller.Caller, declared.SiteNumber.SiteNumber, Address.addressNumber, Site.Site, Subnet.Subnet, Table.Table}
 use Rattle.table_find.specs.Find.{inSubnet}
 use Rattle.table_lookup.specs.Lookup.{subnetFor, clientSite}
 use Rattle.table_whole.specs.Judgement.{tableIn}

@@ -5,8 +5,7 @@ use mathlib.Core.List.{List, [], _∷_, _++_}
 use mathlib.Core.Option.{Option·map, Option·getD}
 use Prim.Native.Nat.{ℕ, _+_, _-_, _/_, _%_}
 use lib.Dec.{ltb}
-use Rattle.octets.specs.Number.{littleOctets}
-use Rattle.octets.specs.Text.{within}
+use Rattle.octets.specs.{Number.littleOctets, Text.within}
 use Rattle.unicode.specs.Utf8.{points, isUtf8}
 
 abbrev pub isHigh : ℕ → Bool
