@@ -2,6 +2,7 @@
 -- list of its members, and C's client is four octets.
 use mathlib.Core.Path.{_≡_}
 use mathlib.Core.List.{List}
+use mathlib.Core.Option.{Option·getD}
 use Prim.Native.Nat.{ℕ}
 use lib.ListN.{length}
 use Rattle.answers.specs.declared.Form.{Form}
@@ -46,7 +47,7 @@ ExportedTakeApart filter request r = (r ≡ takenNumber (filterTaken filter)) ×
 
 abbrev pub ExportedJudgeValues : (filter request : List ℕ) (version r : ℕ) → Type 0
 ExportedJudgeValues filter request version r =
-    (r ≡ judgedNumber (valuesJudged filter request)) × (version ≡ judgedVersion (valuesJudged filter request))
+    (r ≡ judgedNumber (valuesJudged filter request)) × (version ≡ Option·getD (judgedVersion (valuesJudged filter request)) 0)
 
 abbrev pub ExportedWriteFilter : (source request before after : List ℕ) (len r : ℕ) → Type 0
 ExportedWriteFilter source request before after len r =

@@ -6,7 +6,7 @@ use lib.ListN.{replicate}
 use Rattle.reader.specs.declared.field.Stretch.{Stretch}
 use Rattle.reader_names.specs.declared.NameAt.{NameAt}
 use Rattle.reader_forms.specs.{declared.reading.Address.Address, declared.reading.NextSite.NextSite, declared.reading.Fields.Fields}
-use Rattle.reader_forms.specs.{declared.reading.Reading.Reading}
+use Rattle.reader_forms.specs.declared.reading.Reading.{Reading}
 use Rattle.reader_forms.specs.declared.reading.Address.the-variants as address
 use Rattle.reader_forms.specs.declared.reading.NextSite.the-variants as nextSite
 use Rattle.reader_forms.specs.declared.reading.Fields.the-variants as fields

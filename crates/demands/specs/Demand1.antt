@@ -1,7 +1,7 @@
 -- Demand 1: whatever comes in, a call refuses by document 01's numbers, with no length, context, form or fields, and a refusal leaves every lent buffer as it was.
 -- One field for each public call, by its name; that every call ends is proved with its code.
 use Rattle.filter_read.specs.{Value.judgedNumber, Value.JudgeValuesPromise, Taken.takenNumber, Taken.TakeApartPromise, declared.read.Taken.Taken}
-use Rattle.filter_read.specs.{declared.value.Judged.Judged}
+use Rattle.filter_read.specs.declared.value.Judged.{Judged}
 use Rattle.table_whole.specs.{Judgement.judgementNumber, Judgement.JudgePromise, declared.judge.Judgement.Judgement}
 use Rattle.table_check.specs.{Check.checkOf, Check.CheckOfPromise, declared.check.Check.Check}
 use mathlib.Core.Path.{_≡_}

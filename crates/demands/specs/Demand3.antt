@@ -7,10 +7,11 @@ use Prim.Native.Nat.{ℕ, _<_, _≤_, min}
 use lib.ListN.{length, getD}
 use Rattle.answers.specs.declared.Form.{Form}
 use Rattle.answers.specs.declared.Form.the-variants.{Nt40, Response, Ex}
-use Rattle.names.specs.Walk.{WalkedName, walk}
+use Rattle.names.specs.{Walk.WalkedName, Walk.walk, WalkRelation.Walks}
 use Rattle.octets.specs.Label as label
+use Rattle.reader.specs.ReaderWalks.{writtenOut}
 use Rattle.reader_forms.specs.{declared.reading.Fields.Fields, declared.reading.Reading.Reading, Reading.noName, Reading.ReadReplyPromise, Settled.namesRead}
-use Rattle.reader_forms.specs.{Settled.lastRead}
+use Rattle.reader_forms.specs.Settled.{lastRead}
 use Rattle.reader_forms.specs.declared.reading.Reading.the-variants as reading
 use Rattle.reader_names.specs.{declared.NameAt.NameAt, Name.nameAs}
 use Rattle.reader_text.specs.{declared.NameText.NameText, Text.textGiven, Text.NameTextPromise}
@@ -87,3 +88,10 @@ ReadingWalks =
     (s : List ℕ) (form : Form) (v len : ℕ) (read : Fields)
     → ReadReplyPromise s form v (reading.Read len read)
     → ((k : ℕ) → k < length (namesRead read) → NameIsWalk s (getD (namesRead read) k (nameAs noName))) × ((n : NameAt) → lastRead read ≡ some n → NameIsWalk s n)
+
+-- and the other half: every name of the walk that keeps to the reader's two limits `name_text` gives
+abbrev pub WalkTold : Type 0
+WalkTold =
+    (s : List ℕ) (at c next : ℕ) (ls : List (List ℕ)) (t : NameText)
+    → Walks s at at ls c next → length (writtenOut ls) ≤ 255 → c ≤ 16 → NameTextPromise s at t
+    → (t .len ≡ Octets (length (label.joined ls))) × (textGiven t ≡ label.joined ls)

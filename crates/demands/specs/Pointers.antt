@@ -4,7 +4,7 @@ use mathlib.Core.Path.{_≡_}
 use mathlib.Core.Bool.{true, not, _||_}
 use mathlib.Core.List.{List, []}
 use mathlib.Core.Option.{some}
-use Prim.Native.Nat.{ℕ}
+use Prim.Native.Nat.{ℕ, _≤_}
 use lib.Dec.{leb, ltb}
 use lib.ListN.{length, take}
 use Rattle.answers.specs.declared.Form.{Form}
@@ -38,6 +38,10 @@ PointersFitIn form v r s = (k : ℕ) → Fit (tailsBefore form r k)
 
 abbrev pub PointersFitOver : Type 0
 PointersFitOver = EveryAnswerOver (ReplyIs PointersFitIn)
+
+-- no reply is longer than what the header and the bindings give as the most
+abbrev pub LengthBoundOver : Type 0
+LengthBoundOver = EveryAnswerOver (ReplyIs (λ form v r s. length s ≤ 1108))
 
 abbrev pub PointersFit : Type 0
 PointersFit = EveryAnswer (ReplyIs PointersFitIn)

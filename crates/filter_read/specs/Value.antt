@@ -2,7 +2,7 @@
 use mathlib.Core.Path.{_≡_}
 use mathlib.Core.Bool.{Bool, not, _||_}
 use mathlib.Core.List.{List}
-use mathlib.Core.Option.{Option, Option·map, Option·getD}
+use mathlib.Core.Option.{Option, none, some, Option·map, Option·getD}
 use Prim.Native.Nat.{ℕ}
 use lib.Dec.{eqb}
 use lib.ListN.{length}
@@ -69,13 +69,13 @@ abbrev pub judgedNumber : Judged → ℕ
 judgedNumber (judged.Version v) = 0
 judgedNumber (judged.Refused r) = number r
 
--- the version asked, 0 with a refusal
-abbrev pub judgedVersion : Judged → ℕ
-judgedVersion (judged.Version v) = v
-judgedVersion (judged.Refused r) = 0
+-- the version asked, none with a refusal
+abbrev pub judgedVersion : Judged → Option ℕ
+judgedVersion (judged.Version v) = some v
+judgedVersion (judged.Refused r) = none
 
 -- what `judge_values` promises
 pub record JudgeValuesPromise (filter : List ℕ) (request : Request) (r : Judged) : Type 0 where
   pub same : r ≡ judgedValues (pingIn filter request)
   pub numbered : judgedNumber r ≡ numberOf (pingIn filter request)
-  pub given : judgedVersion r ≡ Option·getD (Option·map (λ p. p .version) (valueOf (pingIn filter request))) 0
+  pub given : judgedVersion r ≡ Option·map (λ p. p .version) (valueOf (pingIn filter request))

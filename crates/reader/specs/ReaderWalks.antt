@@ -27,6 +27,6 @@ ReaderAccepts =
     (s : List ℕ) (at c next : ℕ) (ls : List (List ℕ)) → Walks s at at ls c next → length (writtenOut ls) ≤ 255 → c ≤ 16
     → readName s at ≡ good (record { value = record { labels = ls; pointers = c }; next = next })
 
--- more steps change no answer: whatever it refuses, it refuses for an octet that fits no rule, and never for want of steps
+-- more steps change no answer: nothing is refused for want of steps
 abbrev pub ReaderStepsEnough : Type 0
 ReaderStepsEnough = (s : List ℕ) (at k : ℕ) → readNameFrom (steps s + k) s at at 0 0 ≡ readName s at

@@ -11,7 +11,7 @@ use Rattle.reader.specs.Reader as reader
 use Rattle.reader_names.specs.{declared.NameAt.NameAt, Name.nameAs}
 use Rattle.reader_forms.specs.{declared.reading.Nt40Fields.Nt40Fields, declared.reading.ResponseFields.ResponseFields, declared.reading.Address.Address}
 use Rattle.reader_forms.specs.{declared.reading.NextSite.NextSite, declared.reading.ExFields.ExFields, declared.reading.Fields.Fields}
-use Rattle.reader_forms.specs.{declared.reading.Reading.Reading}
+use Rattle.reader_forms.specs.declared.reading.Reading.{Reading}
 use Rattle.reader_forms.specs.declared.reading.Address.the-variants as address
 use Rattle.reader_forms.specs.declared.reading.NextSite.the-variants as nextSite
 use Rattle.reader_forms.specs.declared.reading.Fields.the-variants as fields

@@ -9,7 +9,7 @@ use Rattle.octets.specs.{Lists.all, Lists.any, Sid.isSid, Text.allZero}
 use Rattle.octets.specs.NameRule.{isDnsName, isNetbiosName, isSiteName}
 use Rattle.unicode.specs.UserName.{isAccountName}
 use Rattle.table.specs.{declared.BlockPlace.BlockPlace, declared.record.RecordKind.RecordKind, Countings.samePlace, Countings.nextPlace, Bits.rolesBound}
-use Rattle.table.specs.{Bits.stateBound}
+use Rattle.table.specs.Bits.{stateBound}
 use Rattle.table.specs.declared.record.RecordKind.the-variants.{Context, Account, Site, Subnet}
 use Rattle.table.specs.Account.{accountFormat, controlOffset, accountName, accountOf}
 use Rattle.table.specs.Address.{addressBits, addressNumber, isPrefixOnly}

@@ -53,7 +53,7 @@ abbrev pub siteOfSubnet : Table → Option Subnet → Option Site
 siteOfSubnet t none = none
 siteOfSubnet t (some n) = siteIfAny t (n .site)
 
--- document 01's client site s: the only site, or that of the subnet that decides
+-- document 01's client site s, as #102 has it: the only site, or that of the subnet that decides
 abbrev pub siteFor : Table → Caller → List Site → Option Site
 siteFor t caller [] = none
 siteFor t caller (s ∷ []) = some s

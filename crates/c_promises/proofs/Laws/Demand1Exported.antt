@@ -1,9 +1,13 @@
 -- Demand 1 of the exported calls follows from that of the public calls: what is returned is done, or a refusal that demand 1 speaks of.
 use mathlib.Core.Path.{_≡_, refl, sym, ap, _∙_, subst}
+use mathlib.Core.Bool.{true}
 use mathlib.Core.List.{List}
+use mathlib.Core.Option.{Option·getD}
 use mathlib.Core.Logic.{_⊎_, inl, inr}
 use Prim.Native.Nat.{ℕ}
+use lib.Dec.{ltb}
 use lib.ListN.{length}
+use borrow.Author.Tests.{lt-ltb}
 use Rattle.answers.specs.declared.Form.{Form}
 use Rattle.answers.specs.declared.Form.the-variants.{Nt40, Response, Ex}
 use Rattle.answers.specs.Try.{Try, refused, good}
@@ -31,6 +35,7 @@ use Rattle.locator.specs.declared.Answer.the-variants as answer
 use Rattle.locator.specs.Answer.{answerTo, answerNumber}
 use Rattle.locator.proofs.Laws.Answer.{answer-promised}
 use Rattle.octets.specs.Buffer.{over}
+use Rattle.octets.specs.Lists.{all}
 use Rattle.octets.proofs.Laws.Buffer.{over-none}
 use Rattle.reader_forms.specs.declared.reading.Reading.{Reading}
 use Rattle.reader_forms.specs.declared.reading.Reading.the-variants as reading
@@ -42,7 +47,8 @@ use Rattle.table_whole.specs.declared.judge.Judgement.{Judgement}
 use Rattle.table_whole.specs.declared.judge.Judgement.the-variants as judgement
 use Rattle.table_whole.specs.Judgement.{tableIn, judgedAs, judgementNumber, JudgePromise}
 use Rattle.table_whole.proofs.Laws.Judgement.{judge-promised}
-use Rattle.c_promises.specs.Calls.{filterTaken, textAt, callerAt, pingAnswered, ExportedNameText}
+use Rattle.table_check.specs.Check.{checkOf}
+use Rattle.c_promises.specs.Calls.{filterTaken, textAt, callerAt, pingAnswered, ExportedCheck, ExportedNameText}
 use Rattle.c_promises.specs.Demand1Exported.{DoneOr, zeros, Demand1Exported}
 
 -- each by what the public call returns, whatever meets its promise
@@ -55,7 +61,7 @@ taken-apart : (filter request : List ℕ) (t : Taken) (r : ℕ) → TakeApartPro
 taken-apart filter request (taken.Request q) r p e f = inl e
 taken-apart filter request (taken.Refused x) r p e f = inr (subst ForFilter (sym e) (demand-1 .«take_apart» filter (taken.Refused x) x p refl), f)
 
-judged-values : (filter members : List ℕ) (j : Judged) (version r : ℕ) → JudgeValuesPromise filter (requestGiven members) j → r ≡ judgedNumber j → version ≡ judgedVersion j → DoneOr ForValues r (version ≡ 0)
+judged-values : (filter members : List ℕ) (j : Judged) (version r : ℕ) → JudgeValuesPromise filter (requestGiven members) j → r ≡ judgedNumber j → version ≡ Option·getD (judgedVersion j) 0 → DoneOr ForValues r (version ≡ 0)
 judged-values filter members (judged.Version v) version r p e f = inl e
 judged-values filter members (judged.Refused x) version r p e f =
     inr (subst ForValues (sym e) (demand-1 .«judge_values» filter (requestGiven members) (judged.Refused x) x p refl), f)
@@ -84,11 +90,17 @@ named reply text start len r (refused x) q p =
     let d = demand-1 .«name_text» reply start (textAt reply start) x (name-text-promised reply start _ refl) (ap textLengthAs q) in
     inr (subst ForName (sym (p .0)) (d .0), (p .1 ∙ ap (λ t. over (textOctets t) (zeros 253)) q ∙ over-none (zeros 253), p .2 ∙ d .1))
 
+checked : (octets check : List ℕ) → ExportedCheck octets check → (length check ≡ 2) × (all (λ (n : ℕ). ltb n 65536) check ≡ true)
+unfolding all
+checked octets check p =
+    let d = demand-1 .«check_of» octets (checkOf octets) refl in
+    (ap length p, ap (all (λ (n : ℕ). ltb n 65536)) p ∙ rw (lt-ltb (checkOf octets .a) 65536 (d .1), lt-ltb (checkOf octets .b) 65536 (d .2)) refl)
+
 pub demand-1-exported : Demand1Exported
 demand-1-exported =
     record {
       «vinegarjar_judge» = λ image r p. judged-image image (judgedAs (tableIn image)) r (judge-promised image _ refl) p;
-      «vinegarjar_check» = λ octets check p. p;
+      «vinegarjar_check» = checked;
       «vinegarjar_take_apart» = λ filter request r p. taken-apart filter request (filterTaken filter) r (take-apart-promised filter _ refl) (p .0) (p .1);
       «vinegarjar_judge_values» = λ filter request version r p. judged-values filter request (valuesJudged filter request) version r (judge-values-promised filter (requestGiven request) _ refl) (p .0) (p .1);
       «vinegarjar_write_filter» = λ source request before after len r p.

@@ -5,7 +5,7 @@ use lib.ListN.{length}
 use Rattle.answers.specs.declared.Form.{Form}
 use Rattle.answers.specs.declared.Form.the-variants.{Nt40, Response, Ex}
 use Rattle.reply.specs.Reply.{Reply, octetsIn}
-use Rattle.demands.specs.Derivation.{ReplyIs, EveryAnswerOver}
+use Rattle.demands.specs.Pointers.{LengthBoundOver}
 use Rattle.demands.proofs.Laws.Forms.Ex.{ex-length}
 use Rattle.demands.proofs.Laws.Forms.Nt40.{nt40-length}
 use Rattle.demands.proofs.Laws.Forms.Response.{response-length}
@@ -16,5 +16,5 @@ sound-length Nt40 v r k = omega (arith, nt40-length v r k)
 sound-length Response v r k = omega (arith, response-length v r k)
 sound-length Ex v r k = ex-length v r k
 
-pub length-bound : EveryAnswerOver (ReplyIs (λ form v r s. length s ≤ 1108))
-length-bound = every-sound (λ form v r s. length s ≤ 1108) sound-length
+pub length-bound-over : LengthBoundOver
+length-bound-over = every-sound (λ form v r s. length s ≤ 1108) sound-length

@@ -54,8 +54,8 @@ absent-is-one dns user aac sid guid = refl
 
 pub without-version : WithoutVersion
 unfolding pingFrom answerTo
-without-version f g q r takenF absent takenG one others =
-    let same : pingFrom f ≡ pingFrom g = ap (λ (x : Try Request). x >>= pingIn f) takenF ∙ alike ∙ sym (ap (λ (x : Try Request). x >>= pingIn g) takenG) in
+without-version f g q r taken absent one others =
+    let same : pingFrom f ≡ pingIn g r = ap (λ (x : Try Request). x >>= pingIn f) taken ∙ alike in
     (same, λ image caller room. ap (λ (x : Try Ping). tableIn image >>= λ t. x >>= λ p. answerOver t caller p room) same)
   where
     other : ClauseName → Option (List ℕ)

@@ -29,7 +29,7 @@ judge-values-promised filter request r e =
     numbers (refused x) = refl
     numbers (good p) = refl
 
-    gives : (t : Try Ping) → judgedVersion (judgedValues t) ≡ Option·getD (Option·map (λ (p : Ping). p .version) (valueOf t)) 0
+    gives : (t : Try Ping) → judgedVersion (judgedValues t) ≡ Option·map (λ (p : Ping). p .version) (valueOf t)
     gives (refused x) = refl
     gives (good p) = refl
 
