@@ -1,1 +1,2 @@
 pub mod RawPing
+pub mod Seen

@@ -7,14 +7,16 @@ ghost use Rattle.octets.specs.Number.{little};
 ghost use Rattle.filter.specs.Request.{octetsOf};
 ghost use Rattle.filter_read.specs.Value.{isNumber, wrongValue, pingOf, pingIn, pingFrom};
 ghost use Rattle.filter_read.specs.Internal.RawPing.{pingAt, triedPing};
-use crate::read::Taken;
-use crate::read::take_apart;
+use crate::read::gather;
+use crate::read::refusal_of;
 use crate::value::Judged;
 use crate::value::clause_number;
 use crate::value::judge_values;
 use answers::Refusal;
 use filter::request::Clause;
 use filter::request::Request;
+use filter_gather::gather::SEEN;
+use filter_gather::gather::request_seen;
 
 // What the answer goes by: the clauses as stretches of a lent source, AAC and version as numbers.
 pub struct RawPing {
@@ -75,8 +77,10 @@ fn judged_ping(s: &[u8], request: Request) -> PingRead
 pub fn read_ping(filter: &[u8]) -> PingRead
     ensures { λ r. ⌜ triedPing (now (filter .entry)) r ≡ pingFrom (now (filter .entry)) ⌝ }
 {
-    match take_apart(filter) {
-        Taken::Request(request) => judged_ping(filter, request),
-        Taken::Refused(r) => PingRead::Refused(r),
+    let mut seen = [0; SEEN];
+    let number = gather(filter, &mut seen);
+    if number != 0 {
+        return PingRead::Refused(refusal_of(number));
     }
+    judged_ping(filter, request_seen(&seen))
 }

@@ -6,9 +6,8 @@ use Prim.Native.Nat.{ℕ}
 use native.Mathlib.Omega.{arith}
 use Rattle.filter_position.specs.declared.position.RawClause.{RawClause}
 use Rattle.filter.specs.declared.request.ClauseName.{ClauseName}
-use Rattle.filter_gather.specs.declared.gather.Gathered.{Gathered}
 use Rattle.filter_gather.specs.declared.gather.SpelledName.the-variants as spelled
-use Rattle.filter_gather.specs.Internal.Gather.{spelledAs, added, allAdded}
+use Rattle.filter_gather.specs.Internal.Gather.{Gathered, spelledAs, added, allAdded}
 
 -- a clause name, or none
 pub spelled-none : (o : Option ClauseName) → spelledAs o ≡ spelled.Unknown → o ≡ none
