@@ -1,25 +1,26 @@
 // The clauses of a filter, gathered one after the other.
 ghost use mathlib.Core.Path.{_≡_};
-ghost use Prim.Native.Nat.{_<_, _≤_};
+ghost use mathlib.Core.List.{[], _∷_};
+ghost use Prim.Native.Nat.{_+_, _<_, _≤_};
+ghost use lib.Dec.{eqb};
 ghost use lib.ListN.{length};
-ghost use Rattle.octets.specs.Text.{sameFolded};
+ghost use Rattle.octets.specs.Lists.{cut};
+ghost use Rattle.octets.specs.Text.{lower};
 ghost use Rattle.filter_position.specs.Filter.{filterLimit, andOf, clausesOf};
-ghost use Rattle.filter.specs.Request.{spelling};
 ghost use Rattle.filter_position.specs.Internal.Position.{Inside, ClauseInside, FilterInside, clausesIn};
 ghost use Rattle.filter_gather.specs.Internal.Gather.{spelledAs, nameSpelled, added, gatheredFrom, gatheringOf};
+ghost use Rattle.filter_gather.specs.Internal.Letters.{lettersAt, ntVer, dnsDomain, domainSid, domainGuid, dnsHostName};
 ghost use Rattle.filter_gather.specs.Internal.Seen.{seenCount, packed, clauseSeen, placeAs, decoded};
 use filter::request::CLAUSE_COUNT;
 use filter::request::Clause;
 use filter::request::ClauseName;
 use filter::request::Request;
 use filter::request::clause_name_at;
-use filter::request::spelling_of;
 use filter_position::position::Filter;
 use filter_position::position::FilterRead;
 use filter_position::position::Position;
 use filter_position::position::RawClause;
-use octets::part::part;
-use octets::text::same_folded;
+use octets::text::folded;
 
 // How many ANDs may stand one inside the other.
 const DEPTH: u8 = 4;
@@ -38,26 +39,123 @@ pub const UNKNOWN: usize = 8;
 
 pub const DUPLICATE: usize = 9;
 
-// Whether octets spell a clause name, ASCII case ignored.
-fn is_spelling(s: &[u8], name: ClauseName) -> bool
-    ensures { λ r. ⌜ r ≡ sameFolded (now (s .entry)) (spelling name) ⌝ }
+// Whether an octet is a small letter, ASCII case ignored.
+fn letter(x: u8, small: u8) -> bool
+    ensures { λ r. ⌜ r ≡ eqb (lower x) small ⌝ }
 {
-    let spelling = spelling_of(name);
-    let octets = spelling.octets;
-    let len = spelling.len;
-    same_folded(s, part(&octets, 0, len))
+    folded(x, true) == small
 }
 
-// The place of the clause name that octets spell: 8 where they spell none.
-fn place_of(s: &[u8]) -> usize
-    ensures { λ r. ⌜ r ≡ placeAs (nameSpelled (now (s .entry))) ⌝ }
+fn two(s: &[u8], at: usize, a: u8, b: u8) -> bool
+    requires { ⌜ at + 2 ≤ length (now s) ⌝ }
+    ensures { λ r. ⌜ r ≡ lettersAt (now (s .entry)) at (a ∷ b ∷ []) ⌝ }
 {
-    let mut i = 0;
-    while i < CLAUSE_COUNT {
-        if is_spelling(s, clause_name_at(i)) {
-            return i;
+    letter(s[at], a) & letter(s[at + 1], b)
+}
+
+fn three(s: &[u8], at: usize, a: u8, b: u8, c: u8) -> bool
+    requires { ⌜ at + 3 ≤ length (now s) ⌝ }
+    ensures { λ r. ⌜ r ≡ lettersAt (now (s .entry)) at (a ∷ b ∷ c ∷ []) ⌝ }
+{
+    letter(s[at], a) & two(s, at + 1, b, c)
+}
+
+fn four(s: &[u8], at: usize, a: u8, b: u8, c: u8, d: u8) -> bool
+    requires { ⌜ at + 4 ≤ length (now s) ⌝ }
+    ensures { λ r. ⌜ r ≡ lettersAt (now (s .entry)) at (a ∷ b ∷ c ∷ d ∷ []) ⌝ }
+{
+    letter(s[at], a) & three(s, at + 1, b, c, d)
+}
+
+fn is_nt_ver(s: &[u8], at: usize) -> bool
+    requires { ⌜ at + 5 ≤ length (now s) ⌝ }
+    ensures { λ r. ⌜ r ≡ lettersAt (now (s .entry)) at ntVer ⌝ }
+{
+    two(s, at, b'n', b't') & three(s, at + 2, b'v', b'e', b'r')
+}
+
+fn is_dns_domain(s: &[u8], at: usize) -> bool
+    requires { ⌜ at + 9 ≤ length (now s) ⌝ }
+    ensures { λ r. ⌜ r ≡ lettersAt (now (s .entry)) at dnsDomain ⌝ }
+{
+    three(s, at, b'd', b'n', b's')
+        & three(s, at + 3, b'd', b'o', b'm')
+        & three(s, at + 6, b'a', b'i', b'n')
+}
+
+fn is_domain_sid(s: &[u8], at: usize) -> bool
+    requires { ⌜ at + 9 ≤ length (now s) ⌝ }
+    ensures { λ r. ⌜ r ≡ lettersAt (now (s .entry)) at domainSid ⌝ }
+{
+    three(s, at, b'd', b'o', b'm')
+        & three(s, at + 3, b'a', b'i', b'n')
+        & three(s, at + 6, b's', b'i', b'd')
+}
+
+fn is_domain_guid(s: &[u8], at: usize) -> bool
+    requires { ⌜ at + 10 ≤ length (now s) ⌝ }
+    ensures { λ r. ⌜ r ≡ lettersAt (now (s .entry)) at domainGuid ⌝ }
+{
+    three(s, at, b'd', b'o', b'm')
+        & three(s, at + 3, b'a', b'i', b'n')
+        & four(s, at + 6, b'g', b'u', b'i', b'd')
+}
+
+fn is_dns_host_name(s: &[u8], at: usize) -> bool
+    requires { ⌜ at + 11 ≤ length (now s) ⌝ }
+    ensures { λ r. ⌜ r ≡ lettersAt (now (s .entry)) at dnsHostName ⌝ }
+{
+    three(s, at, b'd', b'n', b's')
+        & four(s, at + 3, b'h', b'o', b's', b't')
+        & four(s, at + 7, b'n', b'a', b'm', b'e')
+}
+
+// The place of the clause name that octets spell: 8 where they spell none. Their count tells most of them.
+fn place_of(s: &[u8], at: usize, len: usize) -> usize
+    requires { ⌜ at + len ≤ length (now s) ⌝ }
+    ensures { λ r. ⌜ r ≡ placeAs (nameSpelled (cut (now (s .entry)) at len)) ⌝ }
+{
+    if len == 3 {
+        if three(s, at, b'a', b'a', b'c') {
+            return 4;
         }
-        i += 1;
+        return CLAUSE_COUNT;
+    }
+    if len == 4 {
+        if four(s, at, b'h', b'o', b's', b't') {
+            return 1;
+        }
+        if four(s, at, b'u', b's', b'e', b'r') {
+            return 3;
+        }
+        return CLAUSE_COUNT;
+    }
+    if len == 5 {
+        if is_nt_ver(s, at) {
+            return 7;
+        }
+        return CLAUSE_COUNT;
+    }
+    if len == 9 {
+        if is_dns_domain(s, at) {
+            return 0;
+        }
+        if is_domain_sid(s, at) {
+            return 5;
+        }
+        return CLAUSE_COUNT;
+    }
+    if len == 10 {
+        if is_domain_guid(s, at) {
+            return 6;
+        }
+        return CLAUSE_COUNT;
+    }
+    if len == 11 {
+        if is_dns_host_name(s, at) {
+            return 2;
+        }
+        return CLAUSE_COUNT;
     }
     CLAUSE_COUNT
 }
@@ -66,7 +164,7 @@ fn place_of(s: &[u8]) -> usize
 pub fn name_of(s: &[u8]) -> SpelledName
     ensures { λ r. ⌜ r ≡ spelledAs (nameSpelled (now (s .entry))) ⌝ }
 {
-    let place = place_of(s);
+    let place = place_of(s, 0, s.len());
     if CLAUSE_COUNT <= place {
         return SpelledName::Unknown;
     }
@@ -89,7 +187,7 @@ fn note(s: &[u8], clause: RawClause, seen: &mut [u32; SEEN])
 {
     let name_start = clause.name_start;
     let name_len = clause.name_len;
-    let place = place_of(part(s, name_start, name_len));
+    let place = place_of(s, name_start, name_len);
     if CLAUSE_COUNT <= place {
         seen[UNKNOWN] = 1;
         return;

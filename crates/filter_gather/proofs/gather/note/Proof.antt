@@ -15,30 +15,23 @@ use Rattle.filter_gather.proofs.Laws.Seen.{place-none, place-some, unkn
 use Rattle.filter_gather.proofs.gather.note.Statement.{statement}
 use Rattle.filter_gather.proofs.gather.note.Tie as tie
 
-part-requires : tie.Need-part-requires
-part-requires c κs = search needs
-
 place-of-requires : tie.Need-place-of-requires
 place-of-requires c κs = search needs
 
 element-write-seen : tie.Need-element-write-seen
 element-write-seen c = search needs
 
--- the place is that of the name spelled
-placed : (c : tie.After-place-of) → c .place-of .result ≡ placeAs (nameSpelled (cut (c .before .before .before .args .s .now) (c .before .before .before .args .clause .«name_start») (c .before .before .before .args .clause .«name_len»)))
-placed c = c .place-of .ensures ∙ ap (λ (x : List ℕ). placeAs (nameSpelled x)) (c .before .part .ensures)
-
-named : (c : tie.Else1) → nameSpelled (cut (c .before .before .before .before .args .s .now) (c .before .before .before .before .args .clause .«name_start») (c .before .before .before .before .args .clause .«name_len»)) ≡ some (clauseNameAt (c .before .place-of .result))
+named : (c : tie.Else1) → nameSpelled (cut (c .before .before .before .args .s .now) (c .before .before .before .args .clause .«name_start») (c .before .before .before .args .clause .«name_len»)) ≡ some (clauseNameAt (c .before .place-of .result))
 named c =
-    let p = placed (c .before) in
+    let p = c .before .place-of .ensures in
     place-some _ (rw p at (c .if1 .left)) ∙ ap (λ (i : ℕ). some (clauseNameAt i)) (sym p)
 
 returns : tie.Need-returns
 unfolding added
 returns c =
-    let s = c .before .before .before .before in
+    let s = c .before .before .before in
     let a = s .args in
-    let n : nameSpelled (cut (a .s .now) (a .clause .«name_start») (a .clause .«name_len»)) ≡ none = place-none _ (rw (placed (c .before)) at (c .if1 .taken)) in
+    let n : nameSpelled (cut (a .s .now) (a .clause .«name_start») (a .clause .«name_len»)) ≡ none = place-none _ (rw (c .before .place-of .ensures) at (c .if1 .taken)) in
     (simp length-set (s .pre .1), rw (added, n) (unknown-stored (a .seen .now) (s .pre .1)))
 
 mul-if2 : tie.Need-mul-if2
@@ -53,7 +46,7 @@ element-write-seen-2 c = search needs
 returns-2 : tie.Need-returns-2
 unfolding added
 returns-2 c =
-    let s = c .before .before .before .before .before .before in
+    let s = c .before .before .before .before .before in
     let a = s .args in
     let i = seen-at (a .seen .now) (c .before .before .before .place-of .result) (c .before .before .if1 .left) ∙ ap not (ne-eqb _ 0 (c .if2 .taken)) in
     (simp length-set (s .pre .1), rw (added, named (c .before .before), i) (duplicate-stored (a .seen .now) (s .pre .1)))
@@ -70,7 +63,7 @@ element-write-seen-3 c = search needs
 returns-3 : tie.Need-returns-3
 unfolding added
 returns-3 c =
-    let s = c .before .before .before .before .before .before .before in
+    let s = c .before .before .before .before .before .before in
     let a = s .args in
     let k = c .before .before .before .before .place-of .result in
     let i = seen-at (a .seen .now) k (c .before .before .before .if1 .left) ∙ ap not (eq-eqb _ 0 (c .before .if2 .left)) in
@@ -80,7 +73,6 @@ pub note-spec : {M : Type 1} → statement M
 note-spec =
     tie.close
     (tie.spec
-    part-requires
     place-of-requires
     element-write-seen
     returns

@@ -1,78 +1,118 @@
-use mathlib.Core.Path.{_≡_, refl, sym, ap, _∙_}
-use Prim.Native.Nat.{_≤_, _-_}
-use native.Mathlib.Omega.{arith}
+use mathlib.Core.Path.{sym, _∙_}
+use Rattle.filter_gather.proofs.Laws.Letters.{spelled-3, spelled-4, spelled-5, spelled-9, spelled-10, spelled-11, spelled-other}
 use borrow.Author.Needs.{needs}
-use lib.ListN.{drop}
-use Rattle.octets.specs.Lists.{first}
-use Rattle.octets.proofs.Laws.Lists.{first-here, first-next, first-end}
-use Rattle.octets.specs.Text.{sameFolded}
-use Rattle.filter.specs.declared.request.ClauseName.{ClauseName}
-use Rattle.filter.specs.declared.request.ClauseName.the-variants.{NtVer}
-use Rattle.filter.specs.Internal.ClauseNames.{clauseNameAt}
-use Rattle.filter.specs.Request.{clauseNames, spelling}
-use Rattle.filter_gather.specs.Internal.Gather.{nameSpelled}
-use Rattle.filter_gather.specs.Internal.Seen.{placeAs}
-use Rattle.filter_gather.proofs.Laws.Seen.{place-at}
 use Rattle.filter_gather.proofs.gather.place_of.Statement.{statement}
 use Rattle.filter_gather.proofs.gather.place_of.Tie as tie
 
-abbrev Inv-loop : tie.InvT-loop
-Inv-loop s i₀ i = (i ≤ 8) × (first (λ name. sameFolded s (spelling name)) (drop i clauseNames) ≡ nameSpelled s)
+three-requires : tie.Need-three-requires
+three-requires c κs = search needs
 
-abbrev μ-loop : tie.MeasureT-loop
-μ-loop s i₀ i = 8 - i
-
-loop-holds : tie.Need-loop-holds Inv-loop μ-loop
-unfolding nameSpelled
-loop-holds c = (omega arith, refl)
-
-clause-name-at-requires : tie.Need-clause-name-at-requires Inv-loop μ-loop
-clause-name-at-requires c κs = search needs
-
-is-spelling-requires : tie.Need-is-spelling-requires Inv-loop μ-loop
-is-spelling-requires c κs = search needs
-
--- the name at i is the one that was tested
-tested : (c : tie.After-is-spelling Inv-loop μ-loop) → c .is-spelling .result ≡ sameFolded (c .before .before .before .before .before .args .s .now) (spelling (clauseNameAt (c .before .before .before .loop .i)))
-tested c =
-    c .is-spelling .ensures ∙ ap (λ (n : ClauseName). sameFolded (c .before .before .before .before .before .args .s .now) (spelling n)) (c .before .clause-name-at .ensures)
-
-returns : tie.Need-returns Inv-loop μ-loop
+returns : tie.Need-returns
 returns c =
-    let s = c .before .before .before .before .before .before .args .s .now in
-    let l = c .before .before .before .before .loop in
-    sym (place-at (l .i) (c .before .before .before .loop-test .taken))
-    ∙ ap placeAs (first-here (λ name. sameFolded s (spelling name)) clauseNames (l .i) NtVer (c .before .before .before .loop-test .taken) (sym (tested (c .before)) ∙ c .if1 .taken) ∙ l .inv .1)
+    let g = c .before .before .before .before in rw (spelled-3 (g .args .s .now) (g .args .at) (g .args .len) (g .pre) (c .before .before .if1 .taken), sym (c .before .three .ensures) ∙ c .if2 .taken)
 
-add-i : tie.Need-add-i Inv-loop μ-loop
-add-i c = search needs
-
-loop-less : tie.Need-loop-less Inv-loop μ-loop
-loop-less c = search needs
-
-loop-again : tie.Need-loop-again Inv-loop μ-loop
-loop-again c =
-    let s = c .before .before .before .before .before .before .args .s .now in
-    let l = c .before .before .before .before .loop in
-    (omega arith, first-next (λ name. sameFolded s (spelling name)) clauseNames (l .i) NtVer (c .before .before .before .loop-test .taken) (sym (tested (c .before)) ∙ c .if1 .left) ∙ l .inv .1)
-
-returns-2 : tie.Need-returns-2 Inv-loop μ-loop
+returns-2 : tie.Need-returns-2
 returns-2 c =
-    let s = c .before .before .before .args .s .now in
-    let l = c .before .loop in
-    ap placeAs (first-end (λ name. sameFolded s (spelling name)) clauseNames (l .i) (c .loop-test .left) ∙ l .inv .1)
+    let g = c .before .before .before .before in rw (spelled-3 (g .args .s .now) (g .args .at) (g .args .len) (g .pre) (c .before .before .if1 .taken), sym (c .before .three .ensures) ∙ c .if2 .left)
+
+four-requires : tie.Need-four-requires
+four-requires c κs = search needs
+
+returns-3 : tie.Need-returns-3
+returns-3 c =
+    let g = c .before .before .before .before .before in rw (spelled-4 (g .args .s .now) (g .args .at) (g .args .len) (g .pre) (c .before .before .if3 .taken), sym (c .before .four .ensures) ∙ c .if4 .taken)
+
+four-requires-2 : tie.Need-four-requires-2
+four-requires-2 c κs = search needs
+
+returns-4 : tie.Need-returns-4
+returns-4 c =
+    let g = c .before .before .before .before .before .before .before in rw (spelled-4 (g .args .s .now) (g .args .at) (g .args .len) (g .pre) (c .before .before .before .before .if3 .taken), sym (c .before .before .before .four .ensures) ∙ c .before .before .if4 .left, sym (c .before .four2 .ensures) ∙ c .if5 .taken)
+
+returns-5 : tie.Need-returns-5
+returns-5 c =
+    let g = c .before .before .before .before .before .before .before in rw (spelled-4 (g .args .s .now) (g .args .at) (g .args .len) (g .pre) (c .before .before .before .before .if3 .taken), sym (c .before .before .before .four .ensures) ∙ c .before .before .if4 .left, sym (c .before .four2 .ensures) ∙ c .if5 .left)
+
+is-nt-ver-requires : tie.Need-is-nt-ver-requires
+is-nt-ver-requires c κs = search needs
+
+returns-6 : tie.Need-returns-6
+returns-6 c =
+    let g = c .before .before .before .before .before .before in rw (spelled-5 (g .args .s .now) (g .args .at) (g .args .len) (g .pre) (c .before .before .if6 .taken), sym (c .before .is-nt-ver .ensures) ∙ c .if7 .taken)
+
+returns-7 : tie.Need-returns-7
+returns-7 c =
+    let g = c .before .before .before .before .before .before in rw (spelled-5 (g .args .s .now) (g .args .at) (g .args .len) (g .pre) (c .before .before .if6 .taken), sym (c .before .is-nt-ver .ensures) ∙ c .if7 .left)
+
+is-dns-domain-requires : tie.Need-is-dns-domain-requires
+is-dns-domain-requires c κs = search needs
+
+returns-8 : tie.Need-returns-8
+returns-8 c =
+    let g = c .before .before .before .before .before .before .before in rw (spelled-9 (g .args .s .now) (g .args .at) (g .args .len) (g .pre) (c .before .before .if8 .taken), sym (c .before .is-dns-domain .ensures) ∙ c .if9 .taken)
+
+is-domain-sid-requires : tie.Need-is-domain-sid-requires
+is-domain-sid-requires c κs = search needs
+
+returns-9 : tie.Need-returns-9
+returns-9 c =
+    let g = c .before .before .before .before .before .before .before .before .before in rw (spelled-9 (g .args .s .now) (g .args .at) (g .args .len) (g .pre) (c .before .before .before .before .if8 .taken), sym (c .before .before .before .is-dns-domain .ensures) ∙ c .before .before .if9 .left, sym (c .before .is-domain-sid .ensures) ∙ c .if10 .taken)
+
+returns-10 : tie.Need-returns-10
+returns-10 c =
+    let g = c .before .before .before .before .before .before .before .before .before in rw (spelled-9 (g .args .s .now) (g .args .at) (g .args .len) (g .pre) (c .before .before .before .before .if8 .taken), sym (c .before .before .before .is-dns-domain .ensures) ∙ c .before .before .if9 .left, sym (c .before .is-domain-sid .ensures) ∙ c .if10 .left)
+
+is-domain-guid-requires : tie.Need-is-domain-guid-requires
+is-domain-guid-requires c κs = search needs
+
+returns-11 : tie.Need-returns-11
+returns-11 c =
+    let g = c .before .before .before .before .before .before .before .before in rw (spelled-10 (g .args .s .now) (g .args .at) (g .args .len) (g .pre) (c .before .before .if11 .taken), sym (c .before .is-domain-guid .ensures) ∙ c .if12 .taken)
+
+returns-12 : tie.Need-returns-12
+returns-12 c =
+    let g = c .before .before .before .before .before .before .before .before in rw (spelled-10 (g .args .s .now) (g .args .at) (g .args .len) (g .pre) (c .before .before .if11 .taken), sym (c .before .is-domain-guid .ensures) ∙ c .if12 .left)
+
+is-dns-host-name-requires : tie.Need-is-dns-host-name-requires
+is-dns-host-name-requires c κs = search needs
+
+returns-13 : tie.Need-returns-13
+returns-13 c =
+    let g = c .before .before .before .before .before .before .before .before .before in rw (spelled-11 (g .args .s .now) (g .args .at) (g .args .len) (g .pre) (c .before .before .if13 .taken), sym (c .before .is-dns-host-name .ensures) ∙ c .if14 .taken)
+
+returns-14 : tie.Need-returns-14
+returns-14 c =
+    let g = c .before .before .before .before .before .before .before .before .before in rw (spelled-11 (g .args .s .now) (g .args .at) (g .args .len) (g .pre) (c .before .before .if13 .taken), sym (c .before .is-dns-host-name .ensures) ∙ c .if14 .left)
+
+returns-15 : tie.Need-returns-15
+returns-15 c =
+    let g = c .before .before .before .before .before .before .before in
+    rw (spelled-other (g .args .s .now) (g .args .at) (g .args .len) (g .pre) (c .before .before .before .before .before .if1 .left) (c .before .before .before .before .if3 .left) (c .before .before .before .if6 .left) (c .before .before .if8 .left) (c .before .if11 .left) (c .if13 .left))
 
 pub place-of-spec : {M : Type 1} → statement M
 place-of-spec =
     tie.close
     (tie.spec
-    Inv-loop
-    μ-loop
-    loop-holds
-    clause-name-at-requires
-    is-spelling-requires
+    three-requires
     returns
-    add-i
-    loop-less
-    loop-again
-    returns-2)
+    returns-2
+    four-requires
+    returns-3
+    four-requires-2
+    returns-4
+    returns-5
+    is-nt-ver-requires
+    returns-6
+    returns-7
+    is-dns-domain-requires
+    returns-8
+    is-domain-sid-requires
+    returns-9
+    returns-10
+    is-domain-guid-requires
+    returns-11
+    returns-12
+    is-dns-host-name-requires
+    returns-13
+    returns-14
+    returns-15)
