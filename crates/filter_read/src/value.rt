@@ -53,7 +53,7 @@ pub fn clause_number(s: &[u8], start: usize, len: usize) -> u32
 }
 
 // A clause that is present and is no number of four octets.
-fn is_wrong_number(s: &[u8], clause: Clause) -> bool
+pub fn is_wrong_number(s: &[u8], clause: Clause) -> bool
     ensures { λ r. ⌜ r ≡ holds (λ x. not (isNumber x)) (octetsOf (now (s .entry)) clause) ⌝ }
 {
     let Clause::Present { start, len } = clause else {
@@ -64,7 +64,7 @@ fn is_wrong_number(s: &[u8], clause: Clause) -> bool
 }
 
 // A clause that is present and is no user's name: over 63 octets, not UTF-8, or holding a zero octet.
-fn is_wrong_user(s: &[u8], clause: Clause) -> bool
+pub fn is_wrong_user(s: &[u8], clause: Clause) -> bool
     ensures { λ r. ⌜ r ≡ holds (λ x. not (isUserName x)) (octetsOf (now (s .entry)) clause) ⌝ }
 {
     let Clause::Present { start, len } = clause else {

@@ -36,14 +36,6 @@ pub refused-judged : (t : Try Ping) (x : Refusal) → judged.Refused x ≡ judge
 refused-judged (refused y) x e = let z : x ≡ y = cc in ap refused (sym z)
 refused-judged (good p) x e = let z : _≡_ {A = ℕ} 0 1 = cc in absurd (omega arith)
 
-pub request-taken : (t : Try Request) (q : Request) → taken.Request q ≡ takenAs t → t ≡ good q
-request-taken (refused y) q e = let z : _≡_ {A = ℕ} 0 1 = cc in absurd (omega arith)
-request-taken (good p) q e = let z : q ≡ p = cc in ap good (sym z)
-
-pub refused-taken : (t : Try Request) (x : Refusal) → taken.Refused x ≡ takenAs t → t ≡ refused x
-refused-taken (refused y) x e = let z : x ≡ y = cc in ap refused (sym z)
-refused-taken (good p) x e = let z : _≡_ {A = ℕ} 0 1 = cc in absurd (omega arith)
-
 -- after 9 the user is absent or a User value
 valued-user : (s : List ℕ) (r : Request) (p : Ping) → pingIn s r ≡ good p → holds (λ x. not (isUserName x)) (p .user) ≡ false
 unfolding pingIn wrongValue

@@ -25,19 +25,16 @@ returns c =
     let t : requestIn s ≡ refused (refusalOf (g .result)) = g .ensures ∙ rw (ne-eqb _ 0 (c .before .if1 .taken)) in
     ap refused (c .refusal-of .ensures) ∙ ap (λ (x : Try Request). x >>= pingIn s) (sym t)
 
-request-seen-requires : tie.Need-request-seen-requires
-request-seen-requires c κs = search needs
-
 judged-ping-requires : tie.Need-judged-ping-requires
 judged-ping-requires c κs = search needs
 
 returns-2 : tie.Need-returns-2
 unfolding pingFrom
 returns-2 c =
-    let s = c .before .before .before .before .before .before .before .args .filter .now in
-    let g = c .before .before .before .before .gather in
-    let t : requestIn s ≡ good (decoded (g .last .1 .0) .request) = g .ensures ∙ rw (eq-eqb _ 0 (c .before .before .before .if1 .left)) in
-    c .judged-ping .ensures ∙ ap (pingIn s) (c .before .request-seen .ensures) ∙ ap (λ (x : Try Request). x >>= pingIn s) (sym t)
+    let s = c .before .before .before .before .before .before .args .filter .now in
+    let g = c .before .before .before .gather in
+    let t : requestIn s ≡ good (decoded (g .last .1 .0) .request) = g .ensures ∙ rw (eq-eqb _ 0 (c .before .before .if1 .left)) in
+    c .judged-ping .ensures ∙ ap (λ (x : Try Request). x >>= pingIn s) (sym t)
 
 pub read-ping-spec : {M : Type 1} → statement M
 read-ping-spec =
@@ -46,6 +43,5 @@ read-ping-spec =
     gather-requires
     refusal-of-requires
     returns
-    request-seen-requires
     judged-ping-requires
     returns-2)
