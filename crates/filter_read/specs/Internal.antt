@@ -1,2 +1,3 @@
+pub mod ClausesRead
 pub mod RawPing
-pub mod Seen
+pub mod WrongValue

@@ -4,15 +4,15 @@ ghost use lib.ListN.{length};
 ghost use Rattle.filter_gather.specs.Internal.Gather.{nothing};
 ghost use Rattle.filter_gather.specs.Internal.Seen.{seenCount, decoded};
 ghost use Rattle.filter_read.specs.Taken.{requestIn, takenNumber, TakeApartPromise};
-ghost use Rattle.filter_read.specs.Internal.Seen.{refusalOf, answerBy};
+ghost use Rattle.filter_read.specs.Internal.ClausesRead.{requestRead};
 use answers::Refusal;
 use answers::number_of;
 use filter::request::Request;
-use filter_gather::gather::DUPLICATE;
-use filter_gather::gather::SEEN;
-use filter_gather::gather::UNKNOWN;
-use filter_gather::gather::request_seen;
 use filter_gather::gather::whole;
+use filter_gather::seen::DUPLICATE;
+use filter_gather::seen::SEEN_COUNT;
+use filter_gather::seen::UNKNOWN;
+use filter_gather::seen::request_seen;
 use filter_position::position::FILTER_LIMIT;
 
 // What taking a filter apart gives: 0 with the request, or 5 to 8.
@@ -31,48 +31,38 @@ pub fn taken_number(taken: Taken) -> u8
     }
 }
 
-// A filter gathered: 5 by its length alone, then 6, 7 and 8, each judged over the whole filter; 0 where none of them.
-pub fn gather(s: &[u8], seen: &mut [u32; SEEN]) -> u8
-    requires { ⌜ (length (now seen) ≡ seenCount) × (decoded (now seen) ≡ nothing) ⌝ }
-    ensures { λ r. ⌜ requestIn (now (s .entry)) ≡ answerBy r (decoded (now (seen .exit))) ⌝ }
-{
-    if FILTER_LIMIT < s.len() {
-        return 5;
-    }
-    if !whole(s, seen) {
-        return 6;
-    }
-    if seen[UNKNOWN] != 0 {
-        return 7;
-    }
-    if seen[DUPLICATE] != 0 {
-        return 8;
-    }
-    0
+// What gathering a filter gives: its clauses in the array that is lent, or 5 to 8.
+pub enum ClausesRead {
+    Gathered,
+    Refused(Refusal),
 }
 
-pub fn refusal_of(n: u8) -> Refusal
-    ensures { λ r. ⌜ r ≡ refusalOf n ⌝ }
+// A filter gathered: 5 by its length alone, then 6, 7 and 8, each judged over the whole filter.
+pub fn read_clauses(s: &[u8], seen: &mut [u32; SEEN_COUNT]) -> ClausesRead
+    requires { ⌜ (length (now seen) ≡ seenCount) × (decoded (now seen) ≡ nothing) ⌝ }
+    ensures { λ r. ⌜ requestIn (now (s .entry)) ≡ requestRead r (decoded (now (seen .exit))) ⌝ }
 {
-    if n == 5 {
-        return Refusal::FilterLength;
+    if FILTER_LIMIT < s.len() {
+        return ClausesRead::Refused(Refusal::FilterLength);
     }
-    if n == 6 {
-        return Refusal::FilterShape;
+    if !whole(s, seen) {
+        return ClausesRead::Refused(Refusal::FilterShape);
     }
-    if n == 7 {
-        return Refusal::UnknownClause;
+    if seen[UNKNOWN] != 0 {
+        return ClausesRead::Refused(Refusal::UnknownClause);
     }
-    Refusal::DuplicateClause
+    if seen[DUPLICATE] != 0 {
+        return ClausesRead::Refused(Refusal::DuplicateClause);
+    }
+    ClausesRead::Gathered
 }
 
 pub fn take_apart(s: &[u8]) -> Taken
     ensures { λ r. ⌜ TakeApartPromise (now (s .entry)) r ⌝ }
 {
-    let mut seen = [0; SEEN];
-    let number = gather(s, &mut seen);
-    if number != 0 {
-        return Taken::Refused(refusal_of(number));
+    let mut seen = [0; SEEN_COUNT];
+    match read_clauses(s, &mut seen) {
+        ClausesRead::Gathered => Taken::Request(request_seen(&seen)),
+        ClausesRead::Refused(refusal) => Taken::Refused(refusal),
     }
-    Taken::Request(request_seen(&seen))
 }

@@ -1,8 +1,8 @@
 -- Laws of names told by their length, and then letter by letter.
 use mathlib.Core.Path.{_≡_, refl, sym, ap, ap₂, fun-ext, _∙_}
-use mathlib.Core.Bool.{Bool, true, false, _&&_, and-assoc}
+use mathlib.Core.Bool.{Bool, true, false, cond, _&&_, and-assoc}
 use mathlib.Core.List.{List, [], _∷_, _++_, map}
-use mathlib.Core.Option.{Option, none, some}
+use mathlib.Core.Option.{Option, none}
 use Prim.Native.Nat.{ℕ, _+_, _≤_, _<_}
 use native.Mathlib.Omega.{arith}
 use borrow.Author.Tests.{eqb-false, ne-eqb}
@@ -17,8 +17,8 @@ use Rattle.filter.specs.declared.request.ClauseName.{ClauseName}
 use Rattle.filter.specs.declared.request.ClauseName.the-variants.{DnsDomain, Host, DnsHostName, User, Aac, DomainSid, DomainGuid, NtVer}
 use Rattle.filter.specs.Request.{clauseNames, spelling}
 use Rattle.filter_gather.specs.Internal.Gather.{nameSpelled}
-use Rattle.filter_gather.specs.Internal.Seen.{placeAs}
-use Rattle.filter_gather.specs.Internal.Letters.{lettersAt, ntVer, dnsDomain, domainSid, domainGuid, dnsHostName}
+use Rattle.filter_gather.specs.Internal.Letters.{lettersAt, smallLetters}
+use Rattle.filter_gather.specs.Internal.Seen.{placeOf, placeAs}
 
 -- letters of a stretch, and letters after letters
 pub letters-cut : (s w : List ℕ) (at : ℕ) → at + length w ≤ length s → same (map lower (cut s at (length w))) w ≡ lettersAt s at w
@@ -54,38 +54,63 @@ spelled-length x k e = ap (λ (p : ClauseName → Bool). first p clauseNames) (f
     by name true q = refl
     by name false q = same-lengths (map lower x) (map lower (spelling name)) (λ l. eqb-false (length (spelling name)) k q (sym (simp length-map at l) ∙ e))
 
+-- the place of the name, by the letters of the names of that length
+place-first : (b : Bool) (name : ClauseName) (o : Option ClauseName) → placeAs (firstOr b name o) ≡ cond b (placeOf name) (placeAs o)
+place-first true name o = refl
+place-first false name o = refl
+
 module _ (s : List ℕ) (at len : ℕ) (h : at + len ≤ length s) where
   by-length : (k : ℕ) → len ≡ k → nameSpelled (cut s at len) ≡ first (λ name. eqb (length (spelling name)) k && sameFolded (cut s at k) (spelling name)) clauseNames
   by-length k e =
       let g : at + k ≤ length s = omega arith in
       ap (λ (n : ℕ). nameSpelled (cut s at n)) e ∙ spelled-length (cut s at k) k (cut-length s at k g)
 
-  pub spelled-3 : len ≡ 3 → nameSpelled (cut s at len) ≡ firstOr (lettersAt s at (0x61 ∷ 0x61 ∷ 0x63 ∷ [])) Aac none
-  unfolding first lower
-  spelled-3 e = by-length 3 e ∙ ap (λ (b : Bool). firstOr b Aac none) (letters-cut s (0x61 ∷ 0x61 ∷ 0x63 ∷ []) at (omega arith))
+  abbrev placed : ℕ
+  placed = placeAs (nameSpelled (cut s at len))
 
-  pub spelled-4 : len ≡ 4 → nameSpelled (cut s at len) ≡ firstOr (lettersAt s at (0x68 ∷ 0x6F ∷ 0x73 ∷ 0x74 ∷ [])) Host (firstOr (lettersAt s at (0x75 ∷ 0x73 ∷ 0x65 ∷ 0x72 ∷ [])) User none)
-  unfolding first lower
-  spelled-4 e = by-length 4 e ∙ ap₂ (λ (a b : Bool). firstOr a Host (firstOr b User none)) (letters-cut s (0x68 ∷ 0x6F ∷ 0x73 ∷ 0x74 ∷ []) at (omega arith)) (letters-cut s (0x75 ∷ 0x73 ∷ 0x65 ∷ 0x72 ∷ []) at (omega arith))
+  abbrev spells : ClauseName → Bool
+  spells name = lettersAt s at (smallLetters name)
 
-  pub spelled-5 : len ≡ 5 → nameSpelled (cut s at len) ≡ firstOr (lettersAt s at ntVer) NtVer none
-  unfolding first lower
-  spelled-5 e = by-length 5 e ∙ ap (λ (b : Bool). firstOr b NtVer none) (letters-cut s ntVer at (omega arith))
+  -- one name of its length, or two
+  only : (name : ClauseName) → len ≡ length (smallLetters name) → nameSpelled (cut s at len) ≡ firstOr (sameFolded (cut s at (length (smallLetters name))) (spelling name)) name none → placed ≡ cond (spells name) (placeOf name) 8
+  only name e q =
+      ap placeAs (q ∙ ap (λ (b : Bool). firstOr b name none) (letters-cut s (smallLetters name) at (omega arith)))
+      ∙ place-first (spells name) name none
 
-  pub spelled-9 : len ≡ 9 → nameSpelled (cut s at len) ≡ firstOr (lettersAt s at dnsDomain) DnsDomain (firstOr (lettersAt s at domainSid) DomainSid none)
-  unfolding first lower
-  spelled-9 e = by-length 9 e ∙ ap₂ (λ (a b : Bool). firstOr a DnsDomain (firstOr b DomainSid none)) (letters-cut s dnsDomain at (omega arith)) (letters-cut s domainSid at (omega arith))
+  either : (m n : ClauseName) → len ≡ length (smallLetters m) → len ≡ length (smallLetters n)
+      → nameSpelled (cut s at len) ≡ firstOr (sameFolded (cut s at (length (smallLetters m))) (spelling m)) m (firstOr (sameFolded (cut s at (length (smallLetters n))) (spelling n)) n none)
+      → placed ≡ cond (spells m) (placeOf m) (cond (spells n) (placeOf n) 8)
+  either m n e l q =
+      ap placeAs (q ∙ ap₂ (λ (a b : Bool). firstOr a m (firstOr b n none)) (letters-cut s (smallLetters m) at (omega arith)) (letters-cut s (smallLetters n) at (omega arith)))
+      ∙ place-first (spells m) m (firstOr (spells n) n none)
+      ∙ ap (cond (spells m) (placeOf m)) (place-first (spells n) n none)
 
-  pub spelled-10 : len ≡ 10 → nameSpelled (cut s at len) ≡ firstOr (lettersAt s at domainGuid) DomainGuid none
-  unfolding first lower
-  spelled-10 e = by-length 10 e ∙ ap (λ (b : Bool). firstOr b DomainGuid none) (letters-cut s domainGuid at (omega arith))
-
-  pub spelled-11 : len ≡ 11 → nameSpelled (cut s at len) ≡ firstOr (lettersAt s at dnsHostName) DnsHostName none
-  unfolding first lower
-  spelled-11 e = by-length 11 e ∙ ap (λ (b : Bool). firstOr b DnsHostName none) (letters-cut s dnsHostName at (omega arith))
-
-  pub spelled-other : (len ≡ 3 → ⊥) → (len ≡ 4 → ⊥) → (len ≡ 5 → ⊥) → (len ≡ 9 → ⊥) → (len ≡ 10 → ⊥) → (len ≡ 11 → ⊥) → nameSpelled (cut s at len) ≡ none
+  pub placed-3 : len ≡ 3 → placed ≡ cond (spells Aac) 4 8
   unfolding first
-  spelled-other n3 n4 n5 n9 n10 n11 =
-      by-length len refl
+  placed-3 e = only Aac e (by-length 3 e)
+
+  pub placed-4 : len ≡ 4 → placed ≡ cond (spells Host) 1 (cond (spells User) 3 8)
+  unfolding first
+  placed-4 e = either Host User e e (by-length 4 e)
+
+  pub placed-5 : len ≡ 5 → placed ≡ cond (spells NtVer) 7 8
+  unfolding first
+  placed-5 e = only NtVer e (by-length 5 e)
+
+  pub placed-9 : len ≡ 9 → placed ≡ cond (spells DnsDomain) 0 (cond (spells DomainSid) 5 8)
+  unfolding first
+  placed-9 e = either DnsDomain DomainSid e e (by-length 9 e)
+
+  pub placed-10 : len ≡ 10 → placed ≡ cond (spells DomainGuid) 6 8
+  unfolding first
+  placed-10 e = only DomainGuid e (by-length 10 e)
+
+  pub placed-11 : len ≡ 11 → placed ≡ cond (spells DnsHostName) 2 8
+  unfolding first
+  placed-11 e = only DnsHostName e (by-length 11 e)
+
+  pub placed-none : (len ≡ 3 → ⊥) → (len ≡ 4 → ⊥) → (len ≡ 5 → ⊥) → (len ≡ 9 → ⊥) → (len ≡ 10 → ⊥) → (len ≡ 11 → ⊥) → placed ≡ 8
+  unfolding first
+  placed-none n3 n4 n5 n9 n10 n11 =
+      ap placeAs (by-length len refl)
       ∙ rw (ne-eqb 9 len (λ e. n9 (sym e)), ne-eqb 4 len (λ e. n4 (sym e)), ne-eqb 11 len (λ e. n11 (sym e)), ne-eqb 3 len (λ e. n3 (sym e)), ne-eqb 10 len (λ e. n10 (sym e)), ne-eqb 5 len (λ e. n5 (sym e)))

@@ -3,9 +3,9 @@ use mathlib.Core.Path.{_≡_, refl, sym, ap, ap₂, _∙_}
 use mathlib.Core.Bool.{Bool, true, false, cond, not}
 use mathlib.Core.List.{List, [], _∷_}
 use mathlib.Core.Option.{Option, none, some}
-use Prim.Native.Nat.{ℕ, zero, suc, _+_, _*_, _/_, _%_, _<_, _≤_}
+use Prim.Native.Nat.{ℕ, zero, suc, _/_, _%_, _<_, _≤_}
 use native.Mathlib.Omega.{arith}
-use borrow.Author.Tests.{eq-eqb, ne-eqb}
+use borrow.Author.Tests.{ne-eqb}
 use lib.Dec.{eqb}
 use lib.ListN.{length, getD, set}
 use Rattle.octets.specs.Text.{same, lower}
@@ -15,21 +15,17 @@ use Rattle.filter.specs.declared.request.ClauseName.{ClauseName}
 use Rattle.filter.specs.declared.request.ClauseName.the-variants.{DnsDomain, Host, DnsHostName, User, Aac, DomainSid, DomainGuid, NtVer}
 use Rattle.filter.specs.Internal.ClauseNames.{clauseNameAt, stored}
 use Rattle.filter.specs.Request.{clause, isPresent}
-use Rattle.filter_gather.specs.Internal.Gather.{Gathered}
 use Rattle.filter_gather.specs.Internal.Seen.{packed, clauseSeen, isSeen, placeOf, placeAs, decoded}
 
 -- a clause packed is unpacked to itself
-pub unpacked : (start len : ℕ) → 1 ≤ start → len < 65536 → clauseSeen (packed start len) ≡ Present start len
+unpacked : (start len : ℕ) → 1 ≤ start → len < 65536 → clauseSeen (packed start len) ≡ Present start len
 unpacked start len l h =
     let n : packed start len ≡ 0 → ⊥ = λ e. omega arith in
     let q : packed start len / 65536 ≡ start = omega arith in
     let r : packed start len % 65536 ≡ len = omega arith in
     rw (ne-eqb (packed start len) 0 n) (ap₂ Present q r)
 
-pub packed-small : (start len : ℕ) → start < 65536 → len < 65536 → packed start len < 4294967296
-packed-small start len h l = omega arith
-
-pub present-seen : (x : ℕ) → isPresent (clauseSeen x) ≡ isSeen x
+present-seen : (x : ℕ) → isPresent (clauseSeen x) ≡ isSeen x
 present-seen x = by (eqb x 0)
   where
     by : (b : Bool) → isPresent (cond b Absent (Present (x / 65536) (x % 65536))) ≡ not b
@@ -38,7 +34,7 @@ present-seen x = by (eqb x 0)
 
 -- ten numbers, one by one
 module _ (P : List ℕ → Type 0) (h : (a b c d e f g i j k : ℕ) → P (a ∷ b ∷ c ∷ d ∷ e ∷ f ∷ g ∷ i ∷ j ∷ k ∷ [])) where
-  pub by-ten : (xs : List ℕ) → length xs ≡ 10 → P xs
+  by-ten : (xs : List ℕ) → length xs ≡ 10 → P xs
   by-ten [] l = absurd (omega arith)
   by-ten (a ∷ []) l = absurd (omega arith)
   by-ten (a ∷ b ∷ []) l = absurd (omega arith)
@@ -54,7 +50,7 @@ module _ (P : List ℕ → Type 0) (h : (a b c d e f g i j k : ℕ) → P (a ∷
 
 -- one number stored: a clause, that one was of another name, that one was there before
 
-pub clause-at : (xs : List ℕ) (n : ClauseName) → clause (decoded xs .request) n ≡ clauseSeen (getD xs (placeOf n) 0)
+clause-at : (xs : List ℕ) (n : ClauseName) → clause (decoded xs .request) n ≡ clauseSeen (getD xs (placeOf n) 0)
 unfolding decoded
 clause-at xs DnsDomain = refl
 clause-at xs Host = refl
@@ -68,7 +64,7 @@ clause-at xs NtVer = refl
 abbrev Stores : ClauseName → ℕ → List ℕ → Type 0
 Stores n v xs = decoded (set xs (placeOf n) v) ≡ record { request = stored (decoded xs .request) n (clauseSeen v); unknown = decoded xs .unknown; duplicate = decoded xs .duplicate }
 
-pub clause-stored : (n : ClauseName) (v : ℕ) (xs : List ℕ) → length xs ≡ 10 → Stores n v xs
+clause-stored : (n : ClauseName) (v : ℕ) (xs : List ℕ) → length xs ≡ 10 → Stores n v xs
 unfolding decoded same lower
 clause-stored DnsDomain v = by-ten (Stores DnsDomain v) (λ a b c d e f g i j k. refl)
 clause-stored Host v = by-ten (Stores Host v) (λ a b c d e f g i j k. refl)
@@ -88,7 +84,7 @@ unfolding decoded
 duplicate-stored = by-ten (λ xs. decoded (set xs 9 1) ≡ record { request = decoded xs .request; unknown = decoded xs .unknown; duplicate = true }) (λ a b c d e f g i j k. refl)
 
 -- places and clause names
-pub place-at : (i : ℕ) → i < 8 → placeOf (clauseNameAt i) ≡ i
+place-at : (i : ℕ) → i < 8 → placeOf (clauseNameAt i) ≡ i
 place-at zero h = refl
 place-at (suc zero) h = refl
 place-at (suc (suc zero)) h = refl
@@ -99,7 +95,7 @@ place-at (suc (suc (suc (suc (suc (suc zero)))))) h = refl
 place-at (suc (suc (suc (suc (suc (suc (suc zero))))))) h = refl
 place-at (suc (suc (suc (suc (suc (suc (suc (suc i)))))))) h = absurd (omega arith)
 
-pub name-at : (n : ClauseName) → clauseNameAt (placeOf n) ≡ n
+name-at : (n : ClauseName) → clauseNameAt (placeOf n) ≡ n
 name-at DnsDomain = refl
 name-at Host = refl
 name-at DnsHostName = refl
@@ -109,7 +105,7 @@ name-at DomainSid = refl
 name-at DomainGuid = refl
 name-at NtVer = refl
 
-pub place-below : (n : ClauseName) → placeOf n < 8
+place-below : (n : ClauseName) → placeOf n < 8
 place-below DnsDomain = omega arith
 place-below Host = omega arith
 place-below DnsHostName = omega arith

@@ -1,6 +1,6 @@
 -- What is gathered, as ten numbers: for each clause name 0 where it is absent, else its start times 65,536 and its length;
 -- then whether one was of another name, and whether one was there before.
-use mathlib.Core.Bool.{Bool, true, false, cond, not}
+use mathlib.Core.Bool.{Bool, cond, not}
 use mathlib.Core.List.{List}
 use mathlib.Core.Option.{Option, none, some}
 use Prim.Native.Nat.{ℕ, _+_, _*_, _/_, _%_}

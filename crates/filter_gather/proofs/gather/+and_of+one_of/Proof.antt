@@ -18,7 +18,7 @@ use Rattle.filter_gather.proofs.gather.+and_of+one_of.Lts-and_of as and
 use Rattle.filter_gather.proofs.gather.one_of.Reads as one-of
 use Rattle.filter_gather.proofs.gather.one_of.Kinds as one-of-kinds
 use Rattle.filter_gather.proofs.gather.+and_of+one_of.Lts-one_of as one-of-lts
-use Rattle.filter_gather.proofs.gather.note.Reads as note-reads
+use Rattle.filter_gather.proofs.gather.add_clause.Reads as add-clause-reads
 use Rattle.filter_position.proofs.position.Position.filter.Reads as filter-reads
 use Rattle.filter_gather.proofs.gather.+and_of+one_of.{statement}
 use Rattle.filter_gather.proofs.gather.+and_of+one_of.Tie.{close}
@@ -46,7 +46,7 @@ abbrev and-of-claims : ℕ → and-of-lts.Claims
 and-of-claims t = (filter-reads.Asked, filter-reads.Learnt, one-of-below t, one-of.Post)
 
 abbrev one-of-claims : ℕ → one-of-lts.Claims
-one-of-claims t = (note-reads.Asked, note-reads.Learnt, and-of-below t, and-of.Post)
+one-of-claims t = (add-clause-reads.Asked, add-clause-reads.Learnt, and-of-below t, and-of.Post)
 
 abbrev and-of-Inv-loop : and-of-lts.InvT-loop
 and-of-Inv-loop s depth seen₀ position₀ seen position =
@@ -141,8 +141,8 @@ and-of-loop-again t c =
 one-of-enum-known-filter : (t : ℕ) → one-of-lts.Need-enum-known-filter (one-of-claims t) (one-of-at t) one-of.Post
 one-of-enum-known-filter t c = search needs
 
-one-of-note-requires : (t : ℕ) → one-of-lts.Need-note-requires (one-of-claims t) (one-of-at t) one-of.Post
-one-of-note-requires t c κs =
+one-of-add-clause-requires : (t : ℕ) → one-of-lts.Need-add-clause-requires (one-of-claims t) (one-of-at t) one-of.Post
+one-of-add-clause-requires t c κs =
     let g = c .before .before .before .before .before .pre in
     (g .1 .0, g .1 .1, rw (c .before .before .filter .given .1) at (g .1 .2))
 
@@ -157,7 +157,7 @@ one-of-and-of-requires t c κs =
 
 one-of-returns : (t : ℕ) → one-of-lts.Need-returns (one-of-claims t) (one-of-at t) one-of.Post
 unfolding allAdded
-one-of-returns t c = (c .note .ensures .0, rw (c .before .before .before .filter .given .1) (ap Good (c .note .ensures .1)))
+one-of-returns t c = (c .add-clause .ensures .0, rw (c .before .before .before .filter .given .1) (ap Good (c .add-clause .ensures .1)))
 
 one-of-returns-2 : (t : ℕ) → one-of-lts.Need-returns-2 (one-of-claims t) (one-of-at t) one-of.Post
 one-of-returns-2 t c = (c .and-of .ensures .0, rw (c .before .before .before .filter2 .given .1) (c .and-of .ensures .1))
@@ -185,7 +185,7 @@ pub +and-of+one-of-spec : {M : Type 1} → statement M
     (one-of-at t)
     one-of.Post
     (one-of-enum-known-filter t)
-    (one-of-note-requires t)
+    (one-of-add-clause-requires t)
     (one-of-enum-known-filter-2 t)
     (one-of-and-of-requires t)
     (one-of-returns t)

@@ -1,6 +1,5 @@
 use mathlib.Core.Path.{sym, ap, _∙_}
-use Prim.Native.Nat.{ℕ, _≤_, _<_}
-use native.Mathlib.Omega.{arith}
+use Prim.Native.Nat.{_≤_, _<_}
 use borrow.Author.Needs.{needs}
 use Rattle.filter.specs.Internal.ClauseNames.{clauseNameAt}
 use Rattle.filter_gather.specs.declared.gather.SpelledName.the-variants.{Known}
