@@ -1,12 +1,11 @@
 // The values of a request's clauses, judged.
 ghost use mathlib.Core.Path.{_≡_};
-ghost use mathlib.Core.Bool.{true, not};
+ghost use mathlib.Core.Bool.{true, _||_};
 ghost use mathlib.Core.Option.{Option·getD};
-ghost use Rattle.octets.specs.Lists.{holds, cut};
+ghost use Rattle.octets.specs.Lists.{cut};
 ghost use Rattle.octets.specs.Number.{little};
-ghost use Rattle.unicode.specs.UserName.{isUserName};
-ghost use Rattle.filter.specs.Request.{octetsOf};
 ghost use Rattle.filter_read.specs.Value.{isNumber, judgedNumber, judgedVersion, JudgeValuesPromise};
+ghost use Rattle.filter_read.specs.Internal.WrongValue.{wrongNumber, wrongUser};
 use answers::Refusal;
 use answers::number_of;
 use answers::wire::NETLOGON_NT_VERSION_1;
@@ -55,7 +54,7 @@ pub fn clause_number(s: &[u8], start: usize, len: usize) -> u32
 
 // A clause that is present and is no number of four octets.
 fn is_wrong_number(s: &[u8], clause: Clause) -> bool
-    ensures { λ r. ⌜ r ≡ holds (λ x. not (isNumber x)) (octetsOf (now (s .entry)) clause) ⌝ }
+    ensures { λ r. ⌜ r ≡ wrongNumber (now (s .entry)) clause ⌝ }
 {
     let Clause::Present { start, len } = clause else {
         return false;
@@ -66,7 +65,7 @@ fn is_wrong_number(s: &[u8], clause: Clause) -> bool
 
 // A clause that is present and is no user's name: over 63 octets, not UTF-8, or holding a zero octet.
 fn is_wrong_user(s: &[u8], clause: Clause) -> bool
-    ensures { λ r. ⌜ r ≡ holds (λ x. not (isUserName x)) (octetsOf (now (s .entry)) clause) ⌝ }
+    ensures { λ r. ⌜ r ≡ wrongUser (now (s .entry)) clause ⌝ }
 {
     let Clause::Present { start, len } = clause else {
         return false;
@@ -75,20 +74,21 @@ fn is_wrong_user(s: &[u8], clause: Clause) -> bool
     !is_user_name(value)
 }
 
+// 9, over the clauses whose values are judged.
+pub fn has_wrong_value(s: &[u8], nt_ver: Clause, aac: Clause, user: Clause) -> bool
+    ensures { λ r. ⌜ r ≡ (wrongNumber (now (s .entry)) «nt_ver» || wrongNumber (now (s .entry)) aac || wrongUser (now (s .entry)) user) ⌝ }
+{
+    is_wrong_number(s, nt_ver) | is_wrong_number(s, aac) | is_wrong_user(s, user)
+}
+
 // The values of a request: 9 over the whole filter, else the version asked for, 1 where none is given.
 pub fn judge_values(s: &[u8], request: Request) -> Judged
     ensures { λ r. ⌜ JudgeValuesPromise (now (s .entry)) request r ⌝ }
 {
     let nt_ver = request.nt_ver;
-    if is_wrong_number(s, nt_ver) {
-        return Judged::Refused(Refusal::ClauseValue);
-    }
     let aac = request.aac;
-    if is_wrong_number(s, aac) {
-        return Judged::Refused(Refusal::ClauseValue);
-    }
     let user = request.user;
-    if is_wrong_user(s, user) {
+    if has_wrong_value(s, nt_ver, aac, user) {
         return Judged::Refused(Refusal::ClauseValue);
     }
     let Clause::Present { start, len } = nt_ver else {
