@@ -194,7 +194,7 @@ samples =
     ∷ row (summary (pings 0 (asks 6 (forDomain (corp ++ (0x2E ∷ 0x2E ∷ [])) ∷ [])) 2000)) (refusal 14)
     -- P4 whole, its units low octet first, and the units of U+12345
     ∷ row (octetsWritten (pings 0 (asks 0 []) 30))
-      (0x13 ∷ 0 ∷ 0x44 ∷ 0 ∷ 0x43 ∷ 0 ∷ 0x31 ∷ 0 ∷ 0 ∷ 0 ∷ 0 ∷ 0 ∷ 0x43 ∷ 0 ∷ 0x4F ∷ 0 ∷ 0x52 ∷ 0 ∷ 0x50 ∷ 0 ∷ 0 ∷ 0 ∷ 1 ∷ 0 ∷ 0 ∷ 0 ∷ 0xFF ∷ 0xFF ∷ 0xFF ∷ 0xFF ∷ [])
+    (0x13 ∷ 0 ∷ 0x44 ∷ 0 ∷ 0x43 ∷ 0 ∷ 0x31 ∷ 0 ∷ 0 ∷ 0 ∷ 0 ∷ 0 ∷ 0x43 ∷ 0 ∷ 0x4F ∷ 0 ∷ 0x52 ∷ 0 ∷ 0x50 ∷ 0 ∷ 0 ∷ 0 ∷ 1 ∷ 0 ∷ 0 ∷ 0 ∷ 0xFF ∷ 0xFF ∷ 0xFF ∷ 0xFF ∷ [])
     ∷ row (utf16 (0xF0 ∷ 0x92 ∷ 0x8D ∷ 0x85 ∷ [])) (0x08 ∷ 0xD8 ∷ 0x45 ∷ 0xDF ∷ [])
     -- a check that tells its octets apart
     ∷ row (let c = checkOf (1 ∷ 2 ∷ 3 ∷ []) in c .a ∷ c .b ∷ []) (7 ∷ 13 ∷ [])
