@@ -74,5 +74,6 @@ pub reading-walks : ReadingWalks
 reading-walks s form v len read promise = walks s form v len read (readIn form v s) refl (promise .same)
 
 pub walk-told : WalkTold
+unfolding name-is-walk
 walk-told s at c next ls t w room few p =
     name-is-walk s at (record { value = record { labels = ls; pointers = c }; next = next }) (reader-accepts s at c next ls w room few) .told t p
