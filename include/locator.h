@@ -1,13 +1,14 @@
 /*
- * locator.h - answers Netlogon pings from a table image, reads replies, reads and writes filters.
+ * locator.h - answers Netlogon pings from a table image, reads replies, reads and writes filters. Who answers more than one
+ * ping from an image takes locator_table.h too.
  *
  * For C11 and C++11. Link with target/staticlib/libvinegarjar.a (`rt staticlib vinegarjar`), on x86-64. The code is proved;
  * these declarations are held to it by hand and by the programs in examples/.
  *
  * Buffers. The caller owns all memory. A call keeps no pointer past its return, allocates nothing and has no state, so
- * any number of threads may call at once. Where parameters are a pointer and a length, the pointer is to that many octets;
- * const ones are only read. No pointer may be NULL, not even with length 0: then point to any object. What a call writes
- * must overlap nothing else that is lent to the same call.
+ * any number of threads may call at once. Where parameters are a pointer and a length or a room, the pointer is to that many
+ * octets, and may be NULL where that is 0; no other pointer may be. const ones are only read. What a call writes must overlap
+ * nothing else that is lent to the same call.
  *
  * Octets. Any octets may be passed as image, filter, source or reply, of any length; each call ends and answers by number.
  * Starts and lengths in structs are counted in octets from the first octet of the buffer that they speak of.
@@ -157,44 +158,121 @@ struct locator_reading {
 };
 LOCATOR_ASSERT(sizeof(struct locator_reading) == 54 * sizeof(size_t));
 
+/*
+ * What libvinegarjar.a exports. Here no pointer may be NULL, not even with length 0: call the functions after these, which
+ * put a valid pointer in its place.
+ */
+uint8_t vinegarjar_judge(const uint8_t *image, size_t image_length);
+void vinegarjar_check(const uint8_t *octets, size_t length, struct locator_check *check);
+uint8_t vinegarjar_take_apart(const uint8_t *filter, size_t filter_length, struct locator_request *request);
+uint8_t vinegarjar_judge_values(const uint8_t *filter, size_t filter_length, const struct locator_request *request,
+                                uint32_t *version);
+uint8_t vinegarjar_write_filter(const uint8_t *source, size_t source_length, const struct locator_request *request,
+                                uint8_t *out, size_t out_room, size_t *length);
+uint8_t vinegarjar_answer_ping(const uint8_t *image, size_t image_length, const uint8_t client[4], const uint8_t *filter,
+                               size_t filter_length, uint8_t *reply, size_t reply_room, struct locator_answer *answer);
+uint8_t vinegarjar_read_nt40(const uint8_t *reply, size_t reply_length, struct locator_reading *reading);
+uint8_t vinegarjar_read_response(const uint8_t *reply, size_t reply_length, struct locator_reading *reading);
+uint8_t vinegarjar_read_ex(const uint8_t *reply, size_t reply_length, uint32_t version, struct locator_reading *reading);
+uint8_t vinegarjar_name_text(const uint8_t *reply, size_t reply_length, size_t start, uint8_t text[LOCATOR_TEXT_MOST],
+                             size_t *length);
+
+/* A valid pointer in the place of NULL, to read from or to write to; with length 0 no call follows it. */
+static inline const uint8_t *locator_octets(const uint8_t *octets)
+{
+    static const uint8_t none = 0;
+    return octets != NULL ? octets : &none;
+}
+
+static inline uint8_t *locator_buffer(uint8_t *buffer)
+{
+    static uint8_t none = 0;
+    return buffer != NULL ? buffer : &none;
+}
+
 /* Judges a table image: 0, or 1 to 4. */
-uint8_t locator_judge(const uint8_t *image, size_t image_length);
+static inline uint8_t locator_judge(const uint8_t *image, size_t image_length)
+{
+    return vinegarjar_judge(locator_octets(image), image_length);
+}
 
-/* The check of octets, as a block stores it of its first 508. */
-void locator_check(const uint8_t *octets, size_t length, struct locator_check *check);
+/* The check of octets, as a block stores it of its first 508. check must not overlap them. */
+static inline void locator_check(const uint8_t *octets, size_t length, struct locator_check *check)
+{
+    vinegarjar_check(locator_octets(octets), length, check);
+}
 
-/* Takes a filter apart into its clauses: 0, or 5 to 8. */
-uint8_t locator_take_apart(const uint8_t *filter, size_t filter_length, struct locator_request *request);
+/* Takes a filter apart into its clauses: 0, or 5 to 8. request must not overlap the filter. */
+static inline uint8_t locator_take_apart(const uint8_t *filter, size_t filter_length, struct locator_request *request)
+{
+    return vinegarjar_take_apart(locator_octets(filter), filter_length, request);
+}
 
-/* Judges the values of a filter's clauses and gives the version asked: 0, or 9. A filter without NtVer asks for version 1. */
-uint8_t locator_judge_values(const uint8_t *filter, size_t filter_length, const struct locator_request *request,
-                             uint32_t *version);
+/*
+ * Judges the values of a filter's clauses and gives the version asked: 0, or 9. A filter without NtVer asks for version 1.
+ * version must overlap neither filter nor request.
+ */
+static inline uint8_t locator_judge_values(const uint8_t *filter, size_t filter_length,
+                                           const struct locator_request *request, uint32_t *version)
+{
+    return vinegarjar_judge_values(locator_octets(filter), filter_length, request, version);
+}
 
 /*
  * Writes a filter of the clauses present, whose octets lie in the source; what lies outside it is not there. 0, or 6 where
  * no clause is present, 5, or 19 by out_room. *length is how many octets of out were written; the rest stays as it was.
+ * out and length must overlap neither each other nor source and request.
  */
-uint8_t locator_write_filter(const uint8_t *source, size_t source_length, const struct locator_request *request,
-                             uint8_t *out, size_t out_room, size_t *length);
+static inline uint8_t locator_write_filter(const uint8_t *source, size_t source_length,
+                                           const struct locator_request *request, uint8_t *out, size_t out_room,
+                                           size_t *length)
+{
+    return vinegarjar_write_filter(locator_octets(source), source_length, request, locator_buffer(out), out_room, length);
+}
 
 /*
  * Answers a client's ping from a table image: 0, or 1 to 9 or 11 to 19. The client is its IPv4 address in dotted order. The first
  * answer->length octets of reply are the reply; the rest stays as it was. LOCATOR_REPLY_MOST octets are room for every reply.
+ * reply and answer must overlap neither each other nor image, client and filter.
  */
-uint8_t locator_answer_ping(const uint8_t *image, size_t image_length, const uint8_t client[4], const uint8_t *filter,
-                            size_t filter_length, uint8_t *reply, size_t reply_room, struct locator_answer *answer);
+static inline uint8_t locator_answer_ping(const uint8_t *image, size_t image_length, const uint8_t client[4],
+                                          const uint8_t *filter, size_t filter_length, uint8_t *reply, size_t reply_room,
+                                          struct locator_answer *answer)
+{
+    return vinegarjar_answer_ping(locator_octets(image), image_length, client, locator_octets(filter), filter_length,
+                                  locator_buffer(reply), reply_room, answer);
+}
 
-/* Read a received reply in its form: 0, or 31 to 35. version is what the ping asked for in NtVer; it decides only in an EX. */
-uint8_t locator_read_nt40(const uint8_t *reply, size_t reply_length, struct locator_reading *reading);
-uint8_t locator_read_response(const uint8_t *reply, size_t reply_length, struct locator_reading *reading);
-uint8_t locator_read_ex(const uint8_t *reply, size_t reply_length, uint32_t version, struct locator_reading *reading);
+/*
+ * Read a received reply in its form: 0, or 31 to 35. version is what the ping asked for in NtVer; it decides only in an EX.
+ * reading must not overlap the reply.
+ */
+static inline uint8_t locator_read_nt40(const uint8_t *reply, size_t reply_length, struct locator_reading *reading)
+{
+    return vinegarjar_read_nt40(locator_octets(reply), reply_length, reading);
+}
+
+static inline uint8_t locator_read_response(const uint8_t *reply, size_t reply_length, struct locator_reading *reading)
+{
+    return vinegarjar_read_response(locator_octets(reply), reply_length, reading);
+}
+
+static inline uint8_t locator_read_ex(const uint8_t *reply, size_t reply_length, uint32_t version,
+                                      struct locator_reading *reading)
+{
+    return vinegarjar_read_ex(locator_octets(reply), reply_length, version, reading);
+}
 
 /*
  * The text of the name that starts at an offset of a reply, labels joined by dots: 0, or 31 or 33. All of text is written:
  * the first *length octets are the name, zeros follow. It is not a C string: the longest name leaves no room for a zero.
+ * text and length must overlap neither each other nor the reply.
  */
-uint8_t locator_name_text(const uint8_t *reply, size_t reply_length, size_t start, uint8_t text[LOCATOR_TEXT_MOST],
-                          size_t *length);
+static inline uint8_t locator_name_text(const uint8_t *reply, size_t reply_length, size_t start,
+                                        uint8_t text[LOCATOR_TEXT_MOST], size_t *length)
+{
+    return vinegarjar_name_text(locator_octets(reply), reply_length, start, text, length);
+}
 
 #undef LOCATOR_ASSERT
 

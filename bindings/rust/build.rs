@@ -1,4 +1,4 @@
-//! Finds libvinegarjar.a: in the folder that VINEGARJAR_LIB names, else where `rt staticlib vinegarjar` writes it.
+//! Finds both libraries: in the folder that VINEGARJAR_LIB names, else where `rt staticlib vinegarjar` and `vinegarjar_table` write them.
 
 fn main() {
     let written = concat!(env!("CARGO_MANIFEST_DIR"), "/../../target/staticlib");
@@ -6,4 +6,5 @@ fn main() {
     println!("cargo:rustc-link-search=native={folder}");
     println!("cargo:rerun-if-env-changed=VINEGARJAR_LIB");
     println!("cargo:rerun-if-changed={folder}/libvinegarjar.a");
+    println!("cargo:rerun-if-changed={folder}/libvinegarjar_table.a");
 }

@@ -16,8 +16,9 @@ mod whole;
 mod words;
 
 use std::ffi::{OsStr, OsString};
-use std::fs;
-use std::io::{stdout, Write};
+use std::fs::{self, File, Metadata, OpenOptions};
+use std::io::{self, stdout, ErrorKind, Write};
+use std::os::unix::fs::{fchown, MetadataExt};
 use std::path::Path;
 use std::process::ExitCode;
 
@@ -45,7 +46,36 @@ fn make_file(text: &Path, image: &Path) -> Result<(), String> {
         return Err(format!("{} is the text; expected another file for the image", image.display()));
     }
     let octets = make(&read(text)?).map_err(|message| format!("{}: {message}", text.display()))?;
-    fs::write(image, octets).map_err(|error| format!("{} cannot be written: {error}", image.display()))
+    write_whole(image, &octets).map_err(|error| format!("{} cannot be written: {error}", image.display()))
+}
+
+/// Writes a file whole or leaves it as it was: a new one beside it takes its place. What is no file, as a pipe, is written as it is.
+fn write_whole(path: &Path, octets: &[u8]) -> io::Result<()> {
+    let old = match OpenOptions::new().write(true).open(path) {
+        Ok(mut old) if !old.metadata()?.is_file() => return old.write_all(octets),
+        Ok(old) => Some(old.metadata()?),
+        Err(error) if error.kind() == ErrorKind::NotFound => None,
+        Err(error) => return Err(error),
+    };
+    // Where a link leads, so that it stays one.
+    let place = fs::canonicalize(path).unwrap_or_else(|_| path.to_path_buf());
+    let new = place.with_file_name(format!(".image-{}", std::process::id()));
+    let written = write_new(&new, octets, old).and_then(|()| fs::rename(&new, &place));
+    if written.is_err() {
+        let _ = fs::remove_file(&new);
+    }
+    written
+}
+
+/// Writes a new file through to the disk, with the permissions of the old one and, where that is allowed, its owner.
+fn write_new(path: &Path, octets: &[u8], old: Option<Metadata>) -> io::Result<()> {
+    let mut file = File::create_new(path)?;
+    if let Some(old) = old {
+        let _ = fchown(&file, Some(old.uid()), Some(old.gid()));
+        file.set_permissions(old.permissions())?;
+    }
+    file.write_all(octets)?;
+    file.sync_all()
 }
 
 /// The image of a text. It is read back, so that no slip here lets out an image that would not be accepted.

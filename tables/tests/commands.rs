@@ -1,6 +1,7 @@
 //! The program as its users run it: files, status, and what it says where.
 
-use std::fs;
+use std::fs::{self, Permissions};
+use std::os::unix::fs::{symlink, PermissionsExt};
 use std::path::{Path, PathBuf};
 use std::process::{Command, Output};
 
@@ -53,6 +54,40 @@ fn a_refused_text_leaves_the_image() {
     let said = refused(&run(&[Path::new("make"), &text, &image]));
     assert!(said.ends_with("line 2: this site line lacks name=; expected it\n"), "{said}");
     assert_eq!(fs::read(&image).unwrap(), b"as it was");
+}
+
+/// A limit on the length of files stands for a full disk: the image gets its first octets written and no more.
+#[test]
+fn a_full_disk_leaves_the_image() {
+    let folder = folder("full_disk");
+    let image = folder.join("image");
+    let limited = "trap '' XFSZ; ulimit -f 1; exec \"$@\"";
+    let make = [env!("CARGO_BIN_EXE_tables"), "make"];
+    for old in [None, Some("as it was")] {
+        if let Some(old) = old {
+            fs::write(&image, old).unwrap();
+        }
+        let words = [sample("base.table.txt"), image.clone()];
+        let made = Command::new("sh").args(["-c", limited, "sh"]).args(make).args(words).output().unwrap();
+        assert!(refused(&made).contains("image cannot be written: "));
+        assert_eq!(fs::read(&image).ok().as_deref(), old.map(str::as_bytes));
+        assert_eq!(fs::read_dir(&folder).unwrap().count(), old.iter().count());
+    }
+}
+
+#[test]
+fn an_image_keeps_its_permissions_and_a_link_its_place() {
+    let folder = folder("permissions");
+    let [image, link] = ["image", "link"].map(|name| folder.join(name));
+    fs::write(&image, "as it was").unwrap();
+    fs::set_permissions(&image, Permissions::from_mode(0o640)).unwrap();
+    symlink("image", &link).unwrap();
+    assert!(run(&[Path::new("make"), &sample("base.table.txt"), &link]).status.success());
+    assert_eq!(fs::read_link(&link).unwrap(), Path::new("image"));
+    assert_eq!(fs::metadata(&image).unwrap().permissions().mode() & 0o777, 0o640);
+    let piped = run(&[Path::new("make"), &sample("base.table.txt"), Path::new("/dev/stdout")]);
+    assert!(piped.status.success());
+    assert_eq!(fs::read(&image).unwrap(), piped.stdout);
 }
 
 #[test]

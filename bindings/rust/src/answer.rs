@@ -43,7 +43,8 @@ impl Answer {
     }
 }
 
-/// A table that was judged once, when it was made. It borrows its image, which therefore cannot change:
+/// A table that was judged once, when it was made. It borrows its image, which therefore cannot change; memory that others may
+/// write to, such as a mapped file, must be copied first.
 ///
 /// ```compile_fail,E0506
 /// let mut image = vec![0; 1024];

@@ -1,4 +1,5 @@
-//! The exported calls, as include/locator.h declares them, and a safe function over each. All that is unsafe stands here.
+//! The exported calls, as include/locator.h and locator_table.h declare them, and a safe function over each. All that is unsafe
+//! stands here.
 //!
 //! Slices and references are what the calls ask for: valid, aligned, not null, and what is written overlaps nothing else.
 
@@ -61,11 +62,16 @@ pub const TEXT_MOST: usize = 253;
 
 #[link(name = "vinegarjar", kind = "static")]
 extern "C" {
-    fn locator_judge(image: *const u8, image_length: usize) -> u8;
-    fn locator_check(octets: *const u8, length: usize, check: *mut [u32; 2]);
-    fn locator_take_apart(filter: *const u8, filter_length: usize, request: *mut Request) -> u8;
-    fn locator_judge_values(filter: *const u8, filter_length: usize, request: *const Request, version: *mut u32) -> u8;
-    fn locator_write_filter(
+    fn vinegarjar_judge(image: *const u8, image_length: usize) -> u8;
+    fn vinegarjar_check(octets: *const u8, length: usize, check: *mut [u32; 2]);
+    fn vinegarjar_take_apart(filter: *const u8, filter_length: usize, request: *mut Request) -> u8;
+    fn vinegarjar_judge_values(
+        filter: *const u8,
+        filter_length: usize,
+        request: *const Request,
+        version: *mut u32,
+    ) -> u8;
+    fn vinegarjar_write_filter(
         source: *const u8,
         source_length: usize,
         request: *const Request,
@@ -73,7 +79,7 @@ extern "C" {
         out_room: usize,
         length: *mut usize,
     ) -> u8;
-    fn locator_answer_ping(
+    fn vinegarjar_answer_ping(
         image: *const u8,
         image_length: usize,
         client: *const [u8; 4],
@@ -83,21 +89,10 @@ extern "C" {
         reply_room: usize,
         answer: *mut Answer,
     ) -> u8;
-    // Not in locator.h: the image must be one that locator_judge accepted.
-    fn locator_answer_ping_on_accepted_image(
-        image: *const u8,
-        image_length: usize,
-        client: *const [u8; 4],
-        filter: *const u8,
-        filter_length: usize,
-        reply: *mut u8,
-        reply_room: usize,
-        answer: *mut Answer,
-    ) -> u8;
-    fn locator_read_nt40(reply: *const u8, reply_length: usize, reading: *mut Reading) -> u8;
-    fn locator_read_response(reply: *const u8, reply_length: usize, reading: *mut Reading) -> u8;
-    fn locator_read_ex(reply: *const u8, reply_length: usize, version: u32, reading: *mut Reading) -> u8;
-    fn locator_name_text(
+    fn vinegarjar_read_nt40(reply: *const u8, reply_length: usize, reading: *mut Reading) -> u8;
+    fn vinegarjar_read_response(reply: *const u8, reply_length: usize, reading: *mut Reading) -> u8;
+    fn vinegarjar_read_ex(reply: *const u8, reply_length: usize, version: u32, reading: *mut Reading) -> u8;
+    fn vinegarjar_name_text(
         reply: *const u8,
         reply_length: usize,
         start: usize,
@@ -106,32 +101,47 @@ extern "C" {
     ) -> u8;
 }
 
+#[link(name = "vinegarjar_table", kind = "static")]
+extern "C" {
+    // The image must be one that was accepted: `Accepted` alone calls it.
+    fn vinegarjar_answer_ping_on_accepted_image(
+        image: *const u8,
+        image_length: usize,
+        client: *const [u8; 4],
+        filter: *const u8,
+        filter_length: usize,
+        reply: *mut u8,
+        reply_room: usize,
+        answer: *mut Answer,
+    ) -> u8;
+}
+
 pub fn judge(image: &[u8]) -> u8 {
-    unsafe { locator_judge(image.as_ptr(), image.len()) }
+    unsafe { vinegarjar_judge(image.as_ptr(), image.len()) }
 }
 
 pub fn check(octets: &[u8]) -> [u32; 2] {
     let mut check = [0; 2];
-    unsafe { locator_check(octets.as_ptr(), octets.len(), &mut check) };
+    unsafe { vinegarjar_check(octets.as_ptr(), octets.len(), &mut check) };
     check
 }
 
 pub fn take_apart(filter: &[u8]) -> (u8, Request) {
     let mut request = Request::default();
-    let number = unsafe { locator_take_apart(filter.as_ptr(), filter.len(), &mut request) };
+    let number = unsafe { vinegarjar_take_apart(filter.as_ptr(), filter.len(), &mut request) };
     (number, request)
 }
 
 pub fn judge_values(filter: &[u8], request: &Request) -> (u8, u32) {
     let mut version = 0;
-    let number = unsafe { locator_judge_values(filter.as_ptr(), filter.len(), request, &mut version) };
+    let number = unsafe { vinegarjar_judge_values(filter.as_ptr(), filter.len(), request, &mut version) };
     (number, version)
 }
 
 pub fn write_filter(source: &[u8], request: &Request, out: &mut [u8]) -> (u8, usize) {
     let mut length = 0;
     let (octets, room) = (out.as_mut_ptr(), out.len());
-    let number = unsafe { locator_write_filter(source.as_ptr(), source.len(), request, octets, room, &mut length) };
+    let number = unsafe { vinegarjar_write_filter(source.as_ptr(), source.len(), request, octets, room, &mut length) };
     (number, length)
 }
 
@@ -151,10 +161,12 @@ unsafe fn answer_by(call: Answering, image: &[u8], client: [u8; 4], filter: &[u8
 
 pub fn answer_ping(image: &[u8], client: [u8; 4], filter: &[u8], reply: &mut [u8]) -> (u8, Answer) {
     // Any image will do.
-    unsafe { answer_by(locator_answer_ping, image, client, filter, reply) }
+    unsafe { answer_by(vinegarjar_answer_ping, image, client, filter, reply) }
 }
 
-/// An image that passed its judgement, for as long as it is borrowed: nothing can change it.
+/// An image that passed its judgement, for as long as it is borrowed. That is what its call is proved under, and two things keep it
+/// true: `new` alone makes one, by judging, and what is borrowed nobody writes. Memory that others may write to breaks it: a
+/// `&[u8]` may not be made of a mapped file or shared memory while they can.
 #[derive(Clone, Copy, Debug)]
 pub struct Accepted<'image> {
     image: &'image [u8],
@@ -170,31 +182,31 @@ impl<'image> Accepted<'image> {
 
     /// The answer from it, without judging it again.
     pub fn answer_ping(self, client: [u8; 4], filter: &[u8], reply: &mut [u8]) -> (u8, Answer) {
-        // The image was accepted by `new`, which alone makes an `Accepted`.
-        unsafe { answer_by(locator_answer_ping_on_accepted_image, self.image, client, filter, reply) }
+        // The image was accepted by `new`, and did not change since.
+        unsafe { answer_by(vinegarjar_answer_ping_on_accepted_image, self.image, client, filter, reply) }
     }
 }
 
 pub fn read_nt40(reply: &[u8]) -> (u8, Reading) {
     let mut reading = Reading::default();
-    let number = unsafe { locator_read_nt40(reply.as_ptr(), reply.len(), &mut reading) };
+    let number = unsafe { vinegarjar_read_nt40(reply.as_ptr(), reply.len(), &mut reading) };
     (number, reading)
 }
 
 pub fn read_response(reply: &[u8]) -> (u8, Reading) {
     let mut reading = Reading::default();
-    let number = unsafe { locator_read_response(reply.as_ptr(), reply.len(), &mut reading) };
+    let number = unsafe { vinegarjar_read_response(reply.as_ptr(), reply.len(), &mut reading) };
     (number, reading)
 }
 
 pub fn read_ex(reply: &[u8], version: u32) -> (u8, Reading) {
     let mut reading = Reading::default();
-    let number = unsafe { locator_read_ex(reply.as_ptr(), reply.len(), version, &mut reading) };
+    let number = unsafe { vinegarjar_read_ex(reply.as_ptr(), reply.len(), version, &mut reading) };
     (number, reading)
 }
 
 pub fn name_text(reply: &[u8], start: usize) -> (u8, [u8; TEXT_MOST], usize) {
     let (mut text, mut length) = ([0; TEXT_MOST], 0);
-    let number = unsafe { locator_name_text(reply.as_ptr(), reply.len(), start, &mut text, &mut length) };
+    let number = unsafe { vinegarjar_name_text(reply.as_ptr(), reply.len(), start, &mut text, &mut length) };
     (number, text, length)
 }

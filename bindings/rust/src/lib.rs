@@ -1,8 +1,8 @@
 //! Vinegarjar for Rust: answers Netlogon pings from a table image, reads replies, reads and writes filters.
 //!
-//! The calls below are proved code, linked from `libvinegarjar.a`. All octets are the caller's: nothing is allocated, nothing is
-//! kept but what a [`Table`] borrows, and any octets may be passed. What a call refuses has a [`Refusal`], and then leaves every
-//! buffer as it was.
+//! The calls below are proved code, linked from `libvinegarjar.a` and, for a [`Table`], `libvinegarjar_table.a`. All octets are the
+//! caller's: nothing is allocated, nothing is kept but what a [`Table`] borrows, and any octets may be passed. What a call refuses
+//! has a [`Refusal`], and then leaves every buffer as it was.
 //!
 //! An appliance loads its table once, and answers from it from then on without judging it again:
 //!

@@ -3,9 +3,7 @@ use mathlib.Core.Bool.{Bool}
 use mathlib.Core.List.{List}
 use mathlib.Core.Option.{Option, Option·map}
 use Prim.Native.Nat.{ℕ}
-use Rattle.octets.specs.Fold.{foldPoints}
-use Rattle.octets.specs.Lists.{holds}
-use Rattle.octets.specs.Text.{same}
+use Rattle.octets.specs.{Fold.foldPoints, Lists.holds, Text.same}
 use Rattle.unicode.specs.Utf8.{points}
 
 -- a text's code points, folded; none where it is not UTF-8

@@ -283,6 +283,13 @@ fn same_rest(a: &[u8], b: &[u8], start: usize) -> bool
     }
 }
 
+// Whether both begin with letters of ASCII that are not alike: that alone tells most accounts from the name looked up.
+pub fn first_letters_differ(a: &[u8], b: &[u8]) -> bool
+    ensures { λ r. ⌜ (r ≡ true → sameAccountName (now (a .entry)) (now (b .entry)) ≡ false) ⌝ }
+{
+    other_letter_at(a, b, 0)
+}
+
 // Most accounts differ from the name looked up in a letter of ASCII: the folding table is copied only where that does not tell. What
 // copies it is called in two places, and so is not inlined: it would stand in the frame of every comparison.
 pub fn same_account_name(a: &[u8], b: &[u8]) -> bool

@@ -1,6 +1,8 @@
 -- A refusal, or what was asked for: how judgements stand one after the other.
 use mathlib.Core.Bool.{Bool, true, false}
-use Rattle.answers.specs.declared.Refusal.{Refusal}
+use mathlib.Core.Option.{Option, none, some}
+use Prim.Native.Nat.{ℕ}
+use Rattle.answers.specs.{declared.Refusal.Refusal, Refusal.number}
 
 pub data Try (A : Type 0) : Type 0 where
   refused : Refusal → Try A
@@ -17,3 +19,13 @@ module _ {A : Type 0} where
   abbrev pub _>>=_ : {B : Type 0} → Try A → (A → Try B) → Try B
   refused r >>= f = refused r
   good a >>= f = f a
+
+  -- document 01's number: 0, or that of the refusal
+  abbrev pub numberOf : Try A → ℕ
+  numberOf (refused r) = number r
+  numberOf (good a) = 0
+
+  -- and its value: none with a refusal
+  abbrev pub valueOf : Try A → Option A
+  valueOf (refused r) = none
+  valueOf (good a) = some a

@@ -3,13 +3,10 @@ use mathlib.Core.List.{List, [], _∷_}
 use Prim.Native.Nat.{ℕ}
 use lib.ListN.{length}
 use Rattle.answers.specs.declared.Form.{Form}
-use Rattle.filter_read.specs.declared.value.Judged.{Judged}
-use Rattle.filter_read.specs.Value.{pingIn, judgedValues}
-use Rattle.filter_write.specs.declared.write.Written.{Written}
-use Rattle.filter_write.specs.Write.{filterFor, writtenAs}
+use Rattle.filter_read.specs.{declared.value.Judged.Judged, Value.pingIn, Value.judgedValues}
+use Rattle.filter_write.specs.{declared.write.Written.Written, Write.filterFor, Write.writtenAs}
 use Rattle.reader.specs.Reader.{readIn}
-use Rattle.reader_forms.specs.declared.reading.Reading.{Reading}
-use Rattle.reader_forms.specs.Reading.{readingAs}
+use Rattle.reader_forms.specs.{declared.reading.Reading.Reading, Reading.readingAs}
 use Rattle.table_check.specs.declared.check.Check.{Check}
 use Rattle.c_request.specs.Request.{requestGiven}
 

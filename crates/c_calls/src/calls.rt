@@ -1,5 +1,6 @@
 // A public call each: its number is returned, the rest stands in the members of a struct, 0 with a refusal.
 ghost use mathlib.Core.Path.{_≡_};
+ghost use mathlib.Core.Option.{Option·getD};
 ghost use Rattle.filter_read.specs.Taken.{requestIn, takenAs, takenNumber};
 ghost use Rattle.filter_read.specs.Value.{judgedNumber, judgedVersion};
 ghost use Rattle.filter_write.specs.Write.{writtenNumber, writtenLength, WriteFilterLeaves};
@@ -49,7 +50,7 @@ pub fn put_request(filter: &[u8], request: &mut [usize; REQUEST_MEMBERS]) -> u8
 
 pub fn put_version(filter: &[u8], request: &[usize; REQUEST_MEMBERS], version: &mut u32) -> u8
     ensures { λ r. ⌜ r ≡ judgedNumber (valuesJudged (now (filter .entry)) (now (request .entry))) ⌝ }
-    ensures { λ _. ⌜ now (version .exit) ≡ judgedVersion (valuesJudged (now (filter .entry)) (now (request .entry))) ⌝ }
+    ensures { λ _. ⌜ now (version .exit) ≡ Option·getD (judgedVersion (valuesJudged (now (filter .entry)) (now (request .entry)))) 0 ⌝ }
 {
     let judged = judge_values(filter, request_of(request));
     *version = judged_version(judged);

@@ -5,13 +5,11 @@ use Prim.Native.Nat.{ℕ}
 use lib.ListN.{replicate}
 use Rattle.reader.specs.declared.field.Stretch.{Stretch}
 use Rattle.reader_names.specs.declared.NameAt.{NameAt}
-use Rattle.reader_forms.specs.declared.reading.Address.{Address}
-use Rattle.reader_forms.specs.declared.reading.Address.the-variants as address
-use Rattle.reader_forms.specs.declared.reading.NextSite.{NextSite}
-use Rattle.reader_forms.specs.declared.reading.NextSite.the-variants as nextSite
-use Rattle.reader_forms.specs.declared.reading.Fields.{Fields}
-use Rattle.reader_forms.specs.declared.reading.Fields.the-variants as fields
+use Rattle.reader_forms.specs.{declared.reading.Address.Address, declared.reading.NextSite.NextSite, declared.reading.Fields.Fields}
 use Rattle.reader_forms.specs.declared.reading.Reading.{Reading}
+use Rattle.reader_forms.specs.declared.reading.Address.the-variants as address
+use Rattle.reader_forms.specs.declared.reading.NextSite.the-variants as nextSite
+use Rattle.reader_forms.specs.declared.reading.Fields.the-variants as fields
 use Rattle.reader_forms.specs.declared.reading.Reading.the-variants as reading
 
 -- what is not present: so many members of 0
@@ -68,5 +66,5 @@ fieldsMembers (fields.Ex f) =
     ++ nextSiteMembers (f .«next_site»)
 
 abbrev pub readingMembers : Reading → List ℕ
-readingMembers (reading.Read length f) = length ∷ fieldsMembers f
+readingMembers (reading.Read len f) = len ∷ fieldsMembers f
 readingMembers (reading.Refused r) = absent 54

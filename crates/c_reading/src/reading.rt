@@ -16,27 +16,27 @@ use reader_names::NameAt;
 pub const READING_MEMBERS: usize = 54;
 
 // Where members stand.
-const LENGTH: usize = 0;
+pub const LENGTH: usize = 0;
 
-const OPCODE: usize = 1;
+pub const OPCODE: usize = 1;
 
-const VERSION: usize = 2;
+pub const VERSION: usize = 2;
 
-const FLAGS: usize = 3;
+pub const FLAGS: usize = 3;
 
-const GUID: usize = 5;
+pub const GUID: usize = 5;
 
-const ADDRESS: usize = 7;
+pub const ADDRESS: usize = 7;
 
-const SERVER: usize = 9;
+pub const SERVER: usize = 9;
 
-const USER: usize = 12;
+pub const USER: usize = 12;
 
-const DOMAIN: usize = 15;
+pub const DOMAIN: usize = 15;
 
-const NAMES: usize = 18;
+pub const NAMES: usize = 18;
 
-const NEXT_SITE: usize = 50;
+pub const NEXT_SITE: usize = 50;
 
 // A number of four octets as a member.
 fn member_of(number: u32) -> usize

@@ -5,9 +5,8 @@ use mathlib.Core.List.{List, [], _∷_, _++_}
 use Prim.Native.Nat.{ℕ, _+_}
 use lib.Dec.{eqb}
 use lib.ListN.{getD, replicate}
-use Rattle.filter.specs.declared.request.Clause.{Clause}
+use Rattle.filter.specs.{declared.request.Clause.Clause, declared.request.Request.Request}
 use Rattle.filter.specs.declared.request.Clause.the-variants.{Absent, Present}
-use Rattle.filter.specs.declared.request.Request.{Request}
 use Rattle.filter_read.specs.declared.read.Taken.{Taken}
 use Rattle.filter_read.specs.declared.read.Taken.the-variants as taken
 

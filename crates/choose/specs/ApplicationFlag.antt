@@ -5,8 +5,7 @@ use mathlib.Core.Option.{Option, none}
 use Rattle.answers.specs.Wire.{DS-NDNC-FLAG}
 use Rattle.filter_read.specs.Value.{Ping}
 use Rattle.octets.specs.Number.{has}
-use Rattle.table.specs.Site.{Site}
-use Rattle.table.specs.Table.{Table}
+use Rattle.table.specs.{Site.Site, Table.Table}
 use Rattle.choose.specs.Choose.{exFlags}
 
 abbrev pub ApplicationFlag : Type 0

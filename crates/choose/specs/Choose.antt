@@ -8,18 +8,12 @@ use Rattle.answers.specs.declared.Form.the-variants.{Nt40, Response, Ex}
 use Rattle.answers.specs.Wire.{NETLOGON-NT-VERSION-5, NETLOGON-NT-VERSION-5EX, NETLOGON-NT-VERSION-5EX-WITH-IP, NETLOGON-NT-VERSION-WITH-CLOSEST-SITE, NETLOGON-NT-VERSION-AVOID-NT4EMUL, NETLOGON-NT-VERSION-PDC, NETLOGON-NT-VERSION-LOCAL}
 use Rattle.answers.specs.Wire.{opcodesOf, DS-PDC-FLAG, DS-GC-FLAG, DS-LDAP-FLAG, DS-DS-FLAG, DS-KDC-FLAG, DS-TIMESERV-FLAG, DS-CLOSEST-FLAG, DS-WRITABLE-FLAG, DS-GOOD-TIMESERV-FLAG, DS-NDNC-FLAG, DS-SELECT-SECRET-DOMAIN-6-FLAG, DS-FULL-SECRET-DOMAIN-6-FLAG, DS-WS-FLAG, DS-DS-8-FLAG, DS-DS-9-FLAG}
 use Rattle.filter_read.specs.Value.{Ping}
-use Rattle.octets.specs.Lists.{holds}
-use Rattle.octets.specs.Number.{has}
+use Rattle.octets.specs.{Lists.holds, Number.has}
 use Rattle.reply.specs.Reply.{Reply}
 use Rattle.table.specs.Bits.{rolePdc, roleGlobalCatalog, roleKdc, roleTimeService, roleReadOnly, roleGoodTime, roleWebService, role2012, role2012R2, roleNt4Wanted, roleLaterThan2003R2, roleLevel2008}
 use Rattle.table.specs.Bits.{statePaused, stateSynchronized, stateRpcInitialized, stateFrsPaused}
-use Rattle.table.specs.declared.Caller.{Caller}
-use Rattle.table.specs.Server.{Server}
-use Rattle.table.specs.Context.{Context}
-use Rattle.table.specs.Site.{Site}
-use Rattle.table.specs.Countings.{sameSite}
-use Rattle.table.specs.Table.{Table}
-use Rattle.table_find.specs.Find.{contextByDnsName, accountByName, siteByNumber, siteIfAny, clientSite}
+use Rattle.table.specs.{declared.Caller.Caller, Server.Server, Context.Context, Site.Site, Countings.sameSite, Table.Table}
+use Rattle.table_lookup.specs.Lookup.{contextByDnsName, accountByName, siteByNumber, siteIfAny, clientSite}
 use Rattle.table_find.specs.LogOn.{mayLogOn}
 
 -- document 01's user x is not none, for the user asked for

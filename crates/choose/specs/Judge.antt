@@ -8,11 +8,10 @@ use lib.ListN.{length}
 use Rattle.answers.specs.declared.Refusal.the-variants.{GuidLength, GuidNotHeld, DnsNameEmpty, DnsNameNotHeld, SidShape, SidNotHeld, SidOfAnother, TableWhole}
 use Rattle.answers.specs.Try.{Try, refused, good, refusedIf, _>>=_}
 use Rattle.filter_read.specs.Value.{Ping}
-use Rattle.octets.specs.Lists.{isSome, holds}
-use Rattle.octets.specs.Sid.{isSid, guidSize}
-use Rattle.table.specs.Context.{Context}
-use Rattle.table.specs.Table.{Table}
-use Rattle.table_find.specs.Find.{contextByGuid, contextByDnsName, contextBySid, holdsSid, defaultContext}
+use Rattle.octets.specs.{Lists.isSome, Lists.holds, Sid.isSid, Sid.guidSize}
+use Rattle.table.specs.{Context.Context, Table.Table}
+use Rattle.table_find.specs.Find.{holdsSid}
+use Rattle.table_lookup.specs.Lookup.{contextByGuid, contextByDnsName, contextBySid, defaultContext}
 
 -- the GUID's context where a GUID is given, else the DNS name's where one is given, else the default
 abbrev pub contextFor : Table → Option (List ℕ) → Option (List ℕ) → Option Context

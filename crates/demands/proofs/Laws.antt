@@ -11,6 +11,5 @@ pub mod Places
 pub mod Demand3
 pub mod Demand3Calls
 pub mod ReadingWalks
-pub mod WriterPlaces
 pub mod Length
 pub mod Pointers

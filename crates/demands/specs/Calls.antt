@@ -3,10 +3,8 @@
 use mathlib.Core.List.{List}
 use Prim.Native.Nat.{ℕ}
 use Rattle.filter.specs.declared.request.Request.{Request}
-use Rattle.filter_write.specs.declared.write.Written.{Written}
-use Rattle.filter_write.specs.Write.{WriteFilterReturns, WriteFilterLeaves}
-use Rattle.locator.specs.declared.Answer.{Answer}
-use Rattle.locator.specs.Answer.{AnswerPingReturns, AnswerPingLeaves}
+use Rattle.filter_write.specs.{declared.write.Written.Written, Write.WriteFilterReturns, Write.WriteFilterLeaves}
+use Rattle.locator.specs.{declared.Answer.Answer, Answer.AnswerPingReturns, Answer.AnswerPingLeaves}
 use Rattle.table.specs.declared.Caller.{Caller}
 
 pub record WriteFilterPromise (source : List ℕ) (request : Request) (before after : List ℕ) (r : Written) : Type 0 where

@@ -1,31 +1,25 @@
 -- Demand 1: whatever comes in, a call refuses by document 01's numbers, with no length, context, form or fields, and a refusal leaves every lent buffer as it was.
 -- One field for each public call, by its name; that every call ends is proved with its code.
-use Rattle.filter_read.specs.Value.{judgedNumber, JudgeValuesPromise}
-use Rattle.filter_read.specs.Taken.{takenNumber, TakeApartPromise}
-use Rattle.table_whole.specs.Judgement.{judgementNumber, JudgePromise}
-use Rattle.table_check.specs.Check.{CheckOfPromise}
+use Rattle.filter_read.specs.{Value.judgedNumber, Value.JudgeValuesPromise, Taken.takenNumber, Taken.TakeApartPromise, declared.read.Taken.Taken}
+use Rattle.filter_read.specs.declared.value.Judged.{Judged}
+use Rattle.table_whole.specs.{Judgement.judgementNumber, Judgement.JudgePromise, declared.judge.Judgement.Judgement}
+use Rattle.table_check.specs.{Check.checkOf, Check.CheckOfPromise, declared.check.Check.Check}
 use mathlib.Core.Path.{_≡_}
 use mathlib.Core.Bool.{true, _||_}
 use mathlib.Core.List.{List, [], _∷_}
 use mathlib.Core.Option.{none}
-use Prim.Native.Nat.{ℕ}
+use Prim.Native.Nat.{ℕ, _<_}
 use lib.Dec.{eqb}
-use Rattle.answers.specs.declared.Form.{Form}
-use Rattle.answers.specs.declared.Refusal.{Refusal}
-use Rattle.answers.specs.Refusal.{NumberOfPromise}
+use Rattle.answers.specs.{declared.Form.Form, declared.Refusal.Refusal, Refusal.NumberOfPromise}
 use Rattle.filter.specs.declared.request.Request.{Request}
-use Rattle.filter_read.specs.declared.read.Taken.{Taken}
 use Rattle.filter_read.specs.declared.read.Taken.the-variants as taken
-use Rattle.filter_read.specs.declared.value.Judged.{Judged}
 use Rattle.filter_read.specs.declared.value.Judged.the-variants as judged
-use Rattle.filter_write.specs.declared.write.Written.{Written}
+use Rattle.filter_write.specs.{declared.write.Written.Written, Write.writtenNumber, Write.writtenLength}
 use Rattle.filter_write.specs.declared.write.Written.the-variants as written
-use Rattle.filter_write.specs.Write.{writtenNumber, writtenLength}
 use Rattle.locator.specs.declared.Answer.{Answer}
 use Rattle.locator.specs.declared.Answer.the-variants as answer
 use Rattle.locator.specs.Answer.{answerNumber, answerLength, answerContext, answerForm}
-use Rattle.octets.specs.Lists.{any}
-use Rattle.octets.specs.Text.{within}
+use Rattle.octets.specs.{Lists.any, Text.within}
 use Rattle.reader_forms.specs.declared.reading.Reading.{Reading}
 use Rattle.reader_forms.specs.declared.reading.Reading.the-variants as reading
 use Rattle.reader_forms.specs.Reading.{readingNumber, readingLength, readingFields, ReadReplyPromise}
@@ -33,8 +27,6 @@ use Rattle.reader_text.specs.declared.NameText.{NameText}
 use Rattle.reader_text.specs.declared.TextLength.the-variants as text
 use Rattle.reader_text.specs.Text.{textNumber, textLength, textGiven, NameTextPromise}
 use Rattle.table.specs.declared.Caller.{Caller}
-use Rattle.table_check.specs.declared.check.Check.{Check}
-use Rattle.table_whole.specs.declared.judge.Judgement.{Judgement}
 use Rattle.table_whole.specs.declared.judge.Judgement.the-variants as judgement
 use Rattle.demands.specs.Calls.{WriteFilterPromise, AnswerPingPromise}
 
@@ -71,8 +63,8 @@ abbrev pub ForAny : ℕ → Type 0
 ForAny n = within 1 9 n || within 11 19 n || within 31 35 n ≡ true
 
 pub record Demand1 : Type 0 where
-  -- it refuses nothing, and has its field to make the list whole
-  pub «check_of» : (octets : List ℕ) → (c : Check) × CheckOfPromise octets c
+  -- it refuses nothing: of all octets it gives the two sums of the definition, 16 bits each
+  pub «check_of» : (octets : List ℕ) (c : Check) → CheckOfPromise octets c → (c ≡ checkOf octets) × (c .a < 65536) × (c .b < 65536)
   pub judge : (image : List ℕ) (j : Judgement) (r : Refusal) → JudgePromise image j → j ≡ judgement.Refused r → ForImage (judgementNumber j)
   pub «take_apart» : (filter : List ℕ) (t : Taken) (r : Refusal) → TakeApartPromise filter t → t ≡ taken.Refused r → ForFilter (takenNumber t)
   pub «judge_values» : (filter : List ℕ) (request : Request) (j : Judged) (r : Refusal) → JudgeValuesPromise filter request j → j ≡ judged.Refused r → ForValues (judgedNumber j)

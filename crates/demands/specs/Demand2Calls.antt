@@ -5,14 +5,10 @@ use mathlib.Core.List.{List}
 use Prim.Native.Nat.{ℕ, _<_}
 use lib.ListN.{length}
 use Rattle.answers.specs.declared.Form.{Form}
-use Rattle.reader_forms.specs.declared.reading.Reading.{Reading}
-use Rattle.reader_forms.specs.Reading.{readingLength, ReadReplyPromise}
-use Rattle.reader_forms.specs.Settled.{readFrom}
-use Rattle.reader_text.specs.declared.NameText.{NameText}
-use Rattle.reader_text.specs.Text.{textGiven, NameTextPromise}
+use Rattle.reader_forms.specs.{declared.reading.Reading.Reading, Reading.readingLength, Reading.ReadReplyPromise, Settled.readFrom}
+use Rattle.reader_text.specs.{declared.NameText.NameText, Text.textGiven, Text.NameTextPromise}
 use Rattle.reply.specs.Reply.{Reply}
-use Rattle.demands.specs.Derivation.{EveryReply}
-use Rattle.demands.specs.ReplyLaw.{GivenBack}
+use Rattle.demands.specs.{Derivation.EveryReply, ReplyLaw.GivenBack}
 
 -- whatever `read_reply` returns of the octets, told the form and v, and `name_text` of each offset in them: fields with these texts give back what went in
 abbrev pub ReadsBack : Form → ℕ → Reply → List ℕ → ℕ → Type 0

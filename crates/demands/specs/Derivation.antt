@@ -4,21 +4,16 @@ use mathlib.Core.Bool.{false, not}
 use mathlib.Core.List.{List}
 use Prim.Native.Nat.{ℕ}
 use lib.ListN.{length, take}
-use Rattle.answers.specs.declared.Form.{Form}
-use Rattle.answers.specs.Try.{good}
+use Rattle.answers.specs.{declared.Form.Form, Try.good}
 use Rattle.filter_read.specs.Value.{Ping, pingFrom}
 use Rattle.unicode.specs.UserName.{isUserName}
 use Rattle.locator.specs.declared.Answer.{Answer}
 use Rattle.locator.specs.declared.Answer.the-variants as answer
 use Rattle.locator.specs.Answer.{Outcome, replyTo, answerOver, answerTo}
-use Rattle.choose.specs.Choose.{replyFor}
-use Rattle.choose.specs.Judge.{contextIn}
+use Rattle.choose.specs.{Choose.replyFor, Judge.contextIn}
 use Rattle.octets.specs.Lists.{holds}
 use Rattle.reply.specs.Reply.{Reply}
-use Rattle.table.specs.declared.Caller.{Caller}
-use Rattle.table.specs.declared.ContextNumber.{ContextNumber}
-use Rattle.table.specs.Context.{Context}
-use Rattle.table.specs.Table.{Table}
+use Rattle.table.specs.{declared.Caller.Caller, declared.ContextNumber.ContextNumber, Context.Context, Table.Table}
 use Rattle.table_whole.specs.Judgement.{tableIn}
 use Rattle.demands.specs.Calls.{AnswerPingPromise}
 

@@ -6,8 +6,4 @@ pub mod ReplyLaw
 pub mod Demand2Calls
 pub mod Places
 pub mod Demand3
-pub mod Demand3Calls
-pub mod ReadingWalks
-pub mod WriterPlaces
-pub mod Length
 pub mod Pointers

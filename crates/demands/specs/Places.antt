@@ -9,8 +9,7 @@ use Rattle.answers.specs.declared.Form.{Form}
 use Rattle.answers.specs.declared.Form.the-variants.{Nt40, Response, Ex}
 use Rattle.answers.specs.Wire.{NETLOGON-NT-VERSION-5EX-WITH-IP, NullGuid, DcSockAddrSize}
 use Rattle.names.specs.Walk.{lookAt, onLook}
-use Rattle.octets.specs.Number.{u16At, has}
-use Rattle.octets.specs.Sid.{guidSize}
+use Rattle.octets.specs.{Number.u16At, Number.has, Sid.guidSize}
 
 -- where the field of a name at `at` ends, k steps at most: after the first zero or pointer. Where there is neither there is no name, and no end to ask for
 unfoldable pub fieldEndFrom : ℕ → List ℕ → ℕ → ℕ

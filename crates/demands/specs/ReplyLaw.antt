@@ -6,12 +6,11 @@ use mathlib.Core.List.{List, map}
 use mathlib.Core.Option.{Option, none, some, Option·map}
 use Prim.Native.Nat.{ℕ}
 use lib.ListN.{length}
-use Rattle.answers.specs.declared.Form.{Form}
+use Rattle.answers.specs.{declared.Form.Form, Try.Try, Try.good}
 use Rattle.answers.specs.declared.Form.the-variants.{Nt40, Response, Ex}
-use Rattle.answers.specs.Try.{Try, good}
 use Rattle.answers.specs.Wire.{nt40Version, responseVersion, exVersion, exVersionWithNextSite}
 use Rattle.octets.specs.Lists.{cut}
-use Rattle.unicode.specs.Utf16.{utf16}
+use Rattle.unicode.specs.{Utf8.isUtf8, Utf16.utf16}
 use Rattle.reader.specs.declared.field.Stretch.{Stretch}
 use Rattle.reader.specs.Reader.{NameRead, Nt40Fields, ResponseFields, ExFields, Fields, nt40, response, ex, readIn, readLength}
 use Rattle.reply.specs.Reply.{Reply, responseNames, exNames}
@@ -23,6 +22,12 @@ stretchOf s t = cut s (t .start) (t .len)
 
 abbrev pub textOf : NameRead → List ℕ
 textOf n = n .text
+
+-- octets that give a text back: they are the text's in UTF-16LE, and it is the one text that is UTF-8 and has them
+pub record TextBack (text octets : List ℕ) : Type 0 where
+  pub units : octets ≡ utf16 text
+  pub utf8 : isUtf8 text ≡ true
+  pub only : (other : List ℕ) → isUtf8 other ≡ true → octets ≡ utf16 other → other ≡ text
 
 -- the address, exactly where it was written
 abbrev pub addressWritten : Reply → Bool → Option (List ℕ)
@@ -36,16 +41,16 @@ versionWritten (some text) = exVersionWithNextSite
 
 pub record Nt40Back (r : Reply) (s : List ℕ) (f : Nt40Fields) : Type 0 where
   pub opcode : f .opcode ≡ r .opcode
-  pub server : stretchOf s (f .server) ≡ utf16 (r .server)
-  pub user : stretchOf s (f .user) ≡ utf16 (r .user)
-  pub domain : stretchOf s (f .domain) ≡ utf16 (r .netbios)
+  pub server : TextBack (r .server) (stretchOf s (f .server))
+  pub user : TextBack (r .user) (stretchOf s (f .user))
+  pub domain : TextBack (r .netbios) (stretchOf s (f .domain))
   pub version : f .version ≡ nt40Version
 
 pub record ResponseBack (r : Reply) (s : List ℕ) (f : ResponseFields) : Type 0 where
   pub opcode : f .opcode ≡ r .opcode
-  pub server : stretchOf s (f .server) ≡ utf16 (r .server)
-  pub user : stretchOf s (f .user) ≡ utf16 (r .user)
-  pub domain : stretchOf s (f .domain) ≡ utf16 (r .netbios)
+  pub server : TextBack (r .server) (stretchOf s (f .server))
+  pub user : TextBack (r .user) (stretchOf s (f .user))
+  pub domain : TextBack (r .netbios) (stretchOf s (f .domain))
   pub guid : stretchOf s (f .guid) ≡ r .guid
   pub names : map textOf (f .names) ≡ responseNames r
   pub ipv4 : stretchOf s (f .ipv4) ≡ r .ipv4

@@ -4,11 +4,9 @@ use mathlib.Core.List.{List, [], _∷_}
 use mathlib.Core.Option.{Option, none, some}
 use Prim.Native.Nat.{ℕ}
 use Rattle.octets.specs.Lists.{cut}
-use Rattle.filter.specs.declared.request.Clause.{Clause}
+use Rattle.filter.specs.{declared.request.Clause.Clause, declared.request.ClauseName.ClauseName, declared.request.Request.Request}
 use Rattle.filter.specs.declared.request.Clause.the-variants.{Absent, Present}
-use Rattle.filter.specs.declared.request.ClauseName.{ClauseName}
 use Rattle.filter.specs.declared.request.ClauseName.the-variants.{DnsDomain, Host, DnsHostName, User, Aac, DomainSid, DomainGuid, NtVer}
-use Rattle.filter.specs.declared.request.Request.{Request}
 
 -- the clause names, in document 01's order
 abbrev pub clauseNames : List ClauseName

@@ -6,8 +6,7 @@ use Prim.Native.Nat.{ℕ}
 use lib.Dec.{ltb}
 use lib.ListN.{length}
 use Rattle.octets.specs.Number.{bigOctets}
-use Rattle.filter.specs.declared.request.ClauseName.{ClauseName}
-use Rattle.filter.specs.declared.request.Request.{Request}
+use Rattle.filter.specs.{declared.request.ClauseName.ClauseName, declared.request.Request.Request}
 use Rattle.filter_position.specs.Filter.{shortLimit, oneAfter, twoAfter, andTag, equalityTag, stringTag}
 use Rattle.filter.specs.Request.{clauseNames, spelling, clause, octetsOf}
 

@@ -6,8 +6,7 @@ use mathlib.Core.Option.{Option, none, some, Option·map, bind}
 use Prim.Native.Nat.{ℕ, zero, suc, _+_, _-_}
 use lib.Dec.{eqb, leb, ltb}
 use lib.ListN.{length, getD}
-use Rattle.octets.specs.Lists.{cut}
-use Rattle.octets.specs.Number.{big}
+use Rattle.octets.specs.{Lists.cut, Number.big}
 use Rattle.filter_position.specs.declared.position.RawClause.{RawClause}
 
 -- 5: a filter over this many octets

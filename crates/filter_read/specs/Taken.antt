@@ -8,15 +8,12 @@ use lib.Dec.{ltb}
 use lib.ListN.{length}
 use Rattle.answers.specs.declared.Refusal.the-variants.{FilterLength, FilterShape, UnknownClause, DuplicateClause}
 use Rattle.answers.specs.Refusal.{number}
-use Rattle.answers.specs.Try.{Try, refused, good, refusedIf}
+use Rattle.answers.specs.Try.{Try, refused, good, refusedIf, numberOf, valueOf}
 use Rattle.octets.specs.Lists.{any, first, unique, cut}
 use Rattle.octets.specs.Text.{sameFolded}
-use Rattle.filter_position.specs.declared.position.RawClause.{RawClause}
-use Rattle.filter.specs.declared.request.Clause.{Clause}
+use Rattle.filter_position.specs.{declared.position.RawClause.RawClause, Filter.filterLimit, Filter.clausesOf}
+use Rattle.filter.specs.{declared.request.Clause.Clause, declared.request.ClauseName.ClauseName, declared.request.Request.Request}
 use Rattle.filter.specs.declared.request.Clause.the-variants.{Absent, Present}
-use Rattle.filter.specs.declared.request.ClauseName.{ClauseName}
-use Rattle.filter.specs.declared.request.Request.{Request}
-use Rattle.filter_position.specs.Filter.{filterLimit, clausesOf}
 use Rattle.filter.specs.Request.{clauseNames, spelling, requestBy}
 use Rattle.filter_read.specs.declared.read.Taken.{Taken}
 use Rattle.filter_read.specs.declared.read.Taken.the-variants as taken
@@ -57,11 +54,17 @@ abbrev pub takenAs : Try Request → Taken
 takenAs (refused r) = taken.Refused r
 takenAs (good q) = taken.Request q
 
--- document 01's number of it
+-- document 01's number of it, and the request, none with a refusal
 abbrev pub takenNumber : Taken → ℕ
 takenNumber (taken.Request q) = 0
 takenNumber (taken.Refused r) = number r
 
+abbrev pub takenRequest : Taken → Option Request
+takenRequest (taken.Request q) = some q
+takenRequest (taken.Refused r) = none
+
 -- what `take_apart` promises
-abbrev pub TakeApartPromise : List ℕ → Taken → Type 0
-TakeApartPromise filter r = r ≡ takenAs (requestIn filter)
+pub record TakeApartPromise (filter : List ℕ) (r : Taken) : Type 0 where
+  pub same : r ≡ takenAs (requestIn filter)
+  pub numbered : takenNumber r ≡ numberOf (requestIn filter)
+  pub given : takenRequest r ≡ valueOf (requestIn filter)

@@ -2,22 +2,18 @@
 use mathlib.Core.Path.{_≡_}
 use mathlib.Core.Bool.{Bool, not, _||_}
 use mathlib.Core.List.{List}
-use mathlib.Core.Option.{Option, Option·map, Option·getD}
+use mathlib.Core.Option.{Option, none, some, Option·map, Option·getD}
 use Prim.Native.Nat.{ℕ}
 use lib.Dec.{eqb}
 use lib.ListN.{length}
 use Rattle.answers.specs.declared.Refusal.the-variants.{ClauseValue}
-use Rattle.answers.specs.Refusal.{number}
-use Rattle.answers.specs.Try.{Try, refused, good, refusedIf, _>>=_}
-use Rattle.answers.specs.Wire.{NETLOGON-NT-VERSION-1}
-use Rattle.octets.specs.Lists.{holds}
-use Rattle.octets.specs.Number.{little}
+use Rattle.answers.specs.{Refusal.number, Wire.NETLOGON-NT-VERSION-1}
+use Rattle.answers.specs.Try.{Try, refused, good, refusedIf, _>>=_, numberOf, valueOf}
+use Rattle.octets.specs.{Lists.holds, Number.little}
 use Rattle.unicode.specs.UserName.{isUserName}
-use Rattle.filter_read.specs.declared.value.Judged.{Judged}
+use Rattle.filter_read.specs.{declared.value.Judged.Judged, Taken.requestIn}
 use Rattle.filter_read.specs.declared.value.Judged.the-variants as judged
-use Rattle.filter.specs.declared.request.Request.{Request}
-use Rattle.filter.specs.Request.{octetsOf}
-use Rattle.filter_read.specs.Taken.{requestIn}
+use Rattle.filter.specs.{declared.request.Request.Request, Request.octetsOf}
 
 -- what the clauses of a request say that the answer goes by: absent, or their octets; an absent AAC is 0
 pub record Ping : Type 0 where
@@ -73,11 +69,13 @@ abbrev pub judgedNumber : Judged → ℕ
 judgedNumber (judged.Version v) = 0
 judgedNumber (judged.Refused r) = number r
 
--- the version asked, 0 with a refusal
-abbrev pub judgedVersion : Judged → ℕ
-judgedVersion (judged.Version v) = v
-judgedVersion (judged.Refused r) = 0
+-- the version asked, none with a refusal
+abbrev pub judgedVersion : Judged → Option ℕ
+judgedVersion (judged.Version v) = some v
+judgedVersion (judged.Refused r) = none
 
 -- what `judge_values` promises
-abbrev pub JudgeValuesPromise : List ℕ → Request → Judged → Type 0
-JudgeValuesPromise filter request r = r ≡ judgedValues (pingIn filter request)
+pub record JudgeValuesPromise (filter : List ℕ) (request : Request) (r : Judged) : Type 0 where
+  pub same : r ≡ judgedValues (pingIn filter request)
+  pub numbered : judgedNumber r ≡ numberOf (pingIn filter request)
+  pub given : judgedVersion r ≡ Option·map (λ p. p .version) (valueOf (pingIn filter request))

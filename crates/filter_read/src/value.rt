@@ -1,6 +1,7 @@
 // The values of a request's clauses, judged.
 ghost use mathlib.Core.Path.{_≡_};
 ghost use mathlib.Core.Bool.{true, not};
+ghost use mathlib.Core.Option.{Option·getD};
 ghost use Rattle.octets.specs.Lists.{holds, cut};
 ghost use Rattle.octets.specs.Number.{little};
 ghost use Rattle.unicode.specs.UserName.{isUserName};
@@ -33,7 +34,7 @@ pub fn judged_number(judged: Judged) -> u8
 
 // The version asked, 0 with a refusal.
 pub fn judged_version(judged: Judged) -> u32
-    ensures { λ r. ⌜ r ≡ judgedVersion judged ⌝ }
+    ensures { λ r. ⌜ r ≡ Option·getD (judgedVersion judged) 0 ⌝ }
 {
     match judged {
         Judged::Version(version) => version,

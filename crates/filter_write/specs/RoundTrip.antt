@@ -4,14 +4,11 @@ use mathlib.Core.List.{List}
 use Prim.Native.Nat.{ℕ}
 use lib.ListN.{take}
 use Rattle.answers.specs.Try.{good}
-use Rattle.filter.specs.declared.request.ClauseName.{ClauseName}
-use Rattle.filter.specs.declared.request.Request.{Request}
-use Rattle.filter_read.specs.declared.read.Taken.{Taken}
+use Rattle.filter.specs.{declared.request.ClauseName.ClauseName, declared.request.Request.Request, Request.clause, Request.octetsOf}
+use Rattle.filter_read.specs.{declared.read.Taken.Taken, Taken.requestIn, Taken.TakeApartPromise}
 use Rattle.filter_read.specs.declared.read.Taken.the-variants as taken
 use Rattle.filter_write.specs.declared.write.Written.{Written}
 use Rattle.filter_write.specs.declared.write.Written.the-variants as written
-use Rattle.filter.specs.Request.{clause, octetsOf}
-use Rattle.filter_read.specs.Taken.{requestIn, TakeApartPromise}
 use Rattle.filter_write.specs.Write.{filterFor, WriteFilterReturns, WriteFilterLeaves}
 
 -- the same clauses: for each name both are absent, or both are present with the same octets

@@ -1,5 +1,5 @@
 -- Document 01, "The filter": the writer, with 6, 5 and 19.
-use Rattle.octets.specs.Buffer.{over}
+use Rattle.octets.specs.{Buffer.over, Lists.any}
 use mathlib.Core.Path.{_≡_}
 use mathlib.Core.Bool.{not}
 use mathlib.Core.List.{List, []}
@@ -8,8 +8,7 @@ use lib.Dec.{ltb}
 use lib.ListN.{length}
 use Rattle.answers.specs.declared.Refusal.the-variants.{FilterShape, FilterLength, NoRoom}
 use Rattle.answers.specs.Refusal.{number}
-use Rattle.answers.specs.Try.{Try, refused, good, refusedIf}
-use Rattle.octets.specs.Lists.{any}
+use Rattle.answers.specs.Try.{Try, refused, good, refusedIf, numberOf}
 use Rattle.filter.specs.declared.request.Request.{Request}
 use Rattle.filter_position.specs.Filter.{filterLimit}
 use Rattle.filter_octets.specs.Octets.{filterOctets}
@@ -44,8 +43,10 @@ writtenLength (written.Length n) = n
 writtenLength (written.Refused r) = 0
 
 -- what `write_filter` promises to return, and to leave in the buffer
-abbrev pub WriteFilterReturns : List ℕ → Request → List ℕ → Written → Type 0
-WriteFilterReturns source request before r = r ≡ writtenAs (filterFor source request (length before))
+pub record WriteFilterReturns (source : List ℕ) (request : Request) (before : List ℕ) (r : Written) : Type 0 where
+  pub same : r ≡ writtenAs (filterFor source request (length before))
+  pub numbered : writtenNumber r ≡ numberOf (filterFor source request (length before))
+  pub sized : writtenLength r ≡ length (writtenOctets (filterFor source request (length before)))
 
 abbrev pub WriteFilterLeaves : List ℕ → Request → List ℕ → List ℕ → Type 0
 WriteFilterLeaves source request before after = after ≡ over (writtenOctets (filterFor source request (length before))) before

@@ -15,13 +15,13 @@ pub struct Stretch {
     pub len: usize,
 }
 
-// The octets of a stretch: as many of them as there are.
-pub fn stretch_of<'a>(table: &'a [u8], request: &'a [u8], stretch: Stretch) -> &'a [u8]
-    ensures { λ r. ⌜ now r ≡ octetsAt (now (table .entry)) (now (request .entry)) stretch ⌝ }
+// The text of a reply's slot, as a part of either of the two lent slices: as many of its octets as there are.
+pub fn slot_text<'a>(table: &'a [u8], request: &'a [u8], slot: Stretch) -> &'a [u8]
+    ensures { λ r. ⌜ now r ≡ octetsAt (now (table .entry)) (now (request .entry)) slot ⌝ }
 {
-    let lender = stretch.lender;
+    let lender = slot.lender;
     match lender {
-        Lender::Table => part(table, stretch.start, stretch.len),
-        Lender::Request => part(request, stretch.start, stretch.len),
+        Lender::Table => part(table, slot.start, slot.len),
+        Lender::Request => part(request, slot.start, slot.len),
     }
 }

@@ -1,31 +1,24 @@
 -- Document 01, "Answer numbers": the answer in three layers, and the whole as one function of table image, caller, filter and room. The first layer, the
 -- table of an image (1 to 4), is `tableIn`, the second, the ping of a filter (5 to 9), is `pingFrom`.
-use Rattle.octets.specs.Buffer.{over}
+use Rattle.octets.specs.{Buffer.over, Label.labels, Lists.any, Lists.holds}
 use mathlib.Core.Path.{_≡_}
 use mathlib.Core.Bool.{Bool, true, false, _&&_}
 use mathlib.Core.List.{List, []}
-use mathlib.Core.Option.{Option, none, some}
+use mathlib.Core.Option.{Option, none, some, Option·map, Option·getD}
 use Prim.Native.Nat.{ℕ}
 use lib.Dec.{eqb, ltb}
 use lib.ListN.{length}
-use Rattle.answers.specs.declared.Form.{Form}
+use Rattle.answers.specs.{declared.Form.Form, Refusal.number}
 use Rattle.answers.specs.declared.Form.the-variants.{Nt40, Response, Ex}
 use Rattle.answers.specs.declared.Refusal.the-variants.{UserLabelEmpty, NoRoom}
-use Rattle.answers.specs.Refusal.{number}
-use Rattle.answers.specs.Try.{Try, refused, good, refusedIf, _>>=_}
+use Rattle.answers.specs.Try.{Try, refused, good, refusedIf, _>>=_, numberOf, valueOf}
 use Rattle.filter_read.specs.Value.{Ping, pingFrom}
-use Rattle.octets.specs.Label.{labels}
-use Rattle.octets.specs.Lists.{any, holds}
 use Rattle.reply.specs.Reply.{octetsIn}
-use Rattle.table.specs.declared.Caller.{Caller}
-use Rattle.table.specs.declared.ContextNumber.{ContextNumber}
+use Rattle.table.specs.{declared.Caller.Caller, declared.ContextNumber.ContextNumber, Context.Context, Table.Table}
 use Rattle.table_whole.specs.Judgement.{tableIn}
-use Rattle.table.specs.Context.{Context}
-use Rattle.table.specs.Table.{Table}
 use Rattle.locator.specs.declared.Answer.{Answer}
 use Rattle.locator.specs.declared.Answer.the-variants as answer
-use Rattle.choose.specs.Choose.{formOf, replyFor}
-use Rattle.choose.specs.Judge.{contextIn}
+use Rattle.choose.specs.{Choose.formOf, Choose.replyFor, Judge.contextIn}
 
 abbrev pub isEx : Form → Bool
 isEx Nt40 = false
@@ -74,24 +67,32 @@ octetsWritten (good a) = a .octets
 
 -- document 01's values of an answer: its number; with a refusal length 0, context 0 and no form
 abbrev pub answerNumber : Answer → ℕ
-answerNumber (answer.Answered length context form) = 0
+answerNumber (answer.Answered len context form) = 0
 answerNumber (answer.Refused r) = number r
 
 abbrev pub answerLength : Answer → ℕ
-answerLength (answer.Answered length context form) = length
+answerLength (answer.Answered len context form) = len
 answerLength (answer.Refused r) = 0
 
 abbrev pub answerContext : Answer → ℕ
-answerContext (answer.Answered length context form) = context .0
+answerContext (answer.Answered len context form) = context .0
 answerContext (answer.Refused r) = 0
 
 abbrev pub answerForm : Answer → Option Form
-answerForm (answer.Answered length context form) = some form
+answerForm (answer.Answered len context form) = some form
 answerForm (answer.Refused r) = none
+
+-- an answer with the number and the values of an outcome
+pub record AnswerOf (o : Try Outcome) (r : Answer) : Type 0 where
+  pub same : r ≡ answerAs o
+  pub numbered : answerNumber r ≡ numberOf o
+  pub sized : answerLength r ≡ length (octetsWritten o)
+  pub used : answerContext r ≡ Option·getD (Option·map (λ a. a .context .0) (valueOf o)) 0
+  pub formed : answerForm r ≡ Option·map (λ a. a .form) (valueOf o)
 
 -- what `answer_ping` promises to return, and to leave in the buffer
 abbrev pub AnswerPingReturns : List ℕ → Caller → List ℕ → List ℕ → Answer → Type 0
-AnswerPingReturns image caller filter before r = r ≡ answerAs (answerTo image caller filter (length before))
+AnswerPingReturns image caller filter before = AnswerOf (answerTo image caller filter (length before))
 
 abbrev pub AnswerPingLeaves : List ℕ → Caller → List ℕ → List ℕ → List ℕ → Type 0
 AnswerPingLeaves image caller filter before after = after ≡ over (octetsWritten (answerTo image caller filter (length before))) before

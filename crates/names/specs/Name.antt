@@ -3,10 +3,7 @@ use mathlib.Core.List.{List, [], _∷_, _++_}
 use mathlib.Core.Option.{Option, none, some}
 use Prim.Native.Nat.{ℕ, _+_}
 use lib.ListN.{length}
-use Rattle.octets.specs.Label.{labels, joined}
-use Rattle.octets.specs.Lists.{first}
-use Rattle.octets.specs.Number.{bigOctets}
-use Rattle.octets.specs.Text.{same}
+use Rattle.octets.specs.{Label.labels, Label.joined, Lists.first, Number.bigOctets, Text.same}
 
 -- document 01's "name tail starting at a literally written label": the label's offset in the reply, and the octets from there to the end of the name
 pub record Tail : Type 0 where

@@ -5,8 +5,7 @@ use mathlib.Core.Option.{Option, none, some, Option·map}
 use Prim.Native.Nat.{ℕ, zero, suc, _+_, _*_, _%_, _/_}
 use lib.Dec.{eqb, leb, ltb}
 use lib.ListN.{length, getD}
-use Rattle.octets.specs.Lists.{cut}
-use Rattle.octets.specs.Number.{big}
+use Rattle.octets.specs.{Lists.cut, Number.big}
 use Rattle.names.specs.Name.{pointerLimit}
 
 -- what stands at an offset, by the top two bits of its octet: a label's octets may still be missing

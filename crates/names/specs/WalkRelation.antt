@@ -1,4 +1,4 @@
--- The walk as a relation, and what is said of it: the function finds what the relation says and nothing else, and octets appended change no walk.
+-- The walk as a relation, and what is said of it: the function finds what the relation says and nothing else, and octets appended change no walk that found a name.
 use mathlib.Core.Path.{_≡_}
 use mathlib.Core.List.{List, [], _∷_, _++_}
 use mathlib.Core.Option.{some}

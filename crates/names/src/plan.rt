@@ -6,7 +6,7 @@ ghost use Rattle.octets.specs.Label.{labels};
 ghost use Rattle.names.specs.Internal.Plan.{toDot, startsLabel, literalOctets, literalSize, CommonTail, offersSize, tailsFrom, firstAim, betterAim, AimWithin, endingOctets, nameTails, namesTails, planBy, Fit, AllFit, PlanOf, PlansOf, ShortTexts};
 use lent::stretch::Lender;
 use lent::stretch::Stretch;
-use lent::stretch::stretch_of;
+use lent::stretch::slot_text;
 use octets::name_rule::DOT;
 
 // The most names of a reply.
@@ -126,7 +126,7 @@ fn aim_at<'a>(table: &'a [u8], request: &'a [u8], name: PlannedName, text: &[u8]
     ensures { λ r. ⌜ r ≡ firstAim (nameTails (now (table .entry)) (now (request .entry)) name) (labels (now (text .entry))) ⌝ }
     ensures { λ r. ⌜ AimWithin (length (now (text .entry))) r ⌝ }
 {
-    let earlier = stretch_of(table, request, name.text);
+    let earlier = slot_text(table, request, name.text);
     aim_in(earlier, name.offset, name.literal, text)
 }
 
@@ -220,7 +220,7 @@ pub fn plan_name<'a>(
     requires { ⌜ AllFit (now table) (now request) (take count names) ⌝ }
     ensures { λ r. ⌜ PlanOf (now (table .entry)) (now (request .entry)) (take count names) text offset r ⌝ }
 {
-    let octets = stretch_of(table, request, text);
+    let octets = slot_text(table, request, text);
     let aim = best_aim(table, request, names, count, octets);
     planned(text, octets.len(), offset, aim)
 }

@@ -4,7 +4,7 @@ ghost use Prim.Native.Nat.{_+_, _≤_, _<_};
 ghost use lib.ListN.{length, getD, take};
 ghost use Rattle.octets.specs.Buffer.{over};
 ghost use Rattle.names.specs.Internal.Plan.{literalOctets, endingOctets, PointsLow, nameOctets, namesOctets, Fit, AllFit};
-use lent::stretch::stretch_of;
+use lent::stretch::slot_text;
 use names::plan::Ending;
 use names::plan::NAMES_MOST;
 use names::plan::PlannedName;
@@ -58,7 +58,7 @@ pub fn put_name<'a>(out: &mut [u8], table: &'a [u8], request: &'a [u8], name: Pl
 {
     let literal = name.literal;
     let ending = name.ending;
-    put_labels(out, stretch_of(table, request, name.text), literal);
+    put_labels(out, slot_text(table, request, name.text), literal);
     literal + put_ending(&mut out[literal..], ending)
 }
 

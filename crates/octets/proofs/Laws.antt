@@ -1,4 +1,5 @@
 pub mod Buffer
+pub mod Fold
 pub mod Label
 pub mod Lists
 pub mod NameRule

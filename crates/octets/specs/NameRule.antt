@@ -4,9 +4,7 @@ use mathlib.Core.List.{List}
 use Prim.Native.Nat.{ℕ}
 use lib.Dec.{eqb}
 use lib.ListN.{length}
-use Rattle.octets.specs.Label.{parts}
-use Rattle.octets.specs.Lists.{all}
-use Rattle.octets.specs.Text.{within, isPrintable}
+use Rattle.octets.specs.{Label.parts, Lists.all, Text.within, Text.isPrintable}
 
 abbrev pub sized : ℕ → ℕ → List ℕ → Bool
 sized low high s = within low high (length s)

@@ -15,11 +15,6 @@ same (x ∷ xs) (y ∷ ys) = eqb x y && same xs ys
 unfoldable pub lower : ℕ → ℕ
 lower x = cond (leb 65 x && leb x 90) (x + 32) x
 
--- an octet as it is compared, with ASCII case ignored or not
-abbrev pub foldIf : Bool → ℕ → ℕ
-foldIf true x = lower x
-foldIf false x = x
-
 abbrev pub sameFolded : List ℕ → List ℕ → Bool
 sameFolded xs ys = same (map lower xs) (map lower ys)
 

@@ -4,9 +4,10 @@ ghost use mathlib.Core.List.{map};
 ghost use Prim.Native.Nat.{_+_, _≤_, _<_};
 ghost use lib.ListN.{length};
 ghost use Rattle.octets.specs.Internal.Class.{isOf};
+ghost use Rattle.octets.specs.Internal.FoldIf.{foldIf};
 ghost use Rattle.octets.specs.Lists.{all, cut};
 ghost use Rattle.octets.specs.NameRule.{printable, without};
-ghost use Rattle.octets.specs.Text.{same, sameFolded, allZero, foldIf};
+ghost use Rattle.octets.specs.Text.{same, sameFolded, allZero};
 
 // A class of octets that a text may be made of.
 pub enum Class {

@@ -6,8 +6,7 @@ use lib.Dec.{ltb}
 use lib.ListN.{length}
 use Rattle.answers.specs.declared.Refusal.the-variants.{ReplyCut, ReplyFixed}
 use Rattle.answers.specs.Try.{Try, good, refusedIf, _>>=_}
-use Rattle.octets.specs.Lists.{cut}
-use Rattle.octets.specs.Text.{same}
+use Rattle.octets.specs.{Lists.cut, Text.same}
 use Rattle.reader.specs.declared.field.Stretch.{Stretch}
 
 pub record Read (A : Type 0) : Type 0 where

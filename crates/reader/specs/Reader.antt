@@ -11,13 +11,10 @@ use Rattle.answers.specs.declared.Refusal.the-variants.{ReplyOpcode, ReplyFixed
 use Rattle.answers.specs.Try.{Try, refused, good, refusedIf, _>>=_}
 use Rattle.answers.specs.Wire.{NETLOGON-NT-VERSION-5EX-WITH-IP, NETLOGON-NT-VERSION-WITH-CLOSEST-SITE, nt40Version, responseVersion, exVersion, exVersionWithNextSite, Opcodes, olderOpcodes, exOpcodes, isOneOf, Sbz, NullGuid, LmNtToken, Lm20Token, DcSockAddrSize, sin-family, sin-zero}
 use Rattle.names.specs.Walk.{WalkedName}
-use Rattle.octets.specs.Label.{joined}
-use Rattle.octets.specs.Sid.{guidSize, ipv4Size}
+use Rattle.octets.specs.{Label.joined, Sid.guidSize, Sid.ipv4Size}
 use Rattle.octets.specs.Number.{little, littleOctets, u32At, has}
-use Rattle.reader.specs.declared.field.Stretch.{Stretch}
+use Rattle.reader.specs.{declared.field.Stretch.Stretch, Name.readName, Text.readText}
 use Rattle.reader.specs.Field.{Read, readOctets, readStretch, readFixed}
-use Rattle.reader.specs.Name.{readName}
-use Rattle.reader.specs.Text.{readText}
 
 -- a name as it is given back: its labels joined by dots, with its pointer count; and its first offset
 pub record NameRead : Type 0 where

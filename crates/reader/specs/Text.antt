@@ -8,12 +8,9 @@ use Rattle.answers.specs.declared.Refusal.the-variants.{ReplyCut, ReplyText}
 use Rattle.answers.specs.Try.{Try, refused, good, _>>=_}
 use Rattle.octets.specs.Number.{little}
 use Rattle.unicode.specs.Utf16.{isHigh, isLow}
-use Rattle.reader.specs.declared.field.Stretch.{Stretch}
-use Rattle.reader.specs.declared.text.Unit16.{Unit16}
+use Rattle.reader.specs.{declared.field.Stretch.Stretch, declared.text.Unit16.Unit16, declared.text.Turn.Turn, Field.Read, Field.readOctets}
 use Rattle.reader.specs.declared.text.Unit16.the-variants.{Ends, Plain, High, Low}
-use Rattle.reader.specs.declared.text.Turn.{Turn}
 use Rattle.reader.specs.declared.text.Turn.the-variants.{Stop, Go, Wrong}
-use Rattle.reader.specs.Field.{Read, readOctets}
 
 unfoldable pub unitOf : ℕ → Unit16
 unitOf u = cond (eqb u 0) Ends (cond (isHigh u) High (cond (isLow u) Low Plain))

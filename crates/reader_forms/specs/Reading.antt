@@ -1,26 +1,20 @@
 -- Document 01, "Reading a reply": what the reader gives, as the call returns it. A name is its first offset, the length of its text and its pointer count.
-use Rattle.answers.specs.declared.Form.{Form}
+use Rattle.answers.specs.{declared.Form.Form, Refusal.number}
 use mathlib.Core.Path.{_≡_}
 use mathlib.Core.List.{List, [], map}
-use mathlib.Core.Option.{Option, none, some}
+use mathlib.Core.Option.{Option, none, some, Option·map}
 use Prim.Native.Nat.{ℕ}
 use lib.ListN.{length, getD}
-use Rattle.answers.specs.Refusal.{number}
-use Rattle.answers.specs.Try.{Try, refused, good}
+use Rattle.answers.specs.Try.{Try, refused, good, numberOf, valueOf}
 use Rattle.reader.specs.declared.field.Stretch.{Stretch}
 use Rattle.reader.specs.Reader as reader
-use Rattle.reader_names.specs.declared.NameAt.{NameAt}
-use Rattle.reader_names.specs.Name.{nameAs}
-use Rattle.reader_forms.specs.declared.reading.Nt40Fields.{Nt40Fields}
-use Rattle.reader_forms.specs.declared.reading.ResponseFields.{ResponseFields}
-use Rattle.reader_forms.specs.declared.reading.Address.{Address}
-use Rattle.reader_forms.specs.declared.reading.Address.the-variants as address
-use Rattle.reader_forms.specs.declared.reading.NextSite.{NextSite}
-use Rattle.reader_forms.specs.declared.reading.NextSite.the-variants as nextSite
-use Rattle.reader_forms.specs.declared.reading.ExFields.{ExFields}
-use Rattle.reader_forms.specs.declared.reading.Fields.{Fields}
-use Rattle.reader_forms.specs.declared.reading.Fields.the-variants as fields
+use Rattle.reader_names.specs.{declared.NameAt.NameAt, Name.nameAs}
+use Rattle.reader_forms.specs.{declared.reading.Nt40Fields.Nt40Fields, declared.reading.ResponseFields.ResponseFields, declared.reading.Address.Address}
+use Rattle.reader_forms.specs.{declared.reading.NextSite.NextSite, declared.reading.ExFields.ExFields, declared.reading.Fields.Fields}
 use Rattle.reader_forms.specs.declared.reading.Reading.{Reading}
+use Rattle.reader_forms.specs.declared.reading.Address.the-variants as address
+use Rattle.reader_forms.specs.declared.reading.NextSite.the-variants as nextSite
+use Rattle.reader_forms.specs.declared.reading.Fields.the-variants as fields
 use Rattle.reader_forms.specs.declared.reading.Reading.the-variants as reading
 
 -- what stands past the last name, where no form has a place: a reading has 3 names or 8, as `ReadingSettled` implies
@@ -90,17 +84,20 @@ readingAs s (good f) = reading.Read (length s) (fieldsAs f)
 
 -- document 01's values of a reading: its number; with a refusal length 0 and no fields
 abbrev pub readingNumber : Reading → ℕ
-readingNumber (reading.Read length fields) = 0
+readingNumber (reading.Read len f) = 0
 readingNumber (reading.Refused r) = number r
 
 abbrev pub readingLength : Reading → ℕ
-readingLength (reading.Read length fields) = length
+readingLength (reading.Read len f) = len
 readingLength (reading.Refused r) = 0
 
 abbrev pub readingFields : Reading → Option Fields
-readingFields (reading.Read length fields) = some fields
+readingFields (reading.Read len f) = some f
 readingFields (reading.Refused r) = none
 
 -- what `read_reply` promises
-abbrev pub ReadReplyPromise : List ℕ → Form → ℕ → Reading → Type 0
-ReadReplyPromise reply form v r = r ≡ readingAs reply (reader.readIn form v reply)
+pub record ReadReplyPromise (reply : List ℕ) (form : Form) (v : ℕ) (r : Reading) : Type 0 where
+  pub same : r ≡ readingAs reply (reader.readIn form v reply)
+  pub numbered : readingNumber r ≡ numberOf (reader.readIn form v reply)
+  pub sized : readingLength r ≡ reader.readLength (reader.readIn form v reply) reply
+  pub given : readingFields r ≡ Option·map fieldsAs (valueOf (reader.readIn form v reply))

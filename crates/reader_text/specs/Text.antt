@@ -4,12 +4,10 @@ use mathlib.Core.List.{List, []}
 use Prim.Native.Nat.{ℕ}
 use lib.ListN.{length, take, replicate}
 use Rattle.answers.specs.Refusal.{number}
-use Rattle.answers.specs.Try.{Try, refused, good, _>>=_}
-use Rattle.octets.specs.Buffer.{over}
-use Rattle.octets.specs.Label.{joined}
+use Rattle.answers.specs.Try.{Try, refused, good, _>>=_, numberOf}
+use Rattle.octets.specs.{Buffer.over, Label.joined}
 use Rattle.reader.specs.Name.{textMost, readName}
-use Rattle.reader_text.specs.declared.NameText.{NameText}
-use Rattle.reader_text.specs.declared.TextLength.{TextLength}
+use Rattle.reader_text.specs.{declared.NameText.NameText, declared.TextLength.TextLength}
 use Rattle.reader_text.specs.declared.TextLength.the-variants.{Octets, Refused}
 
 -- the labels joined by dots of the name that the reader accepts at an offset, or why it accepts none
@@ -43,5 +41,8 @@ abbrev pub textGiven : NameText → List ℕ
 textGiven t = take (textLength (t .len)) (t .octets)
 
 -- what `name_text` promises
-abbrev pub NameTextPromise : List ℕ → ℕ → NameText → Type 0
-NameTextPromise reply start r = r ≡ nameTextAs (nameText reply start)
+pub record NameTextPromise (reply : List ℕ) (start : ℕ) (r : NameText) : Type 0 where
+  pub same : r ≡ nameTextAs (nameText reply start)
+  pub numbered : textNumber (r .len) ≡ numberOf (nameText reply start)
+  pub sized : textLength (r .len) ≡ length (textOctets (nameText reply start))
+  pub given : textGiven r ≡ textOctets (nameText reply start)

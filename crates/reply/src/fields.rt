@@ -15,7 +15,7 @@ use answers::wire::LM20_TOKEN;
 use lent::put::put_octets_at;
 use lent::put::put_u16_at;
 use lent::put::put_u32_at;
-use lent::stretch::stretch_of;
+use lent::stretch::slot_text;
 use names_write::put::put_name;
 use names_write::put::put_names;
 
@@ -32,7 +32,7 @@ pub fn put_guid_at<'a>(
     ensures { λ _. ⌜ now (out .exit) ≡ overAt at (octetsAt (now (table .entry)) (now (request .entry)) (raw .guid)) (now (out .entry)) ⌝ }
 {
     let guid = raw.guid;
-    put_octets_at(out, at, stretch_of(table, request, guid))
+    put_octets_at(out, at, slot_text(table, request, guid))
 }
 
 // The server's IPv4 address.
@@ -48,7 +48,7 @@ pub fn put_ipv4_at<'a>(
     ensures { λ _. ⌜ now (out .exit) ≡ overAt at (octetsAt (now (table .entry)) (now (request .entry)) (raw .ipv4)) (now (out .entry)) ⌝ }
 {
     let ipv4 = raw.ipv4;
-    put_octets_at(out, at, stretch_of(table, request, ipv4))
+    put_octets_at(out, at, slot_text(table, request, ipv4))
 }
 
 // The version and the two tokens that end every reply.

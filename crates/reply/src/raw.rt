@@ -1,26 +1,12 @@
 // What a reply says, its texts as stretches of the table image or of the ping's source.
-ghost use mathlib.Core.Path.{_≡_};
-ghost use Prim.Native.Nat.{_<_};
-ghost use Rattle.reply.specs.Internal.RawReply.{slotText};
 use lent::stretch::Stretch;
-use lent::stretch::stretch_of;
 
-// The slots of a reply's texts: the names of the EX form at their places, then the next closest site.
-pub const FOREST: usize = 0;
-
-pub const CONTEXT: usize = 1;
-
-pub const HOST: usize = 2;
-
+// The slots of a reply's texts, the names of the EX form at their places: forest, context and host; the next three; own site and client site; and the next closest site.
 pub const CONTEXT_NETBIOS: usize = 3;
 
 pub const SERVER_NETBIOS: usize = 4;
 
 pub const USER: usize = 5;
-
-pub const OWN_SITE: usize = 6;
-
-pub const CLIENT_SITE: usize = 7;
 
 pub const NEXT_SITE: usize = 8;
 
@@ -35,18 +21,4 @@ pub struct RawReply {
     pub slots: [Stretch; SLOTS],
     pub with_address: bool,
     pub with_next_site: bool,
-}
-
-// The text of a slot, as a part of either of the two lent slices.
-pub fn slot_text<'a>(
-    table: &'a [u8],
-    request: &'a [u8],
-    slots: [Stretch; SLOTS],
-    slot: usize,
-) -> &'a [u8]
-    requires { ⌜ slot < 9 ⌝ }
-    ensures { λ r. ⌜ now r ≡ slotText (now (table .entry)) (now (request .entry)) slots slot ⌝ }
-{
-    let stretch = slots[slot];
-    stretch_of(table, request, stretch)
 }

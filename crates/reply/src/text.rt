@@ -7,8 +7,8 @@ ghost use Rattle.lent.specs.Internal.OverAt.{overAt};
 ghost use Rattle.reply.specs.Reply.{text16};
 ghost use Rattle.reply.specs.Internal.RawReply.{slotText, Short};
 use crate::raw::RawReply;
-use crate::raw::slot_text;
 use lent::put::put_u16_at;
+use lent::stretch::slot_text;
 use unicode::utf16::put_utf16;
 
 // A text, ended by a zero unit.
@@ -36,5 +36,6 @@ pub fn put_slot_at<'a>(
     ensures { λ _. ⌜ now (out .exit) ≡ overAt at (text16 (slotText (now (table .entry)) (now (request .entry)) (raw .slots) slot)) (now (out .entry)) ⌝ }
 {
     let slots = raw.slots;
-    at + put_text(&mut out[at..], slot_text(table, request, slots, slot))
+    let text = slots[slot];
+    at + put_text(&mut out[at..], slot_text(table, request, text))
 }

@@ -6,13 +6,12 @@ ghost use Rattle.lent.specs.Internal.Stretch.{octetsAt};
 ghost use Rattle.reply.specs.Reply.{text16, opening, addressIf};
 ghost use Rattle.reply.specs.Internal.RawReply.{noStretch, slotText, replyIn, Short};
 use lent::stretch::Stretch;
-use lent::stretch::stretch_of;
+use lent::stretch::slot_text;
 use reply::raw::CONTEXT_NETBIOS;
 use reply::raw::RawReply;
 use reply::raw::SERVER_NETBIOS;
 use reply::raw::SLOTS;
 use reply::raw::USER;
-use reply::raw::slot_text;
 use unicode::utf16::utf16_size;
 
 // The size, the family and the zeros of an address.
@@ -22,7 +21,7 @@ pub fn stretch_size<'a>(table: &'a [u8], request: &'a [u8], stretch: Stretch) ->
     requires { ⌜ stretch .len ≤ 255 ⌝ }
     ensures { λ r. ⌜ (r ≡ length (octetsAt (now (table .entry)) (now (request .entry)) stretch)) × (r ≤ 255) ⌝ }
 {
-    let octets = stretch_of(table, request, stretch);
+    let octets = slot_text(table, request, stretch);
     octets.len()
 }
 
@@ -41,7 +40,8 @@ fn text_size<'a>(table: &'a [u8], request: &'a [u8], slots: [Stretch; SLOTS], sl
     requires { ⌜ (slot < 9) × (getD slots slot noStretch .len ≤ 255) ⌝ }
     ensures { λ r. ⌜ (r ≡ length (text16 (slotText (now (table .entry)) (now (request .entry)) slots slot))) × (r ≤ 1022) ⌝ }
 {
-    utf16_size(slot_text(table, request, slots, slot)) + 2
+    let text = slots[slot];
+    utf16_size(slot_text(table, request, text)) + 2
 }
 
 // The opcode and the three texts of the older forms.

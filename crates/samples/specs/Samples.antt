@@ -1,23 +1,25 @@
--- Document 01, "Sample answers": P1 to P12 as one table under one statement.
+-- Document 01, "Sample answers": P1 to P12 as one table under one statement, with rows for #101 and #107, and for what no statement else ties to its numbers.
 use mathlib.Core.Path.{_≡_}
+use mathlib.Core.Bool.{cond}
 use mathlib.Core.List.{List, [], _∷_, _++_, map, flatMap}
 use mathlib.Core.Option.{Option, none, some}
 use Prim.Native.Nat.{ℕ, _+_}
 use lib.ListN.{length, take, replicate}
 use Rattle.answers.specs.declared.Form.{Form}
 use Rattle.answers.specs.declared.Form.the-variants.{Nt40, Response, Ex}
-use Rattle.answers.specs.Try.{Try, refused, good}
+use Rattle.answers.specs.Try.{Try, refused, good, numberOf}
 use Rattle.filter.specs.declared.request.ClauseName.{ClauseName}
-use Rattle.filter.specs.declared.request.ClauseName.the-variants.{User, Aac, DomainGuid, NtVer}
+use Rattle.filter.specs.declared.request.ClauseName.the-variants.{DnsDomain, User, Aac, DomainGuid, NtVer}
 use Rattle.filter_octets.specs.Octets.{element, equalityFor}
 use Rattle.names.specs.Walk.{WalkedName, walk}
-use Rattle.octets.specs.Lists.{cut}
-use Rattle.octets.specs.Number.{little}
+use Rattle.octets.specs.{Lists.cut, Number.little}
+use Rattle.reader.specs.Name.{readName}
 use Rattle.reader.specs.Reader.{Fields, nt40, response, ex, readIn}
 use Rattle.reply.specs.Reply.{u16, u32}
-use Rattle.table.specs.Bits.{roleNt4Wanted}
+use Rattle.table.specs.{Address.addressNumber, Bits.roleNt4Wanted, declared.Caller.Caller}
 use Rattle.table_check.specs.Check.{checkOf}
-use Rattle.table.specs.declared.Caller.{Caller}
+use Rattle.table_find.specs.Find.{inSubnet}
+use Rattle.unicode.specs.Utf16.{utf16}
 use Rattle.locator.specs.Answer.{Outcome, answerTo, answerAs, octetsWritten, answerNumber, answerLength, answerContext, answerForm}
 
 -- the base table
@@ -140,6 +142,9 @@ asks v more = filter (version v ∷ more)
 unfoldable pub forUser : List ℕ → Value
 forUser s = record { name = User; octets = s }
 
+unfoldable pub forDomain : List ℕ → Value
+forDomain s = record { name = DnsDomain; octets = s }
+
 -- a row: what the definitions give, and what the document says is due
 pub record Row : Type 0 where
   pub got : List ℕ
@@ -181,6 +186,22 @@ samples =
     ∷ row (summary (pings 0 (asks 2 (forUser (0x61 ∷ 0x2E ∷ 0x2E ∷ 0x62 ∷ []) ∷ [])) 2000)) (0 ∷ 100 ∷ 1 ∷ 2 ∷ 21 ∷ [])
     -- P12: the check of 508 zero octets
     ∷ row (let c = checkOf (replicate 508 0) in u16 (c .a) ++ u16 (c .b)) (0x01 ∷ 0x00 ∷ 0xFC ∷ 0x01 ∷ [])
+    -- #101: no NtVer
+    ∷ row (summary (pings 0 (filter (forDomain corp ∷ [])) 2000)) (0 ∷ 30 ∷ 1 ∷ 1 ∷ 19 ∷ [])
+    -- #107: a DNS name in another case, with a closing dot, with two
+    ∷ row (summary (pings 0 (asks 6 (forDomain (CORP ++ (0x2E ∷ example)) ∷ [])) 2000)) (0 ∷ 72 ∷ 1 ∷ 3 ∷ 23 ∷ [])
+    ∷ row (summary (pings 0 (asks 6 (forDomain (corp ++ (0x2E ∷ [])) ∷ [])) 2000)) (0 ∷ 72 ∷ 1 ∷ 3 ∷ 23 ∷ [])
+    ∷ row (summary (pings 0 (asks 6 (forDomain (corp ++ (0x2E ∷ 0x2E ∷ [])) ∷ [])) 2000)) (refusal 14)
+    -- P4 whole, its units low octet first, and the units of U+12345
+    ∷ row (octetsWritten (pings 0 (asks 0 []) 30))
+    (0x13 ∷ 0 ∷ 0x44 ∷ 0 ∷ 0x43 ∷ 0 ∷ 0x31 ∷ 0 ∷ 0 ∷ 0 ∷ 0 ∷ 0 ∷ 0x43 ∷ 0 ∷ 0x4F ∷ 0 ∷ 0x52 ∷ 0 ∷ 0x50 ∷ 0 ∷ 0 ∷ 0 ∷ 1 ∷ 0 ∷ 0 ∷ 0 ∷ 0xFF ∷ 0xFF ∷ 0xFF ∷ 0xFF ∷ [])
+    ∷ row (utf16 (0xF0 ∷ 0x92 ∷ 0x8D ∷ 0x85 ∷ [])) (0x08 ∷ 0xD8 ∷ 0x45 ∷ 0xDF ∷ [])
+    -- a check that tells its octets apart
+    ∷ row (let c = checkOf (1 ∷ 2 ∷ 3 ∷ []) in c .a ∷ c .b ∷ []) (7 ∷ 13 ∷ [])
+    -- 10.1.2.3 is in 10.1.0.0/16, and not in 10.2.0.0/16
+    ∷ row (map (λ x. cond (inSubnet (addressNumber (10 ∷ 1 ∷ 2 ∷ 3 ∷ [])) (record { address = 10 ∷ x ∷ 0 ∷ 0 ∷ []; prefix = 16; site = none })) 1 0) (1 ∷ 2 ∷ [])) (1 ∷ 0 ∷ [])
+    -- a label cut short, and the same behind a pointer
+    ∷ row (map (λ at. numberOf (readName (5 ∷ 0xC0 ∷ 0 ∷ []) at)) (0 ∷ 1 ∷ [])) (31 ∷ 33 ∷ [])
     ∷ []
 
 abbrev pub SamplesHold : Type 0

@@ -10,12 +10,9 @@ use Rattle.answers.specs.declared.Form.{Form}
 use Rattle.answers.specs.declared.Form.the-variants.{Nt40, Response, Ex}
 use Rattle.answers.specs.Wire.{responseVersion, exVersion, exVersionWithNextSite}
 use Rattle.names.specs.Walk.{walk}
-use Rattle.octets.specs.Label.{labels, joined}
-use Rattle.octets.specs.Lists.{all}
-use Rattle.octets.specs.NameRule.{sized, labelMost}
-use Rattle.octets.specs.Number.{bigOctets}
+use Rattle.octets.specs.{Label.labels, Label.joined, Lists.all, NameRule.sized, NameRule.labelMost, Number.bigOctets}
 use Rattle.reply.specs.Reply.{Reply, u32, ending, nt40Octets, responseHead, responseNames, exHead, exNames, addressIf, octetsIn}
-use Rattle.demands.specs.Derivation.{ReplyIs, EveryAnswerOver, EveryAnswer, EveryReply}
+use Rattle.demands.specs.Derivation.{ReplyIs, EveryAnswerOver, EveryReply}
 
 -- ---- the fields of a reply, in order
 
@@ -103,6 +100,13 @@ NoneShorter = (form : Form) (r : Reply) → AreNames form r → (other : List �
 abbrev pub AllReadBack : Type 0
 AllReadBack = (form : Form) (r : Reply) → AreNames form r → (other : List ℕ) (places : List Placed) → Compared form r other places → SaysNames (fieldsOf form r) other places
 
+-- and one of them is longer, in either form with names
+abbrev pub Longer : Form → Type 0
+Longer form = (r : Reply) × AreNames form r × (other : List ℕ) × (places : List Placed) × Compared form r other places × (length (octetsIn form r) < length other)
+
+abbrev pub SomeLonger : Type 0
+SomeLonger = Longer Response × Longer Ex
+
 -- a reply r in its form, whose octets s are one of these, with none that is shorter, and all say the same
 pub record Shortest (form : Form) (v : ℕ) (r : Reply) (s : List ℕ) : Type 0 where
   pub places : List Placed
@@ -110,75 +114,9 @@ pub record Shortest (form : Form) (v : ℕ) (r : Reply) (s : List ℕ) : Type 0 
   pub least : (other : List ℕ) (at : List Placed) → Compared form r other at → length s ≤ length other
   pub readBack : (other : List ℕ) (at : List Placed) → Compared form r other at → SaysNames (fieldsOf form r) other at
 
--- so of every answer: over a table, of the whole's, and of the octets that the answering call leaves
+-- so of every answer over a table, and of the octets that the answering call leaves
 abbrev pub ShortestAnswerOver : Type 0
 ShortestAnswerOver = EveryAnswerOver (ReplyIs Shortest)
 
-abbrev pub ShortestAnswer : Type 0
-ShortestAnswer = EveryAnswer (ReplyIs Shortest)
-
 abbrev pub ShortestCall : Type 0
 ShortestCall = EveryReply (λ form v r s len. Shortest form v r s)
-
--- ---- one that is longer, in each form
-
--- says the names `a`, `b.a` and `b.a`, texts of no octets, and `a` as name 8
-abbrev pub sample : ℕ → Reply
-sample opcode =
-    record {
-      opcode = opcode;
-      flags = 0;
-      guid = 0x01 ∷ 0x02 ∷ 0x03 ∷ 0x04 ∷ 0x05 ∷ 0x06 ∷ 0x07 ∷ 0x08 ∷ 0x09 ∷ 0x0A ∷ 0x0B ∷ 0x0C ∷ 0x0D ∷ 0x0E ∷ 0x0F ∷ 0x10 ∷ [];
-      forest = 0x61 ∷ [];
-      dns = 0x62 ∷ 0x2E ∷ 0x61 ∷ [];
-      host = 0x62 ∷ 0x2E ∷ 0x61 ∷ [];
-      netbios = [];
-      server = [];
-      user = [];
-      ownSite = [];
-      clientSite = [];
-      ipv4 = 0xC0 ∷ 0x00 ∷ 0x02 ∷ 0x01 ∷ [];
-      withAddress = true;
-      nextSite = some (0x61 ∷ []);
-    }
-
--- a reply's octets by document 01, and those of a writer that points only from a name's first label
-pub record LongerThan (form : Form) (r : Reply) (document other : List ℕ) : Type 0 where
-  pub names : AreNames form r
-  pub written : octetsIn form r ≡ document
-  pub places : List Placed
-  pub compared : Compared form r other places
-  pub longer : length document < length other
-
--- a RESPONSE, with its names at 40
-abbrev pub responseFront : List ℕ
-responseFront =
-    0x13 ∷ 0x00 ∷ 0x00 ∷ 0x00 ∷ 0x00 ∷ 0x00 ∷ 0x00 ∷ 0x00 ∷ 0x01 ∷ 0x02 ∷ 0x03 ∷ 0x04 ∷ 0x05 ∷ 0x06 ∷ 0x07 ∷ 0x08 ∷ 0x09 ∷ 0x0A ∷ 0x0B ∷ 0x0C
-    ∷ 0x0D ∷ 0x0E ∷ 0x0F ∷ 0x10 ∷ 0x00 ∷ 0x00 ∷ 0x00 ∷ 0x00 ∷ 0x00 ∷ 0x00 ∷ 0x00 ∷ 0x00 ∷ 0x00 ∷ 0x00 ∷ 0x00 ∷ 0x00 ∷ 0x00 ∷ 0x00 ∷ 0x00 ∷ 0x00 ∷ []
-
-abbrev pub responseEnd : List ℕ
-responseEnd = 0xC0 ∷ 0x00 ∷ 0x02 ∷ 0x01 ∷ 0x00 ∷ 0x00 ∷ 0x00 ∷ 0x00 ∷ 0x03 ∷ 0x00 ∷ 0x00 ∷ 0x00 ∷ 0xFF ∷ 0xFF ∷ 0xFF ∷ 0xFF ∷ []
-
-abbrev pub LongerResponse : Type 0
-LongerResponse =
-    LongerThan Response (sample 19)
-    (responseFront ++ (0x01 ∷ 0x61 ∷ 0x00 ∷ 0x01 ∷ 0x62 ∷ 0xC0 ∷ 0x28 ∷ 0xC0 ∷ 0x2B ∷ []) ++ responseEnd)
-    (responseFront ++ (0x01 ∷ 0x61 ∷ 0x00 ∷ 0x01 ∷ 0x62 ∷ 0x01 ∷ 0x61 ∷ 0x00 ∷ 0xC0 ∷ 0x2B ∷ []) ++ responseEnd)
-
--- an EX, with its names at 24
-abbrev pub exFront : List ℕ
-exFront =
-    0x17 ∷ 0x00 ∷ 0x00 ∷ 0x00 ∷ 0x00 ∷ 0x00 ∷ 0x00 ∷ 0x00 ∷ 0x01 ∷ 0x02 ∷ 0x03 ∷ 0x04 ∷ 0x05 ∷ 0x06 ∷ 0x07 ∷ 0x08 ∷ 0x09 ∷ 0x0A ∷ 0x0B ∷ 0x0C
-    ∷ 0x0D ∷ 0x0E ∷ 0x0F ∷ 0x10 ∷ []
-
--- five names of no octets, the address, name 8 and the version with its tokens
-abbrev pub exEnd : List ℕ
-exEnd =
-    0x00 ∷ 0x00 ∷ 0x00 ∷ 0x00 ∷ 0x00 ∷ 0x10 ∷ 0x02 ∷ 0x00 ∷ 0x00 ∷ 0x00 ∷ 0xC0 ∷ 0x00 ∷ 0x02 ∷ 0x01 ∷ 0x00 ∷ 0x00 ∷ 0x00 ∷ 0x00 ∷ 0x00 ∷ 0x00
-    ∷ 0x00 ∷ 0x00 ∷ 0xC0 ∷ 0x18 ∷ 0x15 ∷ 0x00 ∷ 0x00 ∷ 0x00 ∷ 0xFF ∷ 0xFF ∷ 0xFF ∷ 0xFF ∷ []
-
-abbrev pub LongerEx : Type 0
-LongerEx =
-    LongerThan Ex (sample 23)
-    (exFront ++ (0x01 ∷ 0x61 ∷ 0x00 ∷ 0x01 ∷ 0x62 ∷ 0xC0 ∷ 0x18 ∷ 0xC0 ∷ 0x1B ∷ []) ++ exEnd)
-    (exFront ++ (0x01 ∷ 0x61 ∷ 0x00 ∷ 0x01 ∷ 0x62 ∷ 0x01 ∷ 0x61 ∷ 0x00 ∷ 0xC0 ∷ 0x1B ∷ []) ++ exEnd)

@@ -1,13 +1,9 @@
 -- Document 01, "The table image", kind 4: an account, and its fields' offsets in the record.
 use mathlib.Core.List.{List}
 use Prim.Native.Nat.{ℕ}
-use Rattle.octets.specs.NameRule.{userNameMost}
-use Rattle.octets.specs.Number.{u16At, u32At}
-use Rattle.table.specs.declared.ContextNumber.{ContextNumber}
-use Rattle.table.specs.declared.field.TextField.{TextField}
-use Rattle.table.specs.declared.record.RecordFormat.{RecordFormat}
-use Rattle.table.specs.Countings.{contextNumber}
-use Rattle.table.specs.Field.{textAt}
+use Rattle.octets.specs.{NameRule.userNameMost, Number.u16At, Number.u32At}
+use Rattle.table.specs.{declared.ContextNumber.ContextNumber, declared.field.TextField.TextField, declared.record.RecordFormat.RecordFormat}
+use Rattle.table.specs.{Countings.contextNumber, Field.textAt}
 
 abbrev pub accountFormat : RecordFormat
 accountFormat = record { kind = 4; count = 6; width = 84 }

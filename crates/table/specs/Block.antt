@@ -1,11 +1,9 @@
 -- Document 01, "The table image": the blocks of an image, and what each block has at which octets.
 use mathlib.Core.List.{List}
-use Prim.Native.Nat.{ℕ, _*_, _/_}
+use Prim.Native.Nat.{ℕ, _/_}
 use lib.ListN.{length, getD}
-use Rattle.octets.specs.Lists.{cut, pieces}
-use Rattle.octets.specs.Number.{u16At}
-use Rattle.table.specs.declared.BlockPlace.{BlockPlace}
-use Rattle.table.specs.Countings.{blockPlace}
+use Rattle.octets.specs.{Lists.cut, Lists.pieces, Number.u16At}
+use Rattle.table.specs.{declared.BlockPlace.BlockPlace, Countings.blockPlace}
 
 abbrev pub blockSize : ℕ
 blockSize = 512
@@ -20,10 +18,6 @@ imageMost = 65536
 -- the blocks of an image
 unfoldable pub blocksOf : List ℕ → List (List ℕ)
 blocksOf image = pieces (length image / blockSize) blockSize image
-
--- the block at a place
-abbrev pub blockAt : List ℕ → BlockPlace → List ℕ
-blockAt image place = cut image (blockSize * place .0) blockSize
 
 abbrev pub kindIn : List ℕ → ℕ
 kindIn block = getD block 0 0

@@ -5,16 +5,9 @@ use mathlib.Core.Option.{Option, none, some}
 use Prim.Native.Nat.{ℕ}
 use lib.Dec.{eqb}
 use lib.ListN.{drop, getD}
-use Rattle.octets.specs.Lists.{cut}
-use Rattle.octets.specs.NameRule.{netbiosNameMost, dnsNameMost}
-use Rattle.octets.specs.Number.{u16At}
-use Rattle.octets.specs.Sid.{sidLength, guidSize}
-use Rattle.table.specs.declared.ContextNumber.{ContextNumber}
-use Rattle.table.specs.declared.field.TextField.{TextField}
-use Rattle.table.specs.declared.record.RecordFormat.{RecordFormat}
-use Rattle.table.specs.Block.{bodySize}
-use Rattle.table.specs.Countings.{contextNumber}
-use Rattle.table.specs.Field.{textAt}
+use Rattle.octets.specs.{Lists.cut, NameRule.netbiosNameMost, NameRule.dnsNameMost, Number.u16At, Sid.sidLength, Sid.guidSize}
+use Rattle.table.specs.{declared.ContextNumber.ContextNumber, declared.field.TextField.TextField, declared.record.RecordFormat.RecordFormat}
+use Rattle.table.specs.{Block.bodySize, Countings.contextNumber, Field.textAt}
 
 -- a context is the whole of its body
 abbrev pub contextFormat : RecordFormat

@@ -3,9 +3,7 @@ use mathlib.Core.Bool.{Bool, cond}
 use mathlib.Core.Option.{Option, none, some}
 use Prim.Native.Nat.{ℕ, _+_}
 use lib.Dec.{eqb}
-use Rattle.table.specs.declared.BlockPlace.{BlockPlace}
-use Rattle.table.specs.declared.ContextNumber.{ContextNumber}
-use Rattle.table.specs.declared.SiteNumber.{SiteNumber}
+use Rattle.table.specs.{declared.BlockPlace.BlockPlace, declared.ContextNumber.ContextNumber, declared.SiteNumber.SiteNumber}
 
 abbrev pub contextNumber : ℕ → ContextNumber
 contextNumber n = record { 0 = n }

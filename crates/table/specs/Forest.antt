@@ -2,10 +2,7 @@
 use mathlib.Core.List.{List}
 use Prim.Native.Nat.{ℕ}
 use Rattle.octets.specs.NameRule.{dnsNameMost}
-use Rattle.table.specs.declared.BlockPlace.{BlockPlace}
-use Rattle.table.specs.declared.field.TextField.{TextField}
-use Rattle.table.specs.Countings.{blockPlace}
-use Rattle.table.specs.Field.{textAt}
+use Rattle.table.specs.{declared.BlockPlace.BlockPlace, declared.field.TextField.TextField, Countings.blockPlace, Field.textAt}
 
 abbrev pub forestKind : ℕ
 forestKind = 2

@@ -2,13 +2,9 @@
 use mathlib.Core.List.{List, [], _∷_}
 use Prim.Native.Nat.{ℕ}
 use Rattle.octets.specs.Lists.{pieces}
-use Rattle.table.specs.declared.record.RecordFormat.{RecordFormat}
-use Rattle.table.specs.declared.record.RecordKind.{RecordKind}
+use Rattle.table.specs.{declared.record.RecordFormat.RecordFormat, declared.record.RecordKind.RecordKind, Account.accountFormat, Context.contextFormat}
+use Rattle.table.specs.{Site.siteFormat, Subnet.subnetFormat}
 use Rattle.table.specs.declared.record.RecordKind.the-variants.{Context, Account, Site, Subnet}
-use Rattle.table.specs.Account.{accountFormat}
-use Rattle.table.specs.Context.{contextFormat}
-use Rattle.table.specs.Site.{siteFormat}
-use Rattle.table.specs.Subnet.{subnetFormat}
 
 abbrev pub formatOf : RecordKind → RecordFormat
 formatOf Context = contextFormat

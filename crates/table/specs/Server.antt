@@ -1,16 +1,10 @@
 -- Document 01, "The table image", kind 1, at block 0: the server, and its fields' offsets in the body.
 use mathlib.Core.List.{List}
 use Prim.Native.Nat.{ℕ}
-use Rattle.octets.specs.Lists.{cut}
-use Rattle.octets.specs.NameRule.{netbiosNameMost, dnsNameMost}
-use Rattle.octets.specs.Number.{u16At, u32At}
-use Rattle.octets.specs.Sid.{ipv4Size}
-use Rattle.table.specs.declared.BlockPlace.{BlockPlace}
-use Rattle.table.specs.declared.ContextNumber.{ContextNumber}
-use Rattle.table.specs.declared.SiteNumber.{SiteNumber}
-use Rattle.table.specs.declared.field.TextField.{TextField}
+use Rattle.octets.specs.{Lists.cut, NameRule.netbiosNameMost, NameRule.dnsNameMost, Number.u16At, Number.u32At, Sid.ipv4Size}
+use Rattle.table.specs.{declared.BlockPlace.BlockPlace, declared.ContextNumber.ContextNumber, declared.SiteNumber.SiteNumber}
+use Rattle.table.specs.{declared.field.TextField.TextField, Field.textAt}
 use Rattle.table.specs.Countings.{contextNumber, siteNumber, blockPlace}
-use Rattle.table.specs.Field.{textAt}
 
 abbrev pub serverKind : ℕ
 serverKind = 1

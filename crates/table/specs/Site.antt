@@ -2,13 +2,9 @@
 use mathlib.Core.List.{List}
 use mathlib.Core.Option.{Option}
 use Prim.Native.Nat.{ℕ}
-use Rattle.octets.specs.NameRule.{siteNameMost}
-use Rattle.octets.specs.Number.{u16At}
-use Rattle.table.specs.declared.SiteNumber.{SiteNumber}
-use Rattle.table.specs.declared.field.TextField.{TextField}
-use Rattle.table.specs.declared.record.RecordFormat.{RecordFormat}
-use Rattle.table.specs.Countings.{siteNumber, siteOrNone}
-use Rattle.table.specs.Field.{textAt}
+use Rattle.octets.specs.{NameRule.siteNameMost, Number.u16At}
+use Rattle.table.specs.{declared.SiteNumber.SiteNumber, declared.field.TextField.TextField, declared.record.RecordFormat.RecordFormat}
+use Rattle.table.specs.{Countings.siteNumber, Countings.siteOrNone, Field.textAt}
 
 abbrev pub siteFormat : RecordFormat
 siteFormat = record { kind = 5; count = 7; width = 72 }

@@ -5,13 +5,8 @@ use mathlib.Core.Option.{Option}
 use Prim.Native.Nat.{ℕ}
 use lib.Dec.{eqb}
 use lib.ListN.{getD}
-use Rattle.octets.specs.Lists.{cut}
-use Rattle.octets.specs.Number.{u16At}
-use Rattle.octets.specs.Sid.{ipv4Size}
-use Rattle.table.specs.declared.SiteNumber.{SiteNumber}
-use Rattle.table.specs.declared.record.RecordFormat.{RecordFormat}
-use Rattle.table.specs.Address.{addressNumber}
-use Rattle.table.specs.Countings.{siteOrNone}
+use Rattle.octets.specs.{Lists.cut, Number.u16At, Sid.ipv4Size}
+use Rattle.table.specs.{declared.SiteNumber.SiteNumber, declared.record.RecordFormat.RecordFormat, Address.addressNumber, Countings.siteOrNone}
 
 abbrev pub subnetFormat : RecordFormat
 subnetFormat = record { kind = 6; count = 42; width = 12 }

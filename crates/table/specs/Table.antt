@@ -4,18 +4,12 @@ use mathlib.Core.List.{List, [], map, flatMap}
 use Prim.Native.Nat.{ℕ}
 use lib.Dec.{eqb}
 use lib.ListN.{getD}
-use Rattle.octets.specs.Lists.{keep}
-use Rattle.octets.specs.Text.{allZero}
-use Rattle.table.specs.declared.record.RecordKind.{RecordKind}
+use Rattle.octets.specs.{Lists.keep, Text.allZero}
+use Rattle.table.specs.{declared.record.RecordKind.RecordKind, Account.Account, Account.accountOf, Context.Context, Context.contextOf}
+use Rattle.table.specs.{Forest.forestPlace, Forest.forestOf, Format.formatOf, Format.recordsIn, Site.Site, Site.siteOf, Subnet.Subnet, Subnet.subnetOf}
 use Rattle.table.specs.declared.record.RecordKind.the-variants as kind
-use Rattle.table.specs.Account.{Account, accountOf}
 use Rattle.table.specs.Block.{blocksOf, kindIn, body}
-use Rattle.table.specs.Context.{Context, contextOf}
-use Rattle.table.specs.Forest.{forestPlace, forestOf}
-use Rattle.table.specs.Format.{formatOf, recordsIn}
 use Rattle.table.specs.Server.{Server, serverPlace, serverOf}
-use Rattle.table.specs.Site.{Site, siteOf}
-use Rattle.table.specs.Subnet.{Subnet, subnetOf}
 
 pub record Table : Type 0 where
   pub server : Server

@@ -1,6 +1,7 @@
 // The blocks of an image, lent as parts, and what each has at which octets.
 ghost use mathlib.Core.Path.{_≡_};
-ghost use Rattle.table.specs.Block.{blockAt, kindIn, versionIn, placeIn, body};
+ghost use Rattle.table.specs.Block.{kindIn, versionIn, placeIn, body};
+ghost use Rattle.table.specs.Internal.BlockAt.{blockAt};
 use crate::BlockPlace;
 use crate::field::octet_in;
 use crate::field::u16_in;

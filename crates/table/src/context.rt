@@ -87,12 +87,6 @@ pub fn sid(octets: &[u8]) -> &[u8]
     part(octets, SID, 8 + 4 * (wide(count) as usize))
 }
 
-pub fn netbios(octets: &[u8]) -> &[u8]
-    ensures { λ r. ⌜ now r ≡ contextOf (now (octets .entry)) .netbios ⌝ }
-{
-    text_in(octets, NETBIOS)
-}
-
 pub fn dns_name(octets: &[u8]) -> &[u8]
     ensures { λ r. ⌜ now r ≡ contextOf (now (octets .entry)) .dns ⌝ }
 {

@@ -11,13 +11,10 @@ use crate::SiteNumber;
 use crate::block::block_at;
 use crate::block::body_of;
 use crate::field::TextField;
-use crate::field::text_in;
 use crate::field::u16_in;
 use crate::field::u32_in;
 use octets::name_rule::DNS_NAME_MOST;
 use octets::name_rule::NETBIOS_NAME_MOST;
-use octets::part::part;
-use octets::size::IPV4_SIZE;
 
 pub const KIND: u8 = 1;
 
@@ -60,12 +57,6 @@ pub fn state(octets: &[u8]) -> u32
     u32_in(octets, STATE)
 }
 
-pub fn address(octets: &[u8]) -> &[u8]
-    ensures { λ r. ⌜ now r ≡ serverOf (now (octets .entry)) .address ⌝ }
-{
-    part(octets, ADDRESS, IPV4_SIZE)
-}
-
 pub fn own_site(octets: &[u8]) -> SiteNumber
     ensures { λ r. ⌜ r ≡ serverOf (now (octets .entry)) .site ⌝ }
 {
@@ -76,18 +67,6 @@ pub fn default_context(octets: &[u8]) -> ContextNumber
     ensures { λ r. ⌜ r ≡ serverOf (now (octets .entry)) .defaultContext ⌝ }
 {
     ContextNumber(u16_in(octets, DEFAULT_CONTEXT))
-}
-
-pub fn netbios(octets: &[u8]) -> &[u8]
-    ensures { λ r. ⌜ now r ≡ serverOf (now (octets .entry)) .netbios ⌝ }
-{
-    text_in(octets, NETBIOS)
-}
-
-pub fn host(octets: &[u8]) -> &[u8]
-    ensures { λ r. ⌜ now r ≡ serverOf (now (octets .entry)) .host ⌝ }
-{
-    text_in(octets, HOST)
 }
 
 // The body of an image's server block.

@@ -8,7 +8,6 @@ ghost use Rattle.table.specs.Site.{siteOf};
 ghost use Rattle.table.specs.Internal.Reference.{referred};
 use crate::SiteNumber;
 use crate::field::TextField;
-use crate::field::text_in;
 use crate::field::u16_in;
 use crate::record::RecordFormat;
 use octets::name_rule::SITE_NAME_MOST;
@@ -50,12 +49,6 @@ pub fn number(octets: &[u8]) -> SiteNumber
     ensures { λ r. ⌜ r ≡ siteOf (now (octets .entry)) .number ⌝ }
 {
     SiteNumber(u16_in(octets, NUMBER))
-}
-
-pub fn name(octets: &[u8]) -> &[u8]
-    ensures { λ r. ⌜ now r ≡ siteOf (now (octets .entry)) .name ⌝ }
-{
-    text_in(octets, NAME)
 }
 
 // The next closest site.

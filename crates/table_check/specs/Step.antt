@@ -3,8 +3,7 @@ use mathlib.Core.Path.{_≡_}
 use mathlib.Core.List.{List, [], _∷_}
 use Prim.Native.Nat.{ℕ, _+_, _*_, _%_, _<_}
 use lib.ListN.{length}
-use Rattle.table_check.specs.declared.check.Check.{Check}
-use Rattle.table_check.specs.Check.{grown}
+use Rattle.table_check.specs.{declared.check.Check.Check, Check.grown}
 
 unfoldable pub sum : List ℕ → ℕ
 sum [] = 0

@@ -1,11 +1,11 @@
 // The check of each block.
 ghost use mathlib.Core.Path.{_≡_};
-ghost use Prim.Native.Nat.{_+_, _*_, _%_, _≤_, _<_};
+ghost use Prim.Native.Nat.{_*_, _≤_, _<_};
 ghost use lib.ListN.{length};
 ghost use Rattle.octets.specs.Lists.{all};
 ghost use Rattle.table.specs.Block.{imageMost, blocksOf};
 ghost use Rattle.table_check.specs.Check.{goodCheck, CheckOfPromise};
-ghost use Rattle.table_check.specs.Step.{sum, counted};
+ghost use Rattle.table_check.specs.Step.{sum, counted, step};
 use octets::part::part;
 use table::BlockPlace;
 use table::block::BLOCK_SIZE;
@@ -54,14 +54,16 @@ fn sums_of(octets: &[u8]) -> Sums
     Sums { sum, counted }
 }
 
-// A step over n octets, with one remainder for each sum.
-fn step(check: Check, sums: Sums, n: usize) -> Check
-    requires { ⌜ (check .a < 65536) × (check .b < 65536) × (n ≤ 16) ⌝ }
-    ensures { λ r. ⌜ (r .a ≡ (check .a + sums .sum) % 65536) × (r .b ≡ (check .b + n * check .a + sums .counted) % 65536) ⌝ }
+// A step over some octets, with one remainder for each sum.
+fn step(check: Check, octets: &[u8]) -> Check
+    requires { ⌜ (check .a < 65536) × (check .b < 65536) × (length (now octets) ≤ 16) ⌝ }
+    ensures { λ r. ⌜ r ≡ step check (now (octets .entry)) ⌝ }
 {
+    let n = octets.len() as u32;
+    let sums = sums_of(octets);
     Check {
         a: (check.a + (sums.sum as u32)) % 65536,
-        b: (check.b + (n as u32) * check.a + (sums.counted as u32)) % 65536,
+        b: (check.b + n * check.a + (sums.counted as u32)) % 65536,
     }
 }
 
@@ -71,11 +73,10 @@ pub fn check_of(octets: &[u8]) -> Check
     let mut check = Check { a: 1, b: 0 };
     let mut i = 0;
     while STEP <= octets.len() - i {
-        check = step(check, sums_of(&octets[i..i + STEP]), STEP);
+        check = step(check, &octets[i..i + STEP]);
         i += STEP;
     }
-    let left = octets.len() - i;
-    step(check, sums_of(&octets[i..]), left)
+    step(check, &octets[i..])
 }
 
 pub fn good_check(block: &[u8]) -> bool

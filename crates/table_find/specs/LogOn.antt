@@ -3,8 +3,7 @@ use mathlib.Core.Bool.{Bool, not, _&&_}
 use Prim.Native.Nat.{ℕ}
 use lib.Bits.{bitAnd}
 use Rattle.octets.specs.Number.{has}
-use Rattle.table.specs.Account.{Account}
-use Rattle.table.specs.Bits.{USER-ACCOUNT-DISABLED, accountKinds}
+use Rattle.table.specs.{Account.Account, Bits.USER-ACCOUNT-DISABLED, Bits.accountKinds}
 
 -- an account is not disabled, and the allowed kinds meet its own
 unfoldable pub mayLogOn : ℕ → Account → Bool

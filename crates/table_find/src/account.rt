@@ -1,10 +1,9 @@
 // What is asked of an account, by its record's octets.
 ghost use mathlib.Core.Path.{_≡_};
-ghost use mathlib.Core.Bool.{_&&_};
 ghost use Rattle.table.specs.Account.{accountOf};
-ghost use Rattle.table.specs.Countings.{sameContext};
-ghost use Rattle.account_names.specs.AccountName.{sameAccountName};
+ghost use Rattle.table_find.specs.Find.{isAccountOf};
 ghost use Rattle.table_find.specs.LogOn.{mayLogOn};
+use account_names::compare::first_letters_differ;
 use account_names::compare::same_account_name;
 use octets::number::has_bits;
 use table::ContextNumber;
@@ -18,13 +17,17 @@ const ACCOUNT_KINDS: u32 = 0x1D8;
 
 // Whether it is the account of a name in a context.
 pub fn is_account(octets: &[u8], context: ContextNumber, name: &[u8]) -> bool
-    ensures { λ r. ⌜ r ≡ (sameContext (accountOf (now (octets .entry)) .context) context && sameAccountName (accountOf (now (octets .entry)) .name) (now (name .entry))) ⌝ }
+    ensures { λ r. ⌜ r ≡ isAccountOf context (now (name .entry)) (accountOf (now (octets .entry))) ⌝ }
 {
     let own = account::context(octets);
     if own.0 != context.0 {
         return false;
     }
-    same_account_name(account::name(octets), name)
+    let held = account::name(octets);
+    if first_letters_differ(held, name) {
+        return false;
+    }
+    same_account_name(held, name)
 }
 
 // Whether the account is not disabled and of a kind that AAC allows.

@@ -4,10 +4,8 @@ use mathlib.Core.List.{List}
 use Prim.Native.Nat.{ℕ, _+_, _-_}
 use lib.Dec.{leb}
 use lib.ListN.{getD}
-use Rattle.octets.specs.Lists.{cut}
-use Rattle.octets.specs.Text.{allZero}
-use Rattle.table.specs.declared.field.TextField.{TextField}
-use Rattle.table.specs.Field.{textAt, fieldEnd}
+use Rattle.octets.specs.{Lists.cut, Text.allZero}
+use Rattle.table.specs.{declared.field.TextField.TextField, Field.textAt, Field.fieldEnd}
 
 -- the octets from one offset up to another are zero
 unfoldable pub zeros : List ℕ → ℕ → ℕ → Bool

@@ -5,23 +5,19 @@ use mathlib.Core.Option.{Option, none, some}
 use Prim.Native.Nat.{ℕ, _+_}
 use lib.Dec.{eqb, leb, ltb}
 use lib.ListN.{length}
-use Rattle.octets.specs.Lists.{all, any}
+use Rattle.octets.specs.{Lists.all, Lists.any, Sid.isSid, Text.allZero}
 use Rattle.octets.specs.NameRule.{isDnsName, isNetbiosName, isSiteName}
 use Rattle.unicode.specs.UserName.{isAccountName}
-use Rattle.octets.specs.Sid.{isSid}
-use Rattle.octets.specs.Text.{allZero}
-use Rattle.table.specs.declared.BlockPlace.{BlockPlace}
-use Rattle.table.specs.declared.record.RecordKind.{RecordKind}
+use Rattle.table.specs.{declared.BlockPlace.BlockPlace, declared.record.RecordKind.RecordKind, Countings.samePlace, Countings.nextPlace, Bits.rolesBound}
+use Rattle.table.specs.Bits.{stateBound}
 use Rattle.table.specs.declared.record.RecordKind.the-variants.{Context, Account, Site, Subnet}
 use Rattle.table.specs.Account.{accountFormat, controlOffset, accountName, accountOf}
 use Rattle.table.specs.Address.{addressBits, addressNumber, isPrefixOnly}
 use Rattle.table.specs.Block.{kindIn, versionIn, placeIn, bodySize, body}
 use Rattle.table.specs.Context.{contextFormat, applicationOctet, hasSidOctet, sidOffset, sidRoom, contextNetbios, contextDnsName, contextOf}
-use Rattle.table.specs.Countings.{samePlace, nextPlace}
 use Rattle.table.specs.Forest.{forestKind, forestPlace, forestName}
 use Rattle.table.specs.Format.{formatOf, recordKinds, recordsIn}
 use Rattle.table.specs.Server.{serverKind, serverPlace, serverNetbios, serverHost, serverOf}
-use Rattle.table.specs.Bits.{rolesBound, stateBound}
 use Rattle.table.specs.Site.{siteFormat, siteName, nextOffset, siteOf}
 use Rattle.table.specs.Subnet.{subnetFormat, inUseOctet, subnetSiteOffset, subnetOf}
 use Rattle.table_layout.specs.Field.{zeros, textField, lastText}

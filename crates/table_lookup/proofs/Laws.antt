@@ -1,4 +1,5 @@
-pub mod ClientSite
-pub mod ClosingDot
 pub mod NearestSubnet
+pub mod ClosingDot
 pub mod OnlyAccount
+pub mod Nearest
+pub mod ClientSite

@@ -1,3 +1,4 @@
+pub mod Lookup
 pub mod ClosingDot
 pub mod NearestSubnet
 pub mod OnlyAccount

@@ -5,10 +5,9 @@ use mathlib.Core.Option.{Option, none, some}
 use Prim.Native.Nat.{ℕ}
 use Rattle.answers.specs.Try.{good}
 use Rattle.octets.specs.Lists.{keep}
-use Rattle.table.specs.declared.ContextNumber.{ContextNumber}
-use Rattle.table.specs.Account.{Account}
-use Rattle.table.specs.Table.{Table}
-use Rattle.table_find.specs.Find.{isAccountOf, accountByName}
+use Rattle.table.specs.{declared.ContextNumber.ContextNumber, Account.Account, Table.Table}
+use Rattle.table_find.specs.Find.{isAccountOf}
+use Rattle.table_lookup.specs.Lookup.{accountByName}
 use Rattle.table_whole.specs.Judgement.{tableIn}
 
 -- what was found and nothing else

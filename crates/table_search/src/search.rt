@@ -1,9 +1,10 @@
-// One search for every lookup: the first used record that a key finds, block by block and record by record.
+// The search of every lookup but that of the nearest subnet: the first used record that a key finds, block by block and record by record.
 ghost use mathlib.Core.Path.{_≡_};
 ghost use Prim.Native.Nat.{_+_, _≤_, _<_, _/_};
 ghost use lib.ListN.{length};
 ghost use Rattle.octets.specs.Lists.{cut};
-ghost use Rattle.table.specs.Block.{blockSize, blockAt, blocksOf, bodySize};
+ghost use Rattle.table.specs.Block.{blockSize, blocksOf, bodySize};
+ghost use Rattle.table.specs.Internal.BlockAt.{blockAt};
 ghost use Rattle.table_whole.specs.Judgement.{Accepted};
 ghost use Rattle.table_find.specs.Internal.Found.{recordFound, LiesIn};
 ghost use Rattle.table_find.specs.Internal.Key.{kindFor};

@@ -7,17 +7,15 @@ use lib.Dec.{eqb}
 use lib.ListN.{length}
 use Rattle.answers.specs.declared.Refusal.the-variants.{ImageLength, BlockCheck, BlockLayout, TableWhole}
 use Rattle.answers.specs.Refusal.{number}
-use Rattle.answers.specs.Try.{Try, refused, good, refusedIf}
-use Rattle.octets.specs.Lists.{all}
-use Rattle.octets.specs.Text.{within}
-use Rattle.table_whole.specs.declared.judge.Judgement.{Judgement}
+use Rattle.answers.specs.Try.{Try, refused, good, refusedIf, numberOf}
+use Rattle.octets.specs.{Lists.all, Text.within}
+use Rattle.table_whole.specs.{declared.judge.Judgement.Judgement, Whole.goodWhole}
 use Rattle.table_whole.specs.declared.judge.Judgement.the-variants.{Passed, Refused}
 use Rattle.table.specs.Block.{blockSize, imageLeast, imageMost, blocksOf}
 use Rattle.table.specs.Server.{serverPlace}
 use Rattle.table.specs.Table.{Table, tableOf, tableFrom}
 use Rattle.table_check.specs.Check.{goodCheck}
 use Rattle.table_layout.specs.Layout.{layoutsFrom}
-use Rattle.table_whole.specs.Whole.{goodWhole}
 
 -- a multiple of 512 from 1,024 to 65,536
 unfoldable pub goodLength : List ℕ → Bool
@@ -47,5 +45,6 @@ judgementNumber Passed = 0
 judgementNumber (Refused r) = number r
 
 -- what `judge` promises
-abbrev pub JudgePromise : List ℕ → Judgement → Type 0
-JudgePromise image r = r ≡ judgedAs (tableIn image)
+pub record JudgePromise (image : List ℕ) (r : Judgement) : Type 0 where
+  pub same : r ≡ judgedAs (tableIn image)
+  pub numbered : judgementNumber r ≡ numberOf (tableIn image)

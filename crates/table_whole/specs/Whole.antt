@@ -5,16 +5,9 @@ use lib.Dec.{leb}
 use lib.ListN.{length}
 use Rattle.octets.specs.Lists.{all, any, unique, holds, noneOr}
 use Rattle.octets.specs.Text.{same, within}
-use Rattle.table.specs.declared.ContextNumber.{ContextNumber}
-use Rattle.table.specs.declared.SiteNumber.{SiteNumber}
-use Rattle.table.specs.Account.{Account}
-use Rattle.table.specs.Context.{Context}
-use Rattle.table.specs.Countings.{sameContext, sameSite}
-use Rattle.table.specs.Site.{Site}
+use Rattle.table.specs.{declared.ContextNumber.ContextNumber, declared.SiteNumber.SiteNumber, Account.Account, Context.Context, Countings.sameContext}
+use Rattle.table.specs.{Countings.sameSite, Site.Site, SameName.sameSid, SameName.sameDnsName, Subnet.Subnet, Subnet.sameNetwork, Table.Table}
 use Rattle.account_names.specs.AccountName.{sameAccountName}
-use Rattle.table.specs.SameName.{sameSid, sameDnsName}
-use Rattle.table.specs.Subnet.{Subnet, sameNetwork}
-use Rattle.table.specs.Table.{Table}
 
 -- context numbers, GUIDs, SIDs and DNS names are unique
 unfoldable pub contextsUnique : List Context → Bool

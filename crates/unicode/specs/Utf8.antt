@@ -4,8 +4,7 @@ use mathlib.Core.List.{List, [], _∷_}
 use mathlib.Core.Option.{Option, none, some, Option·map}
 use Prim.Native.Nat.{ℕ, zero, suc, _+_, _*_, _%_}
 use lib.Dec.{eqb, ltb}
-use Rattle.octets.specs.Lists.{isSome}
-use Rattle.octets.specs.Text.{within}
+use Rattle.octets.specs.{Lists.isSome, Text.within}
 
 -- a character read in part: octets still to come, the range of the next one, and the code point's bits so far
 pub record Partial : Type 0 where

@@ -1,3 +1,2 @@
-pub mod AnswerForm
 pub mod Bounds
 pub mod Walk

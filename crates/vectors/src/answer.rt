@@ -1,149 +1,159 @@
 // The answer to one request line.
+ghost use Prim.Native.Nat.{_≤_};
 use crate::filter_lines::answer_filter;
 use crate::filter_lines::answer_values;
-use crate::parse::is_octets;
-use crate::parse::space_count;
-use crate::parse::word;
 use crate::ping_lines::answer_ping_line;
 use crate::read_lines::answer_read;
 use crate::walk_lines::answer_walk;
+use crate::words::is_octets;
+use crate::words::say_numbers;
 use crate::words::say_unknown;
+use crate::words::word;
 use crate::write::answer_write;
 use console::digits::decode;
+use console::field::field_number;
 use console::say::say;
-use console::say::say_number;
 use octets::part::part;
-use octets::text::same_octets;
 
 // The longest line that is read, without its LF.
 const LONGEST: usize = 140100;
 
-fn answer_check(text: &[u8]) {
-    if text.len() != 1016 {
-        say_unknown();
-        return;
-    }
-    let mut block = [0u8; 508];
-    decode(text, &mut block);
-    let check = table_check::check::check_of(&block);
-    say(b"check ");
-    say_number(check.a as u64);
-    say(b" ");
-    say_number(check.b as u64);
-    say(b"\n");
+// The kinds of lines by their numbers in the list of their first words.
+const CHECK: usize = 0;
+
+const FILTER: usize = 1;
+
+const VALUES: usize = 2;
+
+const WALK: usize = 3;
+
+const PING: usize = 4;
+
+const READ: usize = 5;
+
+const WRITE: usize = 6;
+
+const TABLE: usize = 7;
+
+const UNKNOWN: usize = 8;
+
+fn spaces_in(x: u8) -> usize
+    ensures { λ r. ⌜ r ≤ 1 ⌝ }
+{
+    if x == b' ' { 1 } else { 0 }
 }
 
-// Puts the image of a `table` line in place of the one that stood: its length.
-fn answer_table(text: &[u8], image: &mut [u8]) -> usize {
-    let n = decode(text, image);
-    let judgement = table_whole::judge::judge(part(image, 0, n));
-    say(b"table ");
-    say_number(table_whole::judge::judgement_number(judgement) as u64);
-    say(b"\n");
+// How many spaces part a line's words.
+fn space_count(line: &[u8]) -> usize {
+    let mut n = 0;
+    let mut i = 0;
+    while i < line.len() {
+        n += spaces_in(line[i]);
+        i += 1;
+    }
     n
 }
 
-// A line of two words: its kind, and octets.
-fn answer_octets(kind: &[u8], text: &[u8], space: &mut [u8]) {
-    if !is_octets(text) {
+// How many spaces a line of a kind has.
+fn spaces_of(kind: usize) -> usize {
+    match kind {
+        WALK => 2,
+        PING => 3,
+        READ => 3,
+        WRITE => 9,
+        _ => 1,
+    }
+}
+
+// The kind of a line that has as many words as its kind.
+fn kind_of(line: &[u8]) -> usize {
+    let kind = field_number(
+        b"check filter values walk ping read write table",
+        b' ',
+        word(line, 0),
+    );
+    if (LONGEST < line.len()) | (space_count(line) != spaces_of(kind)) {
+        return UNKNOWN;
+    }
+    kind
+}
+
+// The number of the word that stands for octets.
+fn octets_place(kind: usize) -> usize {
+    match kind {
+        WALK => 2,
+        PING => 2,
+        READ => 3,
+        _ => 1,
+    }
+}
+
+fn answer_check(block: &[u8]) {
+    if block.len() != 508 {
         say_unknown();
         return;
     }
-    if same_octets(kind, b"check") {
-        answer_check(text);
-        return;
-    }
-    if same_octets(kind, b"filter") {
-        answer_filter(text, space);
-        return;
-    }
-    if same_octets(kind, b"values") {
-        answer_values(text, space);
-        return;
-    }
-    say_unknown();
+    let check = table_check::check::check_of(block);
+    let numbers = [check.a as u64, check.b as u64];
+    say_numbers(b"check", &numbers);
 }
 
-// A line of three words.
-fn answer_three(kind: &[u8], line: &[u8], space: &mut [u8]) {
-    if same_octets(kind, b"walk") {
-        answer_walk(line, space);
-        return;
-    }
-    say_unknown();
+// Judges the image of a `table` line.
+fn answer_table(image: &[u8]) {
+    let judgement = table_whole::judge::judge(image);
+    let numbers = [table_whole::judge::judgement_number(judgement) as u64];
+    say_numbers(b"table", &numbers);
 }
 
-// A line of four words.
-fn answer_four(kind: &[u8], line: &[u8], image: &[u8], space: &mut [u8]) {
-    if same_octets(kind, b"ping") {
-        answer_ping_line(line, image, space);
-        return;
+// A line whose octets are decoded.
+fn answer_octets<'a>(kind: usize, line: &[u8], image: &'a [u8], octets: &'a [u8]) {
+    match kind {
+        CHECK => answer_check(octets),
+        FILTER => answer_filter(octets),
+        VALUES => answer_values(octets),
+        WALK => answer_walk(line, octets),
+        PING => answer_ping_line(line, image, octets),
+        READ => answer_read(line, octets),
+        _ => say_unknown(),
     }
-    if same_octets(kind, b"read") {
-        answer_read(line, space);
-        return;
-    }
-    say_unknown();
 }
 
-// A line of ten words.
-fn answer_clauses(kind: &[u8], line: &[u8], space: &mut [u8]) {
-    if same_octets(kind, b"write") {
+// Answers a line, and puts the image of a `table` line in place of the one that stood: how many octets of it stand for the next line.
+fn answer_kind(
+    kind: usize,
+    line: &[u8],
+    image: &mut [u8],
+    standing: usize,
+    space: &mut [u8],
+) -> usize {
+    if kind == WRITE {
         answer_write(line, space);
-        return;
+        return standing;
     }
-    say_unknown();
+    let text = word(line, octets_place(kind));
+    if !is_octets(text) {
+        say_unknown();
+        return standing;
+    }
+    if kind == TABLE {
+        let n = decode(text, image);
+        answer_table(part(image, 0, n));
+        return n;
+    }
+    let n = decode(text, space);
+    answer_octets(kind, line, part(image, 0, standing), part(space, 0, n));
+    standing
 }
 
-fn answer_words(line: &[u8], image: &[u8], space: &mut [u8]) {
-    let kind = word(line, 0);
-    let spaces = space_count(line);
-    if spaces == 1 {
-        answer_octets(kind, word(line, 1), space);
-        return;
-    }
-    if spaces == 2 {
-        answer_three(kind, line, space);
-        return;
-    }
-    if spaces == 3 {
-        answer_four(kind, line, image, space);
-        return;
-    }
-    if spaces == 9 {
-        answer_clauses(kind, line, space);
-        return;
-    }
-    say_unknown();
-}
-
-// Whether a line brings an image.
-fn is_table(line: &[u8]) -> bool {
-    if !same_octets(word(line, 0), b"table") {
-        return false;
-    }
-    if space_count(line) != 1 {
-        return false;
-    }
-    is_octets(word(line, 1))
-}
-
-// Answers a line, which comes without its LF, over the image that stands: how many octets of it stand for the next line.
-// An empty line and one that begins with # have no answer.
+// Answers a line, which comes without its LF, over the image that stands. An empty line and one that begins with # have no answer.
 pub fn answer_line(line: &[u8], image: &mut [u8], standing: usize, space: &mut [u8]) -> usize {
     if line.len() == 0 {
         return standing;
     }
-    if LONGEST < line.len() {
-        say_unknown();
+    if (line[0] == b'#') & (line.len() <= LONGEST) {
         return standing;
     }
-    if line[0] == b'#' {
-        return standing;
-    }
-    if is_table(line) {
-        return answer_table(word(line, 1), image);
-    }
-    answer_words(line, part(image, 0, standing), space);
-    standing
+    let now = answer_kind(kind_of(line), line, image, standing, space);
+    say(b"\n");
+    now
 }

@@ -1,9 +1,8 @@
 // `filter` and `values` lines: a filter is taken apart, and its values are judged.
-use console::digits::decode;
+use crate::words::say_numbers;
 use console::say::say;
 use console::say::say_bits;
 use console::say::say_hex;
-use console::say::say_number;
 use filter::request::CLAUSE_COUNT;
 use filter::request::Clause;
 use filter::request::Request;
@@ -36,21 +35,14 @@ fn say_request(filter: &[u8], request: Request) {
 }
 
 // The clauses of a refused filter are all absent.
-fn say_clauses(filter: &[u8], taken: Taken) {
+pub fn answer_filter(filter: &[u8]) {
+    let taken = take_apart(filter);
+    let numbers = [taken_number(taken) as u64];
+    say_numbers(b"filter", &numbers);
     match taken {
         Taken::Request(request) => say_request(filter, request),
         Taken::Refused(_) => say(b" . . . . . . . ."),
     }
-}
-
-pub fn answer_filter(text: &[u8], space: &mut [u8]) {
-    let n = decode(text, space);
-    let filter = part(space, 0, n);
-    let taken = take_apart(filter);
-    say(b"filter ");
-    say_number(taken_number(taken) as u64);
-    say_clauses(filter, taken);
-    say(b"\n");
 }
 
 // A filter taken apart, and its values judged.
@@ -61,12 +53,10 @@ fn judged(filter: &[u8]) -> Judged {
     }
 }
 
-pub fn answer_values(text: &[u8], space: &mut [u8]) {
-    let n = decode(text, space);
-    let answer = judged(part(space, 0, n));
-    say(b"values ");
-    say_number(judged_number(answer) as u64);
+pub fn answer_values(filter: &[u8]) {
+    let answer = judged(filter);
+    let numbers = [judged_number(answer) as u64];
+    say_numbers(b"values", &numbers);
     say(b" ");
     say_bits(judged_version(answer));
-    say(b"\n");
 }

@@ -3,7 +3,6 @@ mod answer;
 mod buffer;
 mod filter_lines;
 mod input;
-mod parse;
 mod ping_lines;
 mod read_lines;
 mod walk_lines;

@@ -4,15 +4,13 @@ ghost use Prim.Native.Nat.{_+_};
 ghost use lib.Dec.{leb};
 ghost use lib.ListN.{length};
 ghost use Rattle.vectors.specs.Internal.Walk.{StepWithin};
-use crate::parse::is_octets;
-use crate::parse::word;
+use crate::words::say_numbers;
 use crate::words::say_unknown;
+use crate::words::word;
 use console::digits::Decimal;
 use console::digits::decimal_of;
-use console::digits::decode;
 use console::say::say;
 use console::say::say_hex;
-use console::say::say_number;
 use octets::part::part;
 use reader_names::look::Look;
 use reader_names::look::look_at;
@@ -114,26 +112,16 @@ fn say_walked(reply: &[u8], start: usize) {
     match walk_from(reply, start) {
         Found::Nothing => say(b"walk none"),
         Found::Name { pointers, labels } => {
-            say(b"walk ");
-            say_number(pointers);
-            say(b" ");
-            say_number(labels);
+            let numbers = [pointers, labels];
+            say_numbers(b"walk", &numbers);
             say_labels(reply, start);
         }
     }
-    say(b"\n");
 }
 
-pub fn answer_walk(line: &[u8], space: &mut [u8]) {
-    let text = word(line, 2);
-    if !is_octets(text) {
-        say_unknown();
-        return;
+pub fn answer_walk(line: &[u8], reply: &[u8]) {
+    match decimal_of(word(line, 1)) {
+        Decimal::Bad => say_unknown(),
+        Decimal::Value(start) => say_walked(reply, start as usize),
     }
-    let Decimal::Value(start) = decimal_of(word(line, 1)) else {
-        say_unknown();
-        return;
-    };
-    let n = decode(text, space);
-    say_walked(part(space, 0, n), start as usize);
 }

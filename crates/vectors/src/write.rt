@@ -2,14 +2,13 @@
 use crate::buffer::Room;
 use crate::buffer::filled;
 use crate::buffer::room_of;
-use crate::parse::is_clause;
-use crate::parse::word;
-use crate::parse::word_start;
+use crate::words::say_numbers;
 use crate::words::say_octets;
 use crate::words::say_unknown;
+use crate::words::word;
+use console::digits::all_hex_digits;
 use console::digits::decode;
-use console::say::say;
-use console::say::say_number;
+use console::field::field_start;
 use filter::request::CLAUSE_COUNT;
 use filter::request::Clause;
 use filter::request::Request;
@@ -19,91 +18,74 @@ use filter_write::write::Written;
 use filter_write::write::write_filter;
 use filter_write::write::written_length;
 use filter_write::write::written_number;
+use octets::part::part;
+use octets::text::same_octets;
 
-// The words of the clauses: the first, and the one after the last.
+// The word of the first clause.
 const FIRST_CLAUSE: usize = 2;
 
-const CLAUSES_END: usize = 10;
-
-// The words after the room stand for clauses.
-fn has_clauses(line: &[u8]) -> bool {
-    let mut number = FIRST_CLAUSE;
-    while number < CLAUSES_END {
-        if !is_clause(word(line, number)) {
-            return false;
-        }
-        number += 1;
-    }
-    true
+enum ClauseWord {
+    Bad,
+    Clause(Clause),
 }
 
-// Puts a clause's octets into the source where its word stands in the line: they take half as much room, so no two meet.
-fn copy_clause(line: &[u8], number: usize, source: &mut [u8]) {
-    let start = word_start(line, number);
+enum RequestWords {
+    Bad,
+    Request(Request),
+}
+
+// What a word stands for: `.` for an absent clause, else `=` and two digits for each octet of one. Its octets go into the source where the word stands
+// in the line: they take half as much room, so no two meet.
+fn clause_in(line: &[u8], number: usize, source: &mut [u8]) -> ClauseWord {
+    let start = field_start(line, b' ', number);
     let text = word(line, number);
-    if text.len() == 0 {
-        return;
+    if same_octets(text, b".") {
+        return ClauseWord::Clause(Clause::Absent);
+    }
+    let digits = part(text, 1, text.len());
+    if !same_octets(part(text, 0, 1), b"=") | (digits.len() % 2 != 0) | !all_hex_digits(digits) {
+        return ClauseWord::Bad;
     }
     if source.len() < start {
-        return;
+        return ClauseWord::Bad;
     }
-    decode(&text[1..], &mut source[start..]);
-}
-
-fn copy_clauses(line: &[u8], source: &mut [u8]) {
-    let mut number = FIRST_CLAUSE;
-    while number < CLAUSES_END {
-        copy_clause(line, number, source);
-        number += 1;
-    }
-}
-
-fn clause_at(line: &[u8], number: usize) -> Clause {
-    let text = word(line, number);
-    if text.len() == 0 {
-        return Clause::Absent;
-    }
-    if text[0] == b'.' {
-        return Clause::Absent;
-    }
-    Clause::Present {
-        start: word_start(line, number),
-        len: text.len() / 2,
-    }
+    let len = decode(digits, &mut source[start..]);
+    ClauseWord::Clause(Clause::Present { start, len })
 }
 
 // The clauses of a line, in document 01's order.
-fn request_of(line: &[u8]) -> Request {
+fn request_in(line: &[u8], source: &mut [u8]) -> RequestWords {
     let mut request = no_clauses();
     let mut i = 0;
     while i < CLAUSE_COUNT {
-        request = request.with(clause_name_at(i), clause_at(line, FIRST_CLAUSE + i));
+        let ClauseWord::Clause(clause) = clause_in(line, FIRST_CLAUSE + i, source) else {
+            return RequestWords::Bad;
+        };
+        request = request.with(clause_name_at(i), clause);
         i += 1;
     }
-    request
+    RequestWords::Request(request)
 }
 
-fn write_into(line: &[u8], source: &[u8], out: &mut [u8]) {
-    let written = write_filter(source, request_of(line), out);
-    say(b"write ");
-    say_number(written_number(written) as u64);
-    say(b" ");
-    say_number(written_length(written) as u64);
-    say(b" ");
+fn write_into(source: &[u8], request: Request, out: &mut [u8]) {
+    let written = write_filter(source, request, out);
+    let numbers = [
+        written_number(written) as u64,
+        written_length(written) as u64,
+    ];
+    say_numbers(b"write", &numbers);
     say_octets(out);
-    say(b"\n");
 }
 
 pub fn answer_write(line: &[u8], space: &mut [u8]) {
-    if !has_clauses(line) {
-        say_unknown();
-        return;
-    }
     let Room::Octets(room) = room_of(word(line, 1)) else {
         say_unknown();
         return;
     };
-    copy_clauses(line, space);
+    let RequestWords::Request(request) = request_in(line, space) else {
+        say_unknown();
+        return;
+    };
     let mut out = filled();
-    write_into(line, space, &mut out[..room]);
+    write_into(space, request, &mut out[..room]);
 }

@@ -18,7 +18,7 @@ use Rattle.table.specs.Table.{Table}
 use Rattle.table.specs.declared.record.RecordKind.the-variants as kind
 use Rattle.table_find.specs.declared.search.Found.{Found}
 use Rattle.table_find.specs.declared.search.Found.the-variants.{At, Nothing}
-use Rattle.table_find.specs.Find.{contextByGuid, contextByDnsName}
+use Rattle.table_lookup.specs.Lookup.{contextByGuid, contextByDnsName}
 use Rattle.table_find.specs.Internal.Found.{LiesIn, contextAt}
 use Rattle.choose_context.specs.declared.context.Asked.{Asked}
 use Rattle.choose.specs.Judge.{contextFor, contextUsed, orWhole, contextIn}

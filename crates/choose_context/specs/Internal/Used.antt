@@ -16,7 +16,8 @@ use Rattle.table.specs.Context.{Context, contextOf, contextFormat}
 use Rattle.table.specs.Table.{Table}
 use Rattle.table_find.specs.declared.search.Found.{Found}
 use Rattle.table_find.specs.declared.search.Found.the-variants.{At, Nothing}
-use Rattle.table_find.specs.Find.{contextByGuid, contextByDnsName, contextBySid, holdsSid, defaultContext}
+use Rattle.table_find.specs.Find.{holdsSid}
+use Rattle.table_lookup.specs.Lookup.{contextByGuid, contextByDnsName, contextBySid, defaultContext}
 use Rattle.choose_context.specs.declared.context.Asked.{Asked}
 use Rattle.choose_context.specs.declared.context.Asked.the-variants as asked
 use Rattle.choose_context.specs.declared.context.ContextUsed.{ContextUsed}

@@ -14,7 +14,7 @@ use Rattle.table.specs.Site.{Site}
 use Rattle.table.specs.Table.{Table}
 use Rattle.table_find.specs.declared.search.Found.{Found}
 use Rattle.table_find.specs.declared.search.Found.the-variants.{At, Nothing}
-use Rattle.table_find.specs.Find.{siteByNumber}
+use Rattle.table_lookup.specs.Lookup.{siteByNumber}
 
 -- a short stretch whose octets are a text
 pub record Lends (table request : List ℕ) (s : Stretch) (text : List ℕ) : Type 0 where

@@ -8,7 +8,7 @@ use Rattle.octets.specs.Number.{has}
 use Rattle.table.specs.Bits.{roleLevel2008}
 use Rattle.table.specs.Site.{Site}
 use Rattle.table.specs.Table.{Table}
-use Rattle.table_find.specs.Find.{siteIfAny}
+use Rattle.table_lookup.specs.Lookup.{siteIfAny}
 use Rattle.choose.specs.Choose.{nextSite}
 
 module _ (t : Table) (v : ℕ) where

@@ -1,8 +1,9 @@
 -- Demand 1 is proved: each definition names the reasons for which it refuses, and what follows it names its own.
 use mathlib.Core.Path.{_≡_, refl, sym, ap, _∙_, subst}
-use mathlib.Core.List.{List}
+use mathlib.Core.List.{List, [], _∷_}
 use mathlib.Core.Option.{Option, none, some}
-use Prim.Native.Nat.{ℕ}
+use Prim.Native.Nat.{ℕ, _<_}
+use native.Mathlib.Omega.{arith}
 use lib.ListN.{length, take}
 use Rattle.answers.specs.declared.Refusal.{Refusal}
 use Rattle.answers.specs.declared.Refusal.the-variants.{ImageLength, BlockCheck, BlockLayout, TableWhole}
@@ -43,7 +44,8 @@ use Rattle.reader_text.specs.Text.{nameText, textLengthAs, textLength, textNumb
 use Rattle.table.specs.declared.Caller.{Caller}
 use Rattle.table.specs.Context.{Context}
 use Rattle.table.specs.Table.{Table}
-use Rattle.table_check.specs.Check.{checkOf}
+use Rattle.table_check.specs.declared.check.Check.{Check}
+use Rattle.table_check.specs.Check.{grow, grown, checkOf}
 use Rattle.table_whole.specs.declared.judge.Judgement.{Judgement}
 use Rattle.table_whole.specs.declared.judge.Judgement.the-variants as judgement
 use Rattle.table_whole.specs.Judgement.{tableIn, judgedAs, judgementNumber}
@@ -126,41 +128,50 @@ number-known ReplyText = refl
 number-known ReplyFixed = refl
 number-known ReplyLeftOver = refl
 
+-- two sums of 16 bits each
+abbrev Sums : Check → Type 0
+Sums c = (c .a < 65536) × (c .b < 65536)
+
+sums-grown : (c : Check) (octets : List ℕ) → Sums c → Sums (grown c octets)
+unfolding grown
+sums-grown c [] h = h
+sums-grown c (x ∷ xs) h = sums-grown (grow c x) xs (omega arith, omega arith)
+
 pub demand-1 : Demand1
-unfolding any nameText
+unfolding any nameText checkOf
 demand-1 =
     record {
-      «check_of» = λ octets. (checkOf octets, refl);
+      «check_of» = λ octets c p. let s = subst Sums (sym p) (sums-grown (record { a = 1; b = 0 }) octets (omega arith, omega arith)) in (p, s .0, s .1);
       judge =
           λ image j r p e.
           subst (λ (x : Judgement). ForImage (judgementNumber x)) (sym e) (
-          only-returned judgedAs judgement.Refused (λ q r h. cc) (λ a r h. cc) (By ForImage) Any (tableIn image) (table-only (By ForImage) refl refl refl refl image) j r p e .0);
+          only-returned judgedAs judgement.Refused (λ q r h. cc) (λ a r h. cc) (By ForImage) Any (tableIn image) (table-only (By ForImage) refl refl refl refl image) j r (p .same) e .0);
       «take_apart» =
           λ filter t r p e.
           subst (λ (x : Taken). ForFilter (takenNumber x)) (sym e) (
-          only-returned takenAs taken.Refused (λ q r h. cc) (λ a r h. cc) (By ForFilter) Any (requestIn filter) (request-only (By ForFilter) refl refl refl refl filter) t r p e .0);
+          only-returned takenAs taken.Refused (λ q r h. cc) (λ a r h. cc) (By ForFilter) Any (requestIn filter) (request-only (By ForFilter) refl refl refl refl filter) t r (p .same) e .0);
       «judge_values» =
           λ filter request j r p e.
           subst (λ (x : Judged). ForValues (judgedNumber x)) (sym e) (
-          only-returned judgedValues judged.Refused (λ q r h. cc) (λ a r h. cc) (By ForValues) Any (pingIn filter request) (ping-only (By ForValues) refl filter request) j r p e .0);
+          only-returned judgedValues judged.Refused (λ q r h. cc) (λ a r h. cc) (By ForValues) Any (pingIn filter request) (ping-only (By ForValues) refl filter request) j r (p .same) e .0);
       «write_filter» =
           λ source request before after w r p e.
           let t : Try (List ℕ) = filterFor source request (length before) in
-          let o = only-returned writtenAs written.Refused (λ q r h. cc) (λ a r h. cc) (By ForWriting) Any t (filter-only (By ForWriting) refl refl refl source request (length before)) w r (p .returned) e in
+          let o = only-returned writtenAs written.Refused (λ q r h. cc) (λ a r h. cc) (By ForWriting) Any t (filter-only (By ForWriting) refl refl refl source request (length before)) w r (p .returned .same) e in
           (subst (λ (x : Written). ForWriting (writtenNumber x)) (sym e) (o .0), ap writtenLength e, p .left ∙ ap (λ (x : Try (List ℕ)). over (writtenOctets x) before) (o .1) ∙ over-none before);
       «answer_ping» =
           λ image caller filter before after a r p e.
           let t : Try Outcome = answerTo image caller filter (length before) in
-          let o = only-returned answerAs answer.Refused (λ q r h. cc) (λ a r h. cc) (By ForPing) Any t (answer-only image caller filter (length before)) a r (p .returned) e in
+          let o = only-returned answerAs answer.Refused (λ q r h. cc) (λ a r h. cc) (By ForPing) Any t (answer-only image caller filter (length before)) a r (p .returned .same) e in
           (subst (λ (x : Answer). ForPing (answerNumber x)) (sym e) (o .0), ap answerLength e, ap answerContext e, ap answerForm e, p .left ∙ ap (λ (x : Try Outcome). over (octetsWritten x) before) (o .1) ∙ over-none before);
       «read_reply» =
           λ reply form v x r p e.
-          let o = only-returned (readingAs reply) reading.Refused (λ q r h. cc) (λ a r h. cc) (By ForReply) (λ f. formRead f ≡ form) (readIn form v reply) (reading-only (By ForReply) refl refl refl refl refl form v reply) x r p e in
+          let o = only-returned (readingAs reply) reading.Refused (λ q r h. cc) (λ a r h. cc) (By ForReply) (λ f. formRead f ≡ form) (readIn form v reply) (reading-only (By ForReply) refl refl refl refl refl form v reply) x r (p .same) e in
           (subst (λ (x : Reading). ForReply (readingNumber x)) (sym e) (o .0), ap readingLength e, ap readingFields e);
       «name_text» =
           λ reply start t r p e.
           let o = only-returned textLengthAs text.Refused (λ q r h. cc) (λ a r h. cc) (By ForName) Any (nameText reply start)
-          (only-then (By ForName) Any (readName reply start) _ (name-only (By ForName) refl refl reply start) (λ f. tt)) (t .len) r (ap (λ (x : NameText). x .len) p) e in
+          (only-then (By ForName) Any (readName reply start) _ (name-only (By ForName) refl refl reply start) (λ f. tt)) (t .len) r (ap (λ (x : NameText). x .len) (p .same)) e in
           (subst (λ (x : TextLength). ForName (textNumber x)) (sym e) (o .0), ap textLength e, ap (λ (l : TextLength). take (textLength l) (t .octets)) e);
       «number_of» = λ r n p. subst ForAny (sym p) (number-known r);
     }

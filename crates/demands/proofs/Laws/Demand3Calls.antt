@@ -1,4 +1,4 @@
--- Demand 3 of the two calls follows from demand 3: the reading has the names that the definition gives, in their places.
+-- Demand 3 is proved: the reading has the names that the definition gives, in their places.
 use mathlib.Core.Path.{_≡_, refl, sym, ap, _∙_, subst}
 use mathlib.Core.List.{List, [], _∷_}
 use mathlib.Core.Option.{Option, none, some, Option·map}
@@ -13,20 +13,22 @@ use Rattle.reader.specs.Field.{Read}
 use Rattle.reader.specs.Name.{readName}
 use Rattle.reader.specs.Reader.{NameRead, joinedName, Fields, nt40, response, ex, readIn}
 use Rattle.reader_forms.specs.Reading.{noName, nameIn, nextSiteAs, fieldsAs, readingAs}
+use Rattle.reader_forms.specs.Settled.{namesRead, siteRead, lastRead}
 use Rattle.reader_forms.proofs.Laws.Names.{SiteHas, AllHave, all-have}
 use Rattle.reader_names.specs.declared.NameAt.{NameAt}
 use Rattle.reader_names.specs.Name.{nameAs}
 use Rattle.reader_text.specs.declared.NameText.{NameText}
 use Rattle.reader_text.specs.Text.{nameText, nameTextAs, textGiven, NameTextPromise}
 use Rattle.reader_text.proofs.Laws.Text.{given-text}
-use Rattle.reply.specs.Reply.{Reply}
-use Rattle.demands.specs.Demand3.{namesOf, lastOf, namesIn, lastIn, NameGiven, WhereWritten, NamesWalked}
-use Rattle.demands.specs.Demand3Calls.{namesRead, siteRead, lastRead, NameReported, ReadsWalked, Demand3Calls}
+use Rattle.reply.specs.Reply.{Reply, octetsIn}
+use Rattle.demands.specs.Demand3.{namesOf, lastOf, NameReported, WhereWritten, ReadsWalked, Demand3Over, Demand3Calls}
+use Rattle.demands.specs.Derivation.{ReplyIs}
 use Rattle.demands.specs.Places.{nameStart, lastStart}
-use Rattle.demands.proofs.Laws.Demand3.{demand-3}
-use Rattle.demands.proofs.Laws.Derivation.{every-reply}
+use Rattle.demands.proofs.Laws.Demand3.{namesIn, lastIn, NameGiven, NamesWalked, names-walked}
+use Rattle.demands.proofs.Laws.Derivation.{every-answer, every-reply}
 use Rattle.demands.proofs.Laws.Only.{Any, only-good}
 use Rattle.demands.proofs.Laws.Reading.{formRead, reading-only}
+use Rattle.demands.proofs.Laws.Sound.{every-sound}
 
 -- names at the first n places, each as it is known by its place
 abbrev firstPlaces : (ℕ → NameAt) → ℕ → List NameAt
@@ -68,7 +70,7 @@ module _ (s : List ℕ) where
   name-spelt at f e = rw e
 
   pub spelt-given : (start : ℕ) (text : List ℕ) → nameText s start ≡ good text → (t : NameText) → NameTextPromise s start t → t ≡ nameTextAs (good text)
-  spelt-given start text e t p = p ∙ ap nameTextAs e
+  spelt-given start text e t p = p .same ∙ ap nameTextAs e
 
   names-spelt : (f : Fields) → AllHave s Spelt name-spelt f → (k : ℕ) → k < length (namesRead (fieldsAs f)) → Spelt (getD (namesIn f) k noName)
   names-spelt (nt40 f) a k h = absurd (omega arith)
@@ -106,7 +108,7 @@ reading-walked form v r s w given promise =
     let many : length (namesRead (fieldsAs f)) ≡ length (namesOf form r) = subst (λ (x : Form). length (namesRead (fieldsAs f)) ≡ length (namesOf x r)) formed (names-many f r) in
     record {
       read = fieldsAs f;
-      accepted = promise ∙ ap (readingAs s) (w .accepted);
+      accepted = promise .same ∙ ap (readingAs s) (w .accepted);
       many = many;
       names =
           λ k h.
@@ -115,5 +117,12 @@ reading-walked form v r s w given promise =
       last = rw (last-there f) (last-reported s (lastStart v s) (lastOf form r) (lastIn f) (w .last) (last-spelt s f spelt));
     }
 
+-- a reply whose octets are read whole
+abbrev ReadsAll : Form → ℕ → Reply → List ℕ → Type 0
+ReadsAll form v r s = ReadsWalked form v r s (length s)
+
+pub demand-3-over : Demand3Over
+demand-3-over = every-sound ReadsAll (λ form v r k. reading-walked form v r (octetsIn form r) (names-walked form v r k))
+
 pub demand-3-calls : Demand3Calls
-demand-3-calls = every-reply NamesWalked ReadsWalked demand-3 reading-walked
+demand-3-calls = every-reply ReadsAll ReadsWalked (every-answer (ReplyIs ReadsAll) demand-3-over) (λ form v r s h. h)

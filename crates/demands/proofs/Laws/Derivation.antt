@@ -52,11 +52,11 @@ every-reply P Q every weaken image caller filter before after a len context form
 
     by : (o : Try Outcome) → answerTo image caller filter (length before) ≡ o → Due
     by (refused x) e =
-        let f : answer.Refused x ≡ answer.Answered len context form = sym (ap answerAs e) ∙ sym (promise .returned) ∙ answered in
+        let f : answer.Refused x ≡ answer.Answered len context form = sym (ap answerAs e) ∙ sym (promise .returned .same) ∙ answered in
         let z : _≡_ {A = ℕ} 0 1 = cc in
         absurd (omega arith)
     by (good o) e =
-        let f : answer.Answered (length (o .octets)) (o .context) (o .form) ≡ answer.Answered len context form = sym (ap answerAs e) ∙ sym (promise .returned) ∙ answered in
+        let f : answer.Answered (length (o .octets)) (o .context) (o .form) ≡ answer.Answered len context form = sym (ap answerAs e) ∙ sym (promise .returned .same) ∙ answered in
         let l : length (o .octets) ≡ len = cc in
         let c : o .context ≡ context = cc in
         let g : o .form ≡ form = cc in

@@ -14,19 +14,19 @@ use Rattle.reader.specs.Field.{Read}
 use Rattle.reader.specs.Name.{readName}
 use Rattle.reader.specs.Reader as reader
 use Rattle.reader.specs.Reader.{NameRead, joinedName, readIn}
-use Rattle.reader.proofs.Laws.Name.{reader-walks}
+use Rattle.reader.proofs.Laws.Name.{reader-walks, reader-accepts}
 use Rattle.reader_forms.specs.declared.reading.Fields.{Fields}
 use Rattle.reader_forms.specs.declared.reading.Reading.the-variants as reading
 use Rattle.reader_forms.specs.Reading.{noName, fieldsAs, readingAs}
+use Rattle.reader_forms.specs.Settled.{namesRead, lastRead}
 use Rattle.reader_forms.proofs.Laws.Names.{SiteHas, AllHave, all-have}
 use Rattle.reader_names.specs.declared.NameAt.{NameAt}
 use Rattle.reader_names.specs.Name.{nameAs}
 use Rattle.reader_text.specs.declared.NameText.{NameText}
 use Rattle.reader_text.specs.Text.{nameTextAs, textGiven}
 use Rattle.reader_text.proofs.Laws.Text.{given-text}
-use Rattle.demands.specs.Demand3.{namesIn, lastIn}
-use Rattle.demands.specs.Demand3Calls.{namesRead, lastRead}
-use Rattle.demands.specs.ReadingWalks.{NameIsWalk, ReadingWalks}
+use Rattle.demands.specs.Demand3.{NameIsWalk, ReadingWalks, WalkTold}
+use Rattle.demands.proofs.Laws.Demand3.{namesIn, lastIn}
 use Rattle.demands.proofs.Laws.Demand3Calls.{names-there, last-there, name-spelt, spelt-given}
 
 module _ (s : List ℕ) where
@@ -71,4 +71,9 @@ module _ (s : List ℕ) where
       ((λ k h. rw (names-there f k h) (names-walk f a k h)), (λ n l. last-walks f a n (sym (last-there f) ∙ l)))
 
 pub reading-walks : ReadingWalks
-reading-walks s form v len read promise = walks s form v len read (readIn form v s) refl promise
+reading-walks s form v len read promise = walks s form v len read (readIn form v s) refl (promise .same)
+
+pub walk-told : WalkTold
+unfolding name-is-walk
+walk-told s at c next ls t w room few p =
+    name-is-walk s at (record { value = record { labels = ls; pointers = c }; next = next }) (reader-accepts s at c next ls w room few) .told t p

@@ -16,8 +16,11 @@ use Rattle.reader.proofs.Laws.Field.{Left, left-next}
 use Rattle.reader.proofs.Laws.Reader as reading
 use Rattle.reader.proofs.Laws.Reader.{read-nt40, texts-given, addressGiven, lastGiven}
 use Rattle.reply.specs.Reply.{Reply, nt40Octets, responseOctets, exOctets, octetsIn}
+use Rattle.unicode.specs.Utf16.{utf16}
+use Rattle.unicode.proofs.Laws.OneText.{one-text}
+use Rattle.unicode.proofs.Laws.Utf16.{Spoken}
 use Rattle.demands.specs.Derivation.{ReplyIs}
-use Rattle.demands.specs.ReplyLaw.{stretchOf, GivenBack, ReadBack, ReplyLawOver, ReplyLaw, addressWritten, textOf, versionWritten}
+use Rattle.demands.specs.ReplyLaw.{stretchOf, TextBack, GivenBack, ReadBack, ReplyLawOver, ReplyLaw, addressWritten, textOf, versionWritten}
 use Rattle.demands.proofs.Laws.Derivation.{every-answer}
 use Rattle.demands.proofs.Laws.Forms.Ex.{ex-row, ex-rest, ex-guid, ex-read, last-there}
 use Rattle.demands.proofs.Laws.Forms.{stretch-is}
@@ -25,12 +28,22 @@ use Rattle.demands.proofs.Laws.Forms.Nt40.{nt40-opened}
 use Rattle.demands.proofs.Laws.Forms.Response.{response-opened, response-row, response-read, response-guid, response-ipv4}
 use Rattle.demands.proofs.Laws.Sound.{Sound, every-sound}
 
+-- a text that UTF-16 can say is given back by its octets
+text-back : {text octets : List ℕ} → Spoken text → octets ≡ utf16 text → TextBack text octets
+text-back {text} k e = record { units = e; utf8 = k .utf8; only = λ other u f. one-text other text u (k .utf8) (sym f ∙ e) }
+
 nt40-back : (v : ℕ) (r : Reply) → Sound Nt40 v r → GivenBack Nt40 r (nt40Octets r) (readIn Nt40 v (nt40Octets r))
 nt40-back v r k =
     let o = nt40-opened v r k in (
       _,
       read-nt40 (nt40Octets r) (r .opcode) (r .server) (r .user) (r .netbios) o,
-      record { opcode = refl; server = o .serverIs; user = o .userIs; domain = o .domainIs; version = refl },
+      record {
+        opcode = refl;
+        server = text-back (k .serverSpoken) (o .serverIs);
+        user = text-back (k .userSpoken) (o .userIs);
+        domain = text-back (k .netbiosSpoken) (o .domainIs);
+        version = refl;
+      },
     )
 
 response-back : (v : ℕ) (r : Reply) → Sound Response v r → GivenBack Response r (responseOctets r) (readIn Response v (responseOctets r))
@@ -41,9 +54,9 @@ response-back v r k =
       response-read v r k,
       record {
         opcode = refl;
-        server = o .serverIs;
-        user = o .userIs;
-        domain = o .domainIs;
+        server = text-back (k .serverSpoken) (o .serverIs);
+        user = text-back (k .userSpoken) (o .userIs);
+        domain = text-back (k .netbiosSpoken) (o .domainIs);
         guid = response-guid v r k;
         names = texts-given (row .row);
         ipv4 = response-ipv4 v r k;

@@ -39,7 +39,8 @@ use Rattle.table.specs.Site.{Site}
 use Rattle.table.specs.Subnet.{Subnet}
 use Rattle.table.specs.Countings.{sameSite}
 use Rattle.table.specs.Table.{Table}
-use Rattle.table_find.specs.Find.{contextsSearched, contextByGuid, contextByDnsName, contextBySid, holdsSid, contextByNumber, defaultContext, siteByNumber, siteIfAny, siteOfSubnet, siteFor, clientSite, subnetFor}
+use Rattle.table_find.specs.Find.{holdsSid}
+use Rattle.table_lookup.specs.Lookup.{contextByGuid, contextByDnsName, contextBySid, contextByNumber, defaultContext, siteByNumber, siteIfAny, siteOfSubnet, siteFor, clientSite, subnetFor}
 use Rattle.table_whole.proofs.Laws.Judgement.{GoodContext, GoodSite, GoodTable, judged-good}
 use Rattle.demands.specs.Derivation.{AcceptedTable, GoodPing, Derivation, said, ReplyIs, EveryAnswerOver}
 use Rattle.demands.proofs.Laws.Derivation.{derived}
@@ -47,7 +48,7 @@ use Rattle.demands.proofs.Laws.Derivation.{derived}
 -- ---- the context used is one of the table's
 
 context-found : (t : Table) (p : Ping) (c : Context) → GoodTable t → contextUsed t p ≡ some c → GoodContext c
-unfolding contextUsed contextByGuid contextByDnsName defaultContext contextByNumber contextsSearched
+unfolding contextUsed contextByGuid contextByDnsName defaultContext contextByNumber
 context-found t p c g e = go (p .domainGuid) (p .dnsDomain) e
   where
     go : (guid dns : Option (List ℕ)) → contextFor t guid dns ≡ some c → GoodContext c

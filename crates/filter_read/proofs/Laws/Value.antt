@@ -1,13 +1,13 @@
 -- What the answer of judging a request's values says of the ping, and that of taking a filter apart of the request.
-use mathlib.Core.Path.{_≡_, refl, sym, ap, subst}
+use mathlib.Core.Path.{_≡_, refl, sym, ap, subst, _∙_}
 use mathlib.Core.Bool.{Bool, true, false, not, _||_}
 use mathlib.Core.List.{List}
-use mathlib.Core.Option.{Option}
+use mathlib.Core.Option.{Option, Option·map, Option·getD}
 use Prim.Native.Nat.{ℕ}
 use native.Mathlib.Omega.{arith}
 use Rattle.answers.specs.declared.Refusal.{Refusal}
 use Rattle.answers.specs.declared.Refusal.the-variants.{ClauseValue}
-use Rattle.answers.specs.Try.{Try, refused, good, refusedIf}
+use Rattle.answers.specs.Try.{Try, refused, good, refusedIf, numberOf, valueOf}
 use Rattle.answers.proofs.Laws.Try.{refusedIf-good, good-same, good-then}
 use Rattle.octets.specs.Lists.{holds}
 use Rattle.octets.proofs.Laws.Lists.{neither-right}
@@ -15,9 +15,23 @@ use Rattle.unicode.specs.UserName.{isUserName}
 use Rattle.filter.specs.declared.request.Request.{Request}
 use Rattle.filter.specs.Request.{octetsOf}
 use Rattle.filter_read.specs.declared.read.Taken.the-variants as taken
+use Rattle.filter_read.specs.declared.value.Judged.{Judged}
 use Rattle.filter_read.specs.declared.value.Judged.the-variants as judged
 use Rattle.filter_read.specs.Taken.{requestIn, takenAs}
-use Rattle.filter_read.specs.Value.{Ping, isNumber, wrongValue, versionAsked, pingOf, pingIn, pingFrom, judgedValues}
+use Rattle.filter_read.specs.Value.{Ping, isNumber, wrongValue, versionAsked, pingOf, pingIn, pingFrom, judgedValues, judgedNumber, judgedVersion, JudgeValuesPromise}
+
+pub judge-values-promised : (filter : List ℕ) (request : Request) (r : Judged) → r ≡ judgedValues (pingIn filter request) → JudgeValuesPromise filter request r
+judge-values-promised filter request r e =
+    let t : Try Ping = pingIn filter request in
+    record { same = e; numbered = ap judgedNumber e ∙ numbers t; given = ap judgedVersion e ∙ gives t }
+  where
+    numbers : (t : Try Ping) → judgedNumber (judgedValues t) ≡ numberOf t
+    numbers (refused x) = refl
+    numbers (good p) = refl
+
+    gives : (t : Try Ping) → judgedVersion (judgedValues t) ≡ Option·map (λ (p : Ping). p .version) (valueOf t)
+    gives (refused x) = refl
+    gives (good p) = refl
 
 -- a version: 9 found nothing, and the ping has that version
 pub version-judged : (s : List ℕ) (r : Request) (v : ℕ) → judged.Version v ≡ judgedValues (pingIn s r) → (wrongValue s r ≡ false) × (pingIn s r ≡ good (pingOf s r v))

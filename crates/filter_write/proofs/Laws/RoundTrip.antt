@@ -125,12 +125,12 @@ calls-round-trip source r before after w n t wrote laid answer took = by (filter
   where
     by : (o : Try (List ℕ)) → filterFor source r (length before) ≡ o → (q : Request) × (t ≡ taken.Request q) × SameClauses (take n after) q source r
     by (refused x) e =
-        let f : written.Refused x ≡ written.Length n = sym (ap writtenAs e) ∙ sym wrote ∙ answer in
+        let f : written.Refused x ≡ written.Length n = sym (ap writtenAs e) ∙ sym (wrote .same) ∙ answer in
         let z : _≡_ {A = ℕ} 0 1 = cc in
         absurd (omega arith)
     by (good octets) e =
-        let f : written.Length (length octets) ≡ written.Length n = sym (ap writtenAs e) ∙ sym wrote ∙ answer in
+        let f : written.Length (length octets) ≡ written.Length n = sym (ap writtenAs e) ∙ sym (wrote .same) ∙ answer in
         let l : length octets ≡ n = cc in
         let s : take n after ≡ octets = ap (take n) (laid ∙ ap (λ (x : Try (List ℕ)). over (writtenOctets x) before) e) ∙ over-front octets before n l in
         let g = round-trip source r (length before) octets e in
-        (g .0, took ∙ ap (λ (x : List ℕ). takenAs (requestIn x)) s ∙ ap takenAs (g .1), λ name. ap (λ (x : List ℕ). octetsOf x (clause (g .0) name)) s ∙ g .2 name)
+        (g .0, took .same ∙ ap (λ (x : List ℕ). takenAs (requestIn x)) s ∙ ap takenAs (g .1), λ name. ap (λ (x : List ℕ). octetsOf x (clause (g .0) name)) s ∙ g .2 name)

@@ -2,6 +2,7 @@
 use mathlib.Core.Path.{_≡_, refl, sym, ap, _∙_}
 use mathlib.Core.Bool.{Bool, true, false}
 use mathlib.Core.List.{List}
+use mathlib.Core.Option.{Option·map, Option·getD}
 use Prim.Native.Nat.{ℕ, _≤_, _<_}
 use borrow.Author.Tests.{lt-ltb, le-ltb}
 use lib.Dec.{ltb}
@@ -9,7 +10,7 @@ use lib.ListN.{length}
 use Rattle.answers.specs.declared.Form.{Form}
 use Rattle.answers.specs.declared.Refusal.{Refusal}
 use Rattle.answers.specs.declared.Refusal.the-variants.{UserLabelEmpty, NoRoom}
-use Rattle.answers.specs.Try.{Try, refused, good, refusedIf, _>>=_}
+use Rattle.answers.specs.Try.{Try, refused, good, refusedIf, _>>=_, numberOf, valueOf}
 use Rattle.choose.specs.Choose.{formOf, replyFor}
 use Rattle.choose.specs.Judge.{contextIn}
 use Rattle.filter_read.specs.Value.{Ping, pingFrom}
@@ -22,7 +23,7 @@ use Rattle.table.specs.Table.{Table}
 use Rattle.table_whole.specs.Judgement.{tableIn}
 use Rattle.locator.specs.declared.Answer.{Answer}
 use Rattle.locator.specs.declared.Answer.the-variants as answer
-use Rattle.locator.specs.Answer.{Outcome, wrongUser, replyTo, answerOver, answerTo, answerAs, octetsWritten}
+use Rattle.locator.specs.Answer.{Outcome, wrongUser, replyTo, answerOver, answerTo, answerAs, octetsWritten, answerNumber, answerLength, answerContext, answerForm, AnswerOf}
 
 -- a refusal, and the buffer as it was
 pub refusal-given : (a : Try Outcome) (x : Refusal) (d : List ℕ) → a ≡ refused x → (answer.Refused x ≡ answerAs a) × (d ≡ over (octetsWritten a) d)
@@ -77,3 +78,24 @@ module _ (image : List ℕ) (caller : Caller) (filter : List ℕ) (room : ℕ) w
 -- an answer carried over to what it is the answer of
 pub answer-of : (a b : Try Outcome) (r : Answer) (d e : List ℕ) → b ≡ a → (r ≡ answerAs a) × (e ≡ over (octetsWritten a) d) → (r ≡ answerAs b) × (e ≡ over (octetsWritten b) d)
 answer-of a b r d e q h = (h .0 ∙ ap answerAs (sym q), h .1 ∙ ap (λ (o : Try Outcome). over (octetsWritten o) d) (sym q))
+
+-- what is promised to be returned, by the enum, beside what is left
+pub answer-promised : {Left : Type 0} (o : Try Outcome) (r : Answer) → (r ≡ answerAs o) × Left → AnswerOf o r × Left
+answer-promised o r (e, left) =
+    (record { same = e; numbered = ap answerNumber e ∙ numbers o; sized = ap answerLength e ∙ sizes o; used = ap answerContext e ∙ uses o; formed = ap answerForm e ∙ forms o }, left)
+  where
+    numbers : (o : Try Outcome) → answerNumber (answerAs o) ≡ numberOf o
+    numbers (refused x) = refl
+    numbers (good a) = refl
+
+    sizes : (o : Try Outcome) → answerLength (answerAs o) ≡ length (octetsWritten o)
+    sizes (refused x) = refl
+    sizes (good a) = refl
+
+    uses : (o : Try Outcome) → answerContext (answerAs o) ≡ Option·getD (Option·map (λ (a : Outcome). a .context .0) (valueOf o)) 0
+    uses (refused x) = refl
+    uses (good a) = refl
+
+    forms : (o : Try Outcome) → answerForm (answerAs o) ≡ Option·map (λ (a : Outcome). a .form) (valueOf o)
+    forms (refused x) = refl
+    forms (good a) = refl

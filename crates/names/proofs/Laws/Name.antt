@@ -181,16 +181,6 @@ abbrev pub starts : List Tail → ℕ → List (List ℕ) → List ℕ
 starts earlier at [] = []
 starts earlier at (text ∷ texts) = let one = writeName earlier at text in at ∷ starts (earlier ++ one .tails) (at + length (one .octets)) texts
 
--- a name starts after the names before it
-pub start-after : (texts : List (List ℕ)) (earlier : List Tail) (at i : ℕ) → i < length texts → getD (starts earlier at texts) i 0 ≡ at + length (writeNames earlier at (take i texts) .octets)
-unfolding writeNames
-start-after [] earlier at i h = absurd (omega arith)
-start-after (text ∷ texts) earlier at zero h = omega arith
-start-after (text ∷ texts) earlier at (suc i) h =
-    let one : Writing = writeName earlier at text in
-    let r = start-after texts (earlier ++ one .tails) (at + length (one .octets)) i (omega arith) in
-    simp length-append (omega arith)
-
 -- from place k on: where names start, their texts, the pointers of each, and where the last field ends
 pub data Row (s : List ℕ) : ℕ → ℕ → List ℕ → List (List ℕ) → List ℕ → ℕ → Type 0 where
   stops : {k at : ℕ} → Row s k at [] [] [] at

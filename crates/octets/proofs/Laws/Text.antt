@@ -7,7 +7,7 @@ use native.Mathlib.Numerals.{add-one}
 use lib.Dec.{eqb, leb}
 use lib.ListN.{length, getD, drop, drop-of-length-le}
 use lib.Seq.{drop-cons}
-use borrow.Author.Tests.{eq-eqb, ne-eqb, eqb-true, leb-true, eqb-false}
+use borrow.Author.Tests.{eq-eqb, ne-eqb, eqb-true, leb-true, eqb-false, le-leb, lt-leb}
 use Rattle.octets.specs.Lists.{all}
 use Rattle.octets.specs.Text.{same, within, lower, sameFolded, allZero}
 use Rattle.octets.proofs.Laws.Lists.{both-left, both-right, true-not-false}
@@ -68,6 +68,16 @@ within-low low high n e = leb-true low n (both-left (leb low n) (leb n high) e)
 
 pub within-high : (low high n : ℕ) → within low high n ≡ true → n ≤ high
 within-high low high n e = leb-true n high (both-right (leb low n) (leb n high) e)
+
+pub within-range : (low high n : ℕ) → low ≤ n → n ≤ high → within low high n ≡ true
+within-range low high n h k = rw (le-leb low n h, le-leb n high k)
+
+pub without-range : (low high n : ℕ) → (low ≤ n → high < n) → within low high n ≡ false
+without-range low high n h = go (leb low n) refl
+  where
+    go : (b : Bool) → leb low n ≡ b → within low high n ≡ false
+    go true e = rw (e, lt-leb n high (h (leb-true low n e)))
+    go false e = rw e
 
 pub eqb-comm : (m n : ℕ) → eqb m n ≡ eqb n m
 eqb-comm m n = go (eqb n m) refl

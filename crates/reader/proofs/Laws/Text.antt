@@ -12,8 +12,8 @@ use Rattle.answers.specs.Try.{Try, refused, good, _>>=_}
 use Rattle.octets.proofs.Laws.Lists.{Every}
 use Rattle.octets.specs.Number.{little, littleOctets}
 use Rattle.unicode.proofs.Laws.Utf8.{Scalar}
-use Rattle.unicode.specs.Utf16.{pointOctets, pointsOctets, isHigh, isLow}
-use Rattle.unicode.proofs.Laws.Utf16.{highUnit, lowUnit, one-unit, two-units}
+use Rattle.unicode.specs.Utf16.{highUnit, lowUnit, pointOctets, pointsOctets, isHigh, isLow}
+use Rattle.unicode.proofs.Laws.Utf16.{one-unit, two-units}
 use Rattle.reader.specs.Field.{Read, readOctets}
 use Rattle.reader.proofs.Laws.Field.{Left, octets-here, left-after, left-next, left-length}
 use Rattle.reader.specs.declared.field.Stretch.{Stretch}

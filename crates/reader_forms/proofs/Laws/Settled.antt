@@ -1,7 +1,7 @@
 -- The two calls together give what document 01 says that reading gives: every name was read where it starts, and as many as the form has.
 use mathlib.Core.Path.{_≡_, refl, sym, ap, _∙_, subst}
 use mathlib.Core.List.{List, [], _∷_, map}
-use mathlib.Core.Option.{Option, none, some}
+use mathlib.Core.Option.{Option, none, some, Option·map}
 use Prim.Native.Nat.{ℕ, zero, suc, _+_, _<_}
 use native.Mathlib.Omega.{arith}
 use lib.ListN.{length, drop, getD}
@@ -16,12 +16,11 @@ use Rattle.reader.specs.Field.{Read}
 use Rattle.reader.specs.Name.{readName}
 use Rattle.reader.specs.Reader as reader
 use Rattle.reader.proofs.Laws.Name.{reader-walks}
-use Rattle.reader.specs.Reader.{NameRead, joinedName, readIn, readLength}
+use Rattle.reader.specs.Reader.{NameRead, joinedName, readIn}
 use Rattle.reader_names.specs.Name.{nameAs}
 use Rattle.reader_text.specs.Text.{nameText, textOctets, textGiven}
-use Rattle.reader_text.proofs.Laws.Text.{given-text}
-use Rattle.reader_forms.specs.Reading.{noName, addressAs, nextSiteAs, fieldsAs, readingAs, readingLength}
-use Rattle.reader_forms.specs.Settled.{nameFrom, addressFrom, nextSiteFrom, fieldsFrom, readFrom, ReadingSettled}
+use Rattle.reader_forms.specs.Reading.{noName, addressAs, nextSiteAs, fieldsAs, readingAs}
+use Rattle.reader_forms.specs.Settled.{siteRead, nameFrom, addressFrom, fieldsFrom, readFrom, ReadingSettled}
 use Rattle.reader_forms.proofs.Laws.Names.{SiteHas, AllHave, all-have}
 
 -- ---- a list as its elements one by one
@@ -61,7 +60,7 @@ module _ (s : List ℕ) (text : ℕ → List ℕ) (gives : (at : ℕ) → at < l
       map-length [] = refl
       map-length (x ∷ xs) = ap suc (map-length xs)
 
-  site-back : (site : Option NameRead) → SiteHas s Told name-told site → nextSiteFrom text (nextSiteAs site) ≡ site
+  site-back : (site : Option NameRead) → SiteHas s Told name-told site → Option·map (nameFrom text) (siteRead (nextSiteAs site)) ≡ site
   site-back none e = refl
   site-back (some n) e = ap some (name-back n e)
 
@@ -86,8 +85,8 @@ module _ (s : List ℕ) (text : ℕ → List ℕ) (gives : (at : ℕ) → at < l
             version = f .version;
           })
   fields-back (reader.ex f) t =
-      ap (λ (x : List NameRead). made x (addressFrom (addressAs (f .ipv4))) (nextSiteFrom text (nextSiteAs (f .nextSite)))) (places-back 8 (f .names) (t .0) (t .1))
-      ∙ ap (λ (x : Option Stretch). made (f .names) x (nextSiteFrom text (nextSiteAs (f .nextSite)))) (address-back (f .ipv4))
+      ap (λ (x : List NameRead). made x (addressFrom (addressAs (f .ipv4))) (Option·map (nameFrom text) (siteRead (nextSiteAs (f .nextSite))))) (places-back 8 (f .names) (t .0) (t .1))
+      ∙ ap (λ (x : Option Stretch). made (f .names) x (Option·map (nameFrom text) (siteRead (nextSiteAs (f .nextSite))))) (address-back (f .ipv4))
       ∙ ap (λ (x : Option NameRead). made (f .names) (f .ipv4) x) (site-back (f .nextSite) (t .2))
     where
       made : List NameRead → Option Stretch → Option NameRead → reader.Fields
@@ -97,13 +96,11 @@ module _ (s : List ℕ) (text : ℕ → List ℕ) (gives : (at : ℕ) → at < l
       address-back none = refl
       address-back (some x) = refl
 
-  reading-back : (form : Form) (v : ℕ) (t : Try reader.Fields) → readIn form v s ≡ t → (readFrom text (readingAs s t) ≡ t) × (readingLength (readingAs s t) ≡ readLength t s)
-  reading-back form v (refused r) e = (refl, refl)
-  reading-back form v (good f) e = (ap good (fields-back f (all-have s Told name-told form v f e)), refl)
+  reading-back : (form : Form) (v : ℕ) (t : Try reader.Fields) → readIn form v s ≡ t → readFrom text (readingAs s t) ≡ t
+  reading-back form v (refused r) e = refl
+  reading-back form v (good f) e = ap good (fields-back f (all-have s Told name-told form v f e))
 
 pub reading-settled : ReadingSettled
-reading-settled s form v r texts e gives =
+reading-settled s form v r texts promise gives =
     let text : ℕ → List ℕ = λ at. textGiven (texts at) in
-    let told : (at : ℕ) → at < length s → text at ≡ textOctets (nameText s at) = λ at h. ap textGiven (gives at h) ∙ given-text (nameText s at) in
-    let back = reading-back s text told form v (readIn form v s) refl in
-    (ap (readFrom text) e ∙ back .0, ap readingLength e ∙ back .1)
+    (ap (readFrom text) (promise .same) ∙ reading-back s text (λ at h. gives at h .given) form v (readIn form v s) refl, promise .sized)

@@ -1,12 +1,12 @@
 -- The text of a name, put down label by label while the name is read.
-use mathlib.Core.Path.{_≡_, refl, sym, ap, subst}
+use mathlib.Core.Path.{_≡_, refl, sym, ap, subst, _∙_}
 use mathlib.Core.List.{List, [], _∷_, _++_}
 use Prim.Native.Nat.{ℕ, _+_, _-_}
 use native.Mathlib.Omega.{arith}
 use lib.ListN.{length, replicate, length-replicate, drop}
 use lib.Seq.{take-append-seam}
 use Rattle.answers.specs.declared.Refusal.{Refusal}
-use Rattle.answers.specs.Try.{Try, refused, good, _>>=_}
+use Rattle.answers.specs.Try.{Try, refused, good, _>>=_, numberOf}
 use Rattle.lent.specs.Internal.OverAt.{overAt}
 use Rattle.lent.proofs.Laws.OverAt.{Laid, laid-none, laid-more, over-laid}
 use Rattle.names.specs.Walk.{labelAt, WalkedName}
@@ -14,9 +14,10 @@ use Rattle.octets.specs.Buffer.{over}
 use Rattle.octets.specs.Label.{joined}
 use Rattle.octets.proofs.Laws.Lists.{cut-length}
 use Rattle.reader.specs.Field.{Read}
+use Rattle.reader_text.specs.declared.NameText.{NameText}
 use Rattle.reader_text.specs.declared.TextLength.the-variants.{Octets, Refused}
 use Rattle.reader_names.specs.declared.step.NameStep.the-variants as step
-use Rattle.reader_text.specs.Text.{nameText, textOctets, nameTextAs, textGiven}
+use Rattle.reader_text.specs.Text.{nameText, textOctets, nameTextAs, textNumber, textLength, textGiven, NameTextPromise}
 use Rattle.reader_text.specs.Internal.Label.{dotted}
 use Rattle.reader_names.specs.Internal.Step.{nameStep, StepWithin}
 use Rattle.reader_names.proofs.Laws.Label.{joined-length}
@@ -31,6 +32,24 @@ pub given-text : (t : Try (List ℕ)) → textGiven (nameTextAs t) ≡ textOctet
 unfolding over
 given-text (refused r) = refl
 given-text (good text) = take-append-seam text (drop (length text) blank)
+
+pub name-text-promised : (reply : List ℕ) (start : ℕ) (r : NameText) → r ≡ nameTextAs (nameText reply start) → NameTextPromise reply start r
+name-text-promised reply start r e =
+    let t : Try (List ℕ) = nameText reply start in
+    record {
+      same = e;
+      numbered = ap (λ (x : NameText). textNumber (x .len)) e ∙ numbers t;
+      sized = ap (λ (x : NameText). textLength (x .len)) e ∙ sizes t;
+      given = ap textGiven e ∙ given-text t;
+    }
+  where
+    numbers : (t : Try (List ℕ)) → textNumber (nameTextAs t .len) ≡ numberOf t
+    numbers (refused x) = refl
+    numbers (good text) = refl
+
+    sizes : (t : Try (List ℕ)) → textLength (nameTextAs t .len) ≡ length (textOctets t)
+    sizes (refused x) = refl
+    sizes (good text) = refl
 
 module _ (s : List ℕ) (start : ℕ) where
   -- the reading goes on at an offset, and the labels read so far stand joined in the room for the text

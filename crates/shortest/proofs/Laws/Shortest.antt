@@ -1,12 +1,12 @@
 -- #113 is proved: of both forms, for any texts that are names, and so of every answer.
 use mathlib.Core.Path.{_≡_, refl, sym, ap, ap₂, _∙_}
-use mathlib.Core.Bool.{true}
+use mathlib.Core.Bool.{true, false}
 use mathlib.Core.List.{List, [], _∷_, _++_, map, append-nil, append-assoc, List·Memᴰ·head, List·Memᴰ·tail}
 use mathlib.Core.Option.{Option, none, some}
 use Prim.Native.Nat.{ℕ, _+_, _≤_}
 use native.Mathlib.Nat.{zero-add}
 use native.Mathlib.Omega.{arith}
-use lib.ListN.{length, length-append}
+use lib.ListN.{length, replicate, length-append}
 use borrow.Author.Tests.{le-leb}
 use Rattle.answers.specs.declared.Form.{Form}
 use Rattle.answers.specs.declared.Form.the-variants.{Nt40, Response, Ex}
@@ -26,11 +26,11 @@ use Rattle.unicode.specs.Utf16.{pointsOctets, utf16}
 use Rattle.unicode.specs.Utf8.{pointsFrom}
 use Rattle.demands.specs.Derivation.{ReplyIs}
 use Rattle.demands.proofs.Laws.Derivation.{every-answer, every-reply}
-use Rattle.demands.proofs.Laws.Forms.Ex.{ex-plain, ex-length}
-use Rattle.demands.proofs.Laws.Forms.Nt40.{nt40-length}
-use Rattle.demands.proofs.Laws.Forms.Response.{response-plain, response-length}
+use Rattle.demands.proofs.Laws.Forms.Ex.{ex-plain}
+use Rattle.demands.proofs.Laws.Forms.Response.{response-plain}
+use Rattle.demands.proofs.Laws.Length.{sound-length}
 use Rattle.demands.proofs.Laws.Sound.{Sound, every-sound}
-use Rattle.shortest.specs.Shortest.{Field, fixed, name, lastFields, fieldsOf, ended, label, pointer, done, field, named, isName, textsOf, AreNames, DocumentReplyCompared, NoneShorter, AllReadBack, Shortest, ShortestAnswerOver, ShortestAnswer, ShortestCall, sample, LongerResponse, LongerEx}
+use Rattle.shortest.specs.Shortest.{Field, fixed, name, lastFields, fieldsOf, ended, label, pointer, done, field, named, isName, textsOf, AreNames, DocumentReplyCompared, NoneShorter, AllReadBack, Longer, SomeLonger, Shortest, ShortestAnswerOver, ShortestCall}
 use Rattle.shortest.specs.Internal.ByField.{written}
 use Rattle.shortest.proofs.Laws.Least.{least, fields-compared}
 use Rattle.shortest.proofs.Laws.ReadBack.{says-names}
@@ -120,56 +120,66 @@ texts-plain Response v r k = response-plain v r k
 texts-plain Ex v r k =
     every-append (λ text. Plain (labels text)) (exNames r) (textsOf (lastFields (r .nextSite))) (ex-plain v r k) (last-plain (r .nextSite) (λ text e. k .nextSite text e .0))
 
-short : (form : Form) (v : ℕ) (r : Reply) → Sound form v r → length (octetsIn form r) ≤ 0x4000
-short Nt40 v r k = omega (arith, nt40-length v r k)
-short Response v r k = omega (arith, response-length v r k)
-short Ex v r k = omega (arith, ex-length v r k)
-
 shortest : (form : Form) (v : ℕ) (r : Reply) → Sound form v r → Shortest form v r (octetsIn form r)
 shortest form v r k =
     let names : AreNames form r = plain-names (textsOf (fieldsOf form r)) (texts-plain form v r k) in
-    let one = document-reply-compared form r (short form v r k) in
+    let one = document-reply-compared form r (omega (arith, sound-length form v r k)) in
     record { places = one .0; compared = one .1; least = none-shorter form r names; readBack = all-read-back form r names }
 
 pub shortest-answer-over : ShortestAnswerOver
 shortest-answer-over = every-sound Shortest shortest
 
-pub shortest-answer : ShortestAnswer
-shortest-answer = every-answer (ReplyIs Shortest) shortest-answer-over
-
 pub shortest-call : ShortestCall
-shortest-call = every-reply Shortest (λ form v r s len. Shortest form v r s) shortest-answer (λ form v r s h. h)
+shortest-call = every-reply Shortest (λ form v r s len. Shortest form v r s) (every-answer (ReplyIs Shortest) shortest-answer-over) (λ form v r s h. h)
 
--- ---- the longer ones
+-- ---- the longer ones: a writer that points only from a name's first label
 
-pub longer-response : LongerResponse
+-- says the names `a`, `b.a` and `b.a`, and texts of no octets
+abbrev sample : Reply
+sample =
+    record {
+      opcode = 0;
+      flags = 0;
+      guid = replicate 16 0;
+      forest = 0x61 ∷ [];
+      dns = 0x62 ∷ 0x2E ∷ 0x61 ∷ [];
+      host = 0x62 ∷ 0x2E ∷ 0x61 ∷ [];
+      netbios = [];
+      server = [];
+      user = [];
+      ownSite = [];
+      clientSite = [];
+      ipv4 = replicate 4 0;
+      withAddress = false;
+      nextSite = none;
+    }
+
+longer-response : Longer Response
 unfolding all parts labels joined responseOctets responseHead opening text16 utf16 pointsOctets pointsFrom ending writeNames writeName writeLabels first same pointerTo literalLabel bigOctets littleOctets
-longer-response =
-    record {
-      names = refl;
-      written = refl;
-      places = _;
-      compared =
-          field
-          (named (label ended)
-          (named (label (label ended))
-          (named (pointer {t = record { offset = 43; text = sample 19 .dns }} (List·Memᴰ·tail (List·Memᴰ·head refl)) refl (omega arith)) (field done))));
-      longer = omega arith;
-    }
+longer-response = (
+  sample,
+  refl,
+  _,
+  _,
+  field
+      (named (label ended) (named (label (label ended)) (named (pointer {t = record { offset = 43; text = sample .dns }} (List·Memᴰ·tail (List·Memᴰ·head refl)) refl (omega arith)) (field done)))),
+  omega arith,
+)
 
-pub longer-ex : LongerEx
+longer-ex : Longer Ex
 unfolding all parts labels joined exOctets exHead ending writeNames writeName writeLabels first same pointerTo literalLabel bigOctets littleOctets
-longer-ex =
-    record {
-      names = refl;
-      written = refl;
-      places = _;
-      compared =
-          field
-          (named (label ended)
-          (named (label (label ended))
-          (named (pointer {t = record { offset = 27; text = sample 23 .dns }} (List·Memᴰ·tail (List·Memᴰ·head refl)) refl (omega arith))
-          (named ended (named ended (named ended (named ended (named ended
-          (field (named (pointer {t = record { offset = 24; text = sample 23 .forest }} (List·Memᴰ·head refl) refl (omega arith)) (field done)))))))))));
-      longer = omega arith;
-    }
+longer-ex = (
+  sample,
+  refl,
+  _,
+  _,
+  field
+      (named (label ended)
+      (named (label (label ended))
+      (named (pointer {t = record { offset = 27; text = sample .dns }} (List·Memᴰ·tail (List·Memᴰ·head refl)) refl (omega arith))
+      (named ended (named ended (named ended (named ended (named ended (field (field done)))))))))),
+  omega arith,
+)
+
+pub some-longer : SomeLonger
+some-longer = (longer-response, longer-ex)

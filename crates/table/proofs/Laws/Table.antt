@@ -9,7 +9,8 @@ use lib.ListN.{length, getD, drop, drop-of-length-le}
 use lib.Seq.{drop-cons}
 use Rattle.octets.specs.Lists.{keep, keepIf}
 use Rattle.octets.proofs.Laws.Lists.{length-pieces, getD-pieces}
-use Rattle.table.specs.Block.{blockSize, blockAt, blocksOf, kindIn, body}
+use Rattle.table.specs.Block.{blockSize, blocksOf, kindIn, body}
+use Rattle.table.specs.Internal.BlockAt.{blockAt}
 use Rattle.table.specs.Countings.{blockPlace}
 use Rattle.table.specs.Table.{bodies}
 

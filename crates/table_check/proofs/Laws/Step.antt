@@ -47,14 +47,10 @@ step-as-singly c (x ∷ xs) h k =
     ap (λ (m : ℕ). (c .b + m * c .a + (m * x + counted xs)) % 65536) (sym (add-one n)) ∙ sym (octet-first (c .a) (c .b) x n (counted xs)) in
     (λ j. record { a = a j; b = b j }) ∙ step-as-singly (grow c x) xs (omega arith) (omega arith)
 
--- what a step leaves that took the sums of its octets
-pub stepped : (c r : Check) (s w n : ℕ) (octets : List ℕ) → c .a < 65536 → c .b < 65536 → s ≡ sum octets → w ≡ counted octets → n ≡ length octets
-    → r .a ≡ (c .a + s) % 65536 → r .b ≡ (c .b + n * c .a + w) % 65536 → r ≡ grown c octets
+-- what a step leaves is below 65,536
+pub step-below : (c : Check) (octets : List ℕ) → (step c octets .a < 65536) × (step c octets .b < 65536)
 unfolding step
-stepped c r s w n octets h k e f g p q =
-    let a : r .a ≡ (c .a + sum octets) % 65536 = p ∙ ap (λ (m : ℕ). (c .a + m) % 65536) e in
-    let b : r .b ≡ (c .b + length octets * c .a + counted octets) % 65536 = q ∙ (λ j. (c .b + g j * c .a + f j) % 65536) in
-    (λ j. record { a = a j; b = b j }) ∙ step-as-singly c octets h k
+step-below c octets = (omega arith, omega arith)
 
 -- octets in two parts
 grown-append : (c : Check) (xs ys : List ℕ) → grown c (xs ++ ys) ≡ grown (grown c xs) ys

@@ -15,15 +15,13 @@ use Rattle.table.specs.declared.record.RecordKind.{RecordKind}
 use Rattle.table.specs.declared.record.RecordKind.the-variants as kind
 use Rattle.table.specs.Account.{accountOf}
 use Rattle.table.specs.Context.{contextOf}
-use Rattle.table.specs.Countings.{sameContext}
 use Rattle.table.specs.Format.{formatOf, recordsIn}
-use Rattle.account_names.specs.AccountName.{sameAccountName}
 use Rattle.table.specs.Site.{siteOf}
 use Rattle.table.specs.Table.{isUsed, bodies, recordsOf, tableOf}
 use Rattle.table_find.specs.declared.search.ContextKey.{ContextKey}
 use Rattle.table_find.specs.declared.search.SiteKey.{SiteKey}
 use Rattle.table_find.specs.declared.search.Key.the-variants as key
-use Rattle.table_find.specs.Find.{nameCompared, contextsSearched, accountByName}
+use Rattle.table_find.specs.Find.{nameCompared, isAccountOf}
 use Rattle.table_find.specs.Internal.Key.{isContext, isSite}
 use Rattle.table_find.specs.Internal.Search.{firstIn}
 
@@ -88,13 +86,13 @@ module _ (asked : List ℕ) (blocks : List (List ℕ)) where
       let records = flatMap (recordsIn (formatOf k)) (bodies (formatOf k .kind) blocks) in
       sym (first-map f p (keep isUsed records) ∙ ap (Option·map f) (first-keep (λ r. p (f r)) isUsed records))
 
-  pub context-search : (k : ContextKey) → Option·map contextOf (firstIn (key.Context k) asked blocks) ≡ first (isContext k asked) (contextsSearched (tableOf blocks))
-  unfolding firstIn contextsSearched tableOf
+  pub context-search : (k : ContextKey) → Option·map contextOf (firstIn (key.Context k) asked blocks) ≡ first (isContext k asked) (tableOf blocks .contexts)
+  unfolding firstIn tableOf
   context-search k = used-search contextOf (isContext k asked) kind.Context
 
-  pub account-search : (n : ContextNumber) → Option·map accountOf (firstIn (key.Account n) asked blocks) ≡ accountByName (tableOf blocks) n asked
-  unfolding firstIn accountByName tableOf
-  account-search n = used-search accountOf (λ a. sameContext (a .context) n && sameAccountName (a .name) asked) kind.Account
+  pub account-search : (n : ContextNumber) → Option·map accountOf (firstIn (key.Account n) asked blocks) ≡ first (isAccountOf n asked) (tableOf blocks .accounts)
+  unfolding firstIn tableOf
+  account-search n = used-search accountOf (isAccountOf n asked) kind.Account
 
   pub site-search : (k : SiteKey) → Option·map siteOf (firstIn (key.Site k) asked blocks) ≡ first (isSite k) (tableOf blocks .sites)
   unfolding firstIn tableOf

@@ -8,7 +8,6 @@ use Rattle.table.specs.declared.record.RecordKind.the-variants as kind
 use Rattle.table.specs.Account.{accountOf}
 use Rattle.table.specs.Context.{Context, contextOf}
 use Rattle.table.specs.Countings.{sameContext, sameSite}
-use Rattle.account_names.specs.AccountName.{sameAccountName}
 use Rattle.table.specs.Site.{Site, siteOf}
 use Rattle.table.specs.Table.{isUsed}
 use Rattle.table_find.specs.declared.search.ContextKey.{ContextKey}
@@ -18,7 +17,7 @@ use Rattle.table_find.specs.declared.search.SiteKey.the-variants.{Any, O
 use Rattle.table_find.specs.declared.search.SiteKey.the-variants as site
 use Rattle.table_find.specs.declared.search.Key.{Key}
 use Rattle.table_find.specs.declared.search.Key.the-variants as key
-use Rattle.table_find.specs.Find.{isNamedBy, holdsSid}
+use Rattle.table_find.specs.Find.{isNamedBy, holdsSid, isAccountOf}
 
 abbrev pub kindFor : Key → RecordKind
 kindFor (key.Context k) = kind.Context
@@ -40,7 +39,7 @@ isSite (OtherThan n) s = not (sameSite (s .number) n)
 -- the octets of a used record are those asked for
 abbrev pub isAskedFor : Key → List ℕ → List ℕ → Bool
 isAskedFor (key.Context k) asked r = isContext k asked (contextOf r)
-isAskedFor (key.Account n) asked r = sameContext (accountOf r .context) n && sameAccountName (accountOf r .name) asked
+isAskedFor (key.Account n) asked r = isAccountOf n asked (accountOf r)
 isAskedFor (key.Site k) asked r = isSite k (siteOf r)
 
 -- a record is found by a key; an unused one by none

@@ -3,8 +3,7 @@ use mathlib.Core.Bool.{cond, _&&_}
 use mathlib.Core.List.{List, [], _∷_, flatMap}
 use mathlib.Core.Option.{Option, none, some}
 use Prim.Native.Nat.{ℕ}
-use lib.Dec.{eqb, ltb}
-use Rattle.table.specs.Block.{kindIn, body}
+use lib.Dec.{ltb}
 use Rattle.table.specs.Format.{recordsIn}
 use Rattle.table.specs.Subnet.{Subnet, subnetFormat, subnetOf}
 use Rattle.table.specs.Table.{isUsed, bodies}
@@ -25,10 +24,6 @@ nearestOver address best (r ∷ rs) = nearestOver address (nearerHeld address be
 
 unfoldable pub nearestInBody : ℕ → Option Subnet → List ℕ → Option Subnet
 nearestInBody address best b = nearestOver address best (recordsIn subnetFormat b)
-
--- a block of another kind has none
-unfoldable pub nearestInBlock : ℕ → Option Subnet → List ℕ → Option Subnet
-nearestInBlock address best block = cond (eqb (kindIn block) (subnetFormat .kind)) (nearestInBody address best (body block)) best
 
 unfoldable pub nearestIn : ℕ → Option Subnet → List (List ℕ) → Option Subnet
 nearestIn address best blocks = nearestOver address best (flatMap (recordsIn subnetFormat) (bodies (subnetFormat .kind) blocks))

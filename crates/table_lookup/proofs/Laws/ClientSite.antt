@@ -13,8 +13,9 @@ use Rattle.table.specs.Site.{Site}
 use Rattle.table.specs.Table.{Table}
 use Rattle.table_whole.specs.Whole.{sitesUnique}
 use Rattle.table_find.specs.declared.search.SiteKey.the-variants.{Any, OtherThan}
-use Rattle.table_find.specs.Find.{subnetFor, siteOfSubnet, siteFor}
+use Rattle.table_lookup.specs.Lookup.{subnetFor, siteOfSubnet, siteFor}
 use Rattle.table_find.specs.Internal.Key.{isSite}
+use Rattle.table_lookup.proofs.Laws.NearestSubnet.{several}
 
 -- the first site is no other than itself
 skip-own : (q s : Site) (rest : List Site) → some s ≡ some q → first (isSite (OtherThan (s .number))) (q ∷ rest) ≡ first (isSite (OtherThan (s .number))) rest
@@ -63,4 +64,4 @@ several-sites t caller [] s r e f = absurd (let z : _≡_ {A = ℕ} 0 1 = cc in 
 several-sites t caller (q ∷ []) s r e f =
     let nothing : some r ≡ none = f ∙ skip-own q s [] e in
     absurd (let z : _≡_ {A = ℕ} 0 1 = cc in omega arith)
-several-sites t caller (q ∷ p ∷ rest) s r e f = refl
+several-sites t caller (q ∷ p ∷ rest) s r e f = sym (several t caller (q ∷ p ∷ rest) (omega arith))

@@ -7,38 +7,50 @@ use mathlib.Core.Option.{Option, none, some}
 use Prim.Native.Nat.{ℕ, _<_, _≤_}
 use native.Mathlib.Omega.{arith}
 use lib.Dec.{eqb, ltb}
+use lib.ListN.{length}
 use borrow.Author.Tests.{eqb-true, eqb-false, eq-eqb, ltb-true, ltb-false, lt-ltb, not-true}
 use Rattle.answers.specs.Try.{good}
 use Rattle.answers.proofs.Laws.Try.{good-same}
-use Rattle.octets.specs.Lists.{all, any, first, keep, keepIf, unique, isSome}
-use Rattle.octets.proofs.Laws.Lists.{Every, every-none, neither-left, neither-right, both-left, both-right, none-not-some}
+use Rattle.octets.specs.Lists.{all, any, first, firstOr, keep, keepIf, unique, isSome, noneOr}
+use Rattle.octets.proofs.Laws.Lists.{Every, every-all, every-none, first-any, first-holds, neither-left, neither-right, both-left, both-right, none-not-some}
 use Rattle.table.specs.declared.Caller.{Caller}
 use Rattle.table.specs.declared.SiteNumber.{SiteNumber}
 use Rattle.table.specs.Address.{addressNumber, networkOf, isPrefixOnly, sharePrefix}
 use Rattle.table.specs.Countings.{sameSite}
 use Rattle.table.specs.Site.{Site}
 use Rattle.table.specs.Subnet.{Subnet, sameNetwork}
-use Rattle.table.specs.Table.{Table, tableFrom}
-use Rattle.table_find.specs.Find.{inSubnet, nearer, nearest, subnetFor, siteByNumber, siteIfAny, siteOfSubnet, siteFor, clientSite}
+use Rattle.table.specs.Table.{Table}
+use Rattle.table_find.specs.Find.{inSubnet}
+use Rattle.table_lookup.specs.Lookup.{nearer, nearest, subnetFor, siteByNumber, siteIfAny, siteOfSubnet, siteFor, clientSite}
 use Rattle.table_whole.specs.Judgement.{tableIn}
-use Rattle.table_whole.specs.Whole.{subnetsUnique}
-use Rattle.table_whole.proofs.Laws.Judgement.{PrefixOnly, accepted, accepted-subnets, accepted-prefixes}
-use Rattle.table_lookup.specs.NearestSubnet.{Among, Decides, NearestIn, NearestSubnet, SameSubnets, SubnetOrder}
+use Rattle.table_whole.specs.Whole.{subnetsUnique, hasContext, hasSite, refersRightly}
+use Rattle.table_whole.proofs.Laws.Judgement.{PrefixOnly, accepted, accepted-prefixes, judged-whole}
+use Rattle.table_lookup.specs.NearestSubnet.{Among, Decides, NearestIn, NearestSubnet, FoundBy, ClientSiteIn, SiteOfClient, SameSubnets, SubnetOrder}
 
 -- ---- one of several
 
-every-among : (P : Subnet → Type 0) (ns : List Subnet) (n : Subnet) → Every P ns → Among n ns → P n
-every-among P ns n h a = go (a .before) (subst (Every P) (a .stands) h)
-  where
-    go : (before : List Subnet) → Every P (before ++ (n ∷ a .behind)) → P n
-    go [] e = e .0
-    go (x ∷ before) e = go before (e .1)
+module _ {A : Type 0} where
+  pub every-among : (P : A → Type 0) (xs : List A) (x : A) → Every P xs → Among x xs → P x
+  every-among P xs x h a = go (a .before) (subst (Every P) (a .stands) h)
+    where
+      go : (before : List A) → Every P (before ++ (x ∷ a .behind)) → P x
+      go [] e = e .0
+      go (y ∷ before) e = go before (e .1)
 
-any-among : (p : Subnet → Bool) (ns : List Subnet) (n : Subnet) → any p ns ≡ false → Among n ns → p n ≡ false
-any-among p ns n e a = every-among (λ m. p m ≡ false) ns n (every-none p (λ m. p m ≡ false) (λ m q. q) ns e) a
+  pub any-among : (p : A → Bool) (xs : List A) (x : A) → any p xs ≡ false → Among x xs → p x ≡ false
+  any-among p xs x e a = every-among (λ y. p y ≡ false) xs x (every-none p (λ y. p y ≡ false) (λ y q. q) xs e) a
 
-later : (x n : Subnet) (ns : List Subnet) → Among n ns → Among n (x ∷ ns)
-later x n ns a = record { before = x ∷ a .before; behind = a .behind; stands = ap (λ (s : List Subnet). x ∷ s) (a .stands) }
+  later : (y x : A) (xs : List A) → Among x xs → Among x (y ∷ xs)
+  later y x xs a = record { before = y ∷ a .before; behind = a .behind; stands = ap (λ (s : List A). y ∷ s) (a .stands) }
+
+  first-among : (p : A → Bool) (xs : List A) (x : A) → first p xs ≡ some x → Among x xs
+  unfolding first later
+  first-among p [] x e = absurd (none-not-some x e)
+  first-among p (y ∷ xs) x e = go (p y) (first-among p xs x) e
+    where
+      go : (b : Bool) → (first p xs ≡ some x → Among x xs) → firstOr b y (first p xs) ≡ some x → Among x (y ∷ xs)
+      go true rest f = let z : y ≡ x = cc in record { before = []; behind = xs; stands = ap (λ (w : A). w ∷ xs) z }
+      go false rest f = later y x xs (rest f)
 
 module _ (address : ℕ) where
   -- two that hold the address with one prefix have one network
@@ -159,15 +171,12 @@ module _ (address : ℕ) where
 -- ---- the table
 
 module _ (image : List ℕ) (t : Table) (e : tableIn image ≡ good t) where
-  own : tableFrom image ≡ t
-  own = good-same (sym (accepted image t e) ∙ e)
-
   subnets-apart : unique sameNetwork (t .subnets) ≡ true
   unfolding subnetsUnique
-  subnets-apart = ap (λ (x : Table). subnetsUnique (x .subnets)) (sym own) ∙ accepted-subnets image (accepted image t e)
+  subnets-apart = judged-whole image t e .subnets
 
   prefixes : Every PrefixOnly (t .subnets)
-  prefixes = subst (λ (x : Table). Every PrefixOnly (x .subnets)) own (accepted-prefixes image (accepted image t e))
+  prefixes = subst (λ (x : Table). Every PrefixOnly (x .subnets)) (good-same (sym (accepted image t e) ∙ e)) (accepted-prefixes image (accepted image t e))
 
   nearest-in : (caller : Caller) → NearestIn t caller
   unfolding subnetFor
@@ -212,6 +221,78 @@ module _ (address : ℕ) where
       go (inr p) (inl q) = sym q
       go (inr p) (inr q) = absurd (omega (arith, p, q))
 
+-- ---- the client's site
+
+same-number : (m n : SiteNumber) → sameSite m n ≡ true → m ≡ n
+same-number m n e = λ j. record { 0 = eqb-true (m .0) (n .0) e j }
+
+-- a number that a site has finds it
+found-by : (t : Table) (o : Option SiteNumber) → noneOr (hasSite t) o ≡ true → FoundBy o (t .sites) (siteIfAny t o)
+unfolding siteByNumber hasSite
+found-by t none e = refl
+found-by t (some number) e = go (first p (t .sites)) refl
+  where
+    p : Site → Bool
+    p s = sameSite (s .number) number
+
+    go : (o : Option Site) → first p (t .sites) ≡ o → FoundBy (some number) (t .sites) (first p (t .sites))
+    go none q = absurd (false≢true (sym (ap isSome q) ∙ first-any p (t .sites) ∙ e))
+    go (some s) q = (s, first-among p (t .sites) s q, same-number (s .number) number (first-holds p (t .sites) s q), q)
+
+-- with more than one site the subnet decides
+pub several : (t : Table) (caller : Caller) (sites : List Site) → 1 < length sites → siteFor t caller sites ≡ siteOfSubnet t (subnetFor t caller)
+several t caller [] h = absurd (omega arith)
+several t caller (s ∷ []) h = absurd (omega arith)
+several t caller (s ∷ r ∷ rest) h = refl
+
+module _ (image : List ℕ) (t : Table) (caller : Caller) (e : tableIn image ≡ good t) where
+  abbrev address : ℕ
+  address = addressNumber (caller .address)
+
+  near : NearestIn t caller
+  near = nearest-in image t e caller
+
+  unfound : any (inSubnet address) (t .subnets) ≡ false → subnetFor t caller ≡ none
+  unfound w = go (subnetFor t caller) refl
+    where
+      go : (o : Option Subnet) → subnetFor t caller ≡ o → o ≡ none
+      go none q = refl
+      go (some m) q = absurd (false≢true (sym (near .whether ∙ w) ∙ ap isSome q))
+
+  -- the one that decides is found, in whatever order they stand
+  deciding : (ns : List Subnet) → SameSubnets (t .subnets) ns → (n : Subnet) → Decides address n ns → subnetFor t caller ≡ some n
+  deciding ns same n d = go (subnetFor t caller) refl
+    where
+      go : (o : Option Subnet) → subnetFor t caller ≡ o → o ≡ some n
+      go none q =
+          let unheld : inSubnet address n ≡ false = any-among (inSubnet address) (t .subnets) n (sym (near .whether) ∙ ap isSome q) (same n .1 (d .among)) in
+          absurd (false≢true (sym unheld ∙ d .holding))
+      go (some m) q = ap some (one-decides address (t .subnets) ns m n same (near .decides m q) d)
+
+  referring : Every (λ n. noneOr (hasSite t) (n .site) ≡ true) (t .subnets)
+  unfolding refersRightly
+  referring =
+      let subnets : Bool = all (λ n. noneOr (hasSite t) (n .site)) (t .subnets) in
+      let others : Bool =
+      hasSite t (t .server .site) && hasContext t (t .server .defaultContext) && all (λ a. hasContext t (a .context)) (t .accounts) && all (λ s. noneOr (hasSite t) (s .next)) (t .sites) in
+      every-all (λ n. noneOr (hasSite t) (n .site)) (λ n. noneOr (hasSite t) (n .site) ≡ true) (λ n q. q) (t .subnets) (both-right others subnets (judged-whole image t e .references))
+
+  client-site-in : ClientSiteIn t caller
+  unfolding clientSite
+  client-site-in =
+      record {
+        lone = λ s q. ap (siteFor t caller) q;
+        decided =
+            λ h n d. subst (FoundBy (n .site) (t .sites)) (sym (several t caller (t .sites) h ∙ ap (siteOfSubnet t) (deciding (t .subnets) (λ k. (λ a. a, λ a. a)) n d)))
+            (found-by t (n .site) (every-among (λ m. noneOr (hasSite t) (m .site) ≡ true) (t .subnets) n referring (d .among)));
+        unheld = λ h w. several t caller (t .sites) h ∙ ap (siteOfSubnet t) (unfound w);
+      }
+
+pub site-of-client : SiteOfClient
+site-of-client image t caller e = client-site-in image t caller e
+
+-- ---- the client's site in another order
+
 -- a client's site, by the sites and the subnet that decides
 abbrev numbered : List Site → SiteNumber → Option Site
 numbered sites n = first (λ s. sameSite (s .number) n) sites
@@ -247,29 +328,13 @@ by-sites t caller = go (t .sites)
     go (s ∷ r ∷ rest) = subnet (subnetFor t caller)
 
 module _ (image other : List ℕ) (t u : Table) (caller : Caller) (e : tableIn image ≡ good t) (f : tableIn other ≡ good u) (same : SameSubnets (t .subnets) (u .subnets)) where
-  abbrev address : ℕ
-  address = addressNumber (caller .address)
-
-  -- where one holds the address, one decides
-  decided-too : (ns : List Subnet) (n : Subnet) (o : Option Subnet) → Among n ns → inSubnet address n ≡ true → isSome o ≡ any (inSubnet address) ns → o ≡ none → ⊥
-  decided-too ns n o a h w z =
-      let unheld : inSubnet address n ≡ false = any-among (inSubnet address) ns n (sym w ∙ ap isSome z) a in
-      false≢true (sym unheld ∙ h)
-
   same-subnet : subnetFor t caller ≡ subnetFor u caller
   same-subnet = go (subnetFor t caller) refl (subnetFor u caller) refl
     where
-      x : NearestIn t caller
-      x = nearest-in image t e caller
-
-      y : NearestIn u caller
-      y = nearest-in other u f caller
-
-      go : (o : Option Subnet) → subnetFor t caller ≡ o → (p : Option Subnet) → subnetFor u caller ≡ p → o ≡ p
-      go none q none r = refl
-      go none q (some m) r = let d = y .decides m r in absurd (decided-too (t .subnets) m (subnetFor t caller) (same m .1 (d .among)) (d .holding) (x .whether) q)
-      go (some n) q none r = let d = x .decides n q in absurd (decided-too (u .subnets) n (subnetFor u caller) (same n .0 (d .among)) (d .holding) (y .whether) r)
-      go (some n) q (some m) r = ap some (one-decides address (t .subnets) (u .subnets) n m same (x .decides n q) (y .decides m r))
+      go : (o : Option Subnet) → subnetFor t caller ≡ o → (p : Option Subnet) → subnetFor u caller ≡ p → subnetFor t caller ≡ subnetFor u caller
+      go (some n) q p r = q ∙ sym (deciding other u caller f (t .subnets) (λ k. (same k .1, same k .0)) n (nearest-in image t e caller .decides n q))
+      go none q (some m) r = deciding image t caller e (u .subnets) same m (nearest-in other u f caller .decides m r) ∙ sym r
+      go none q none r = q ∙ sym r
 
 pub subnet-order : SubnetOrder
 subnet-order image other t u caller e f sites same =

@@ -6,8 +6,6 @@ use mathlib.Core.Option.{Option, none, some}
 use Prim.Native.Nat.{ℕ}
 use lib.Dec.{eqb}
 use borrow.Author.Tests.{eqb-true, eq-eqb, not-true}
-use Rattle.answers.specs.Try.{good}
-use Rattle.answers.proofs.Laws.Try.{good-same}
 use Rattle.octets.specs.Lists.{any, first, firstOr, keep, keepIf, unique}
 use Rattle.octets.proofs.Laws.Lists.{both-left, both-right, neither-left, neither-right}
 use Rattle.account_names.specs.AccountName.{sameAccountName}
@@ -15,11 +13,10 @@ use Rattle.account_names.proofs.Laws.NameOrder.{same-name-sym, same-name-left}
 use Rattle.table.specs.declared.ContextNumber.{ContextNumber}
 use Rattle.table.specs.Account.{Account}
 use Rattle.table.specs.Countings.{sameContext}
-use Rattle.table.specs.Table.{Table, tableFrom}
-use Rattle.table_find.specs.Find.{isAccountOf, accountByName}
-use Rattle.table_whole.specs.Judgement.{tableIn}
+use Rattle.table_find.specs.Find.{isAccountOf}
+use Rattle.table_lookup.specs.Lookup.{accountByName}
 use Rattle.table_whole.specs.Whole.{accountsUnique}
-use Rattle.table_whole.proofs.Laws.Judgement.{accepted, accepted-accounts}
+use Rattle.table_whole.proofs.Laws.Judgement.{judged-whole}
 use Rattle.table_lookup.specs.OnlyAccount.{alone, OnlyAccount}
 
 -- a test that only alike elements pass is passed by one of those that are unique
@@ -55,5 +52,4 @@ module _ (n : ContextNumber) (name : List ℕ) where
 pub only-account : OnlyAccount
 unfolding accountByName accountsUnique
 only-account image t n name e =
-    let u : accountsUnique (t .accounts) ≡ true = subst (λ (s : Table). accountsUnique (s .accounts) ≡ true) (good-same (sym (accepted image t e) ∙ e)) (accepted-accounts image (accepted image t e)) in
-    kept-alone (λ a b. sameContext (a .context) (b .context) && sameAccountName (a .name) (b .name)) (isAccountOf n name) (accounts-join n name) (t .accounts) u
+    kept-alone (λ a b. sameContext (a .context) (b .context) && sameAccountName (a .name) (b .name)) (isAccountOf n name) (accounts-join n name) (t .accounts) (judged-whole image t e .accounts)

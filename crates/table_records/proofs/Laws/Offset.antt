@@ -13,7 +13,8 @@ use Rattle.octets.specs.Lists.{cut, keep, keepIf, pieces}
 use Rattle.octets.proofs.Laws.Lists.{keep-append, cut-cut, pieces-take}
 use Rattle.table.specs.declared.record.RecordKind.{RecordKind}
 use Rattle.table.specs.declared.record.RecordKind.the-variants.{Context, Account, Site, Subnet}
-use Rattle.table.specs.Block.{blockSize, bodyOffset, bodySize, blockAt, blocksOf, body}
+use Rattle.table.specs.Block.{blockSize, bodyOffset, bodySize, blocksOf, body}
+use Rattle.table.specs.Internal.BlockAt.{blockAt}
 use Rattle.table.specs.Countings.{blockPlace}
 use Rattle.table.specs.Format.{formatOf}
 use Rattle.table.specs.Table.{bodies, isUsed, recordsOf}

@@ -10,13 +10,14 @@ use lib.ListN.{length, drop}
 use lib.Seq.{drop-drop}
 use Rattle.octets.specs.Lists.{keep, keepIf, cut, pieces}
 use Rattle.octets.proofs.Laws.Lists.{pieces-take}
-use Rattle.table.specs.Block.{blockSize, blockAt, blocksOf, kindIn, bodySize, body}
+use Rattle.table.specs.Block.{blockSize, blocksOf, kindIn, bodySize, body}
+use Rattle.table.specs.Internal.BlockAt.{blockAt}
 use Rattle.table.specs.Countings.{blockPlace}
 use Rattle.table.specs.Format.{recordsIn}
 use Rattle.table.specs.Subnet.{Subnet, subnetFormat}
 use Rattle.table.specs.Table.{bodies}
 use Rattle.table.proofs.Laws.Table.{blocks-step, blocks-end}
-use Rattle.table_find.specs.Internal.Nearest.{nearerHeld, nearestOver, nearestInBody, nearestInBlock, nearestIn}
+use Rattle.table_find.specs.Internal.Nearest.{nearerHeld, nearestOver, nearestInBody, nearestIn}
 
 module _ (address : ℕ) where
   -- what is left of a body's records: n of them from an offset of the image on
@@ -43,8 +44,12 @@ module _ (address : ℕ) where
   over-append best [] ys = refl
   over-append best (x ∷ xs) ys = over-append (nearerHeld address best x) xs ys
 
-  in-cons : (best : Option Subnet) (block : List ℕ) (blocks : List (List ℕ)) → nearestIn address best (block ∷ blocks) ≡ nearestIn address (nearestInBlock address best block) blocks
-  unfolding nearestIn nearestInBlock nearestInBody bodies keep flatMap
+  -- the nearest after a block; one of another kind has none
+  abbrev afterBlock : Option Subnet → List ℕ → Option Subnet
+  afterBlock best block = cond (eqb (kindIn block) (subnetFormat .kind)) (nearestInBody address best (body block)) best
+
+  in-cons : (best : Option Subnet) (block : List ℕ) (blocks : List (List ℕ)) → nearestIn address best (block ∷ blocks) ≡ nearestIn address (afterBlock best block) blocks
+  unfolding nearestIn nearestInBody bodies keep flatMap
   in-cons best block blocks = go (eqb (kindIn block) (subnetFormat .kind))
     where
       rest : List (List ℕ)
@@ -58,24 +63,22 @@ module _ (address : ℕ) where
 
   -- what is left at a place: a block of subnets, and one of another kind
   step : (best : Option Subnet) (image : List ℕ) (i : ℕ) → i < length image / blockSize
-      → nearestIn address (nearestInBlock address best (blockAt image (blockPlace i))) (drop (i + 1) (blocksOf image)) ≡ nearestIn address best (drop i (blocksOf image))
+      → nearestIn address (afterBlock best (blockAt image (blockPlace i))) (drop (i + 1) (blocksOf image)) ≡ nearestIn address best (drop i (blocksOf image))
   step best image i h = sym (ap (nearestIn address best) (blocks-step image i h) ∙ in-cons best (blockAt image (blockPlace i)) (drop (i + 1) (blocksOf image)))
 
   pub in-block : (best there : Option Subnet) (image : List ℕ) (i : ℕ) → i < length image / blockSize
       → eqb (kindIn (blockAt image (blockPlace i))) (subnetFormat .kind) ≡ true
       → there ≡ nearestInBody address best (body (blockAt image (blockPlace i)))
       → nearestIn address there (drop (i + 1) (blocksOf image)) ≡ nearestIn address best (drop i (blocksOf image))
-  unfolding nearestInBlock
   in-block best there image i h e f =
-      let made : there ≡ nearestInBlock address best (blockAt image (blockPlace i)) = rw e f in
+      let made : there ≡ afterBlock best (blockAt image (blockPlace i)) = rw e f in
       ap (λ (o : Option Subnet). nearestIn address o (drop (i + 1) (blocksOf image))) made ∙ step best image i h
 
   pub past-block : (best : Option Subnet) (image : List ℕ) (i : ℕ) → i < length image / blockSize
       → eqb (kindIn (blockAt image (blockPlace i))) (subnetFormat .kind) ≡ false
       → nearestIn address best (drop (i + 1) (blocksOf image)) ≡ nearestIn address best (drop i (blocksOf image))
-  unfolding nearestInBlock
   past-block best image i h e =
-      let kept : best ≡ nearestInBlock address best (blockAt image (blockPlace i)) = rw e in
+      let kept : best ≡ afterBlock best (blockAt image (blockPlace i)) = rw e in
       ap (λ (o : Option Subnet). nearestIn address o (drop (i + 1) (blocksOf image))) kept ∙ step best image i h
 
   pub nearest-end : (best : Option Subnet) (image : List ℕ) (i : ℕ) → length image / blockSize ≤ i → best ≡ nearestIn address best (drop i (blocksOf image))

@@ -11,7 +11,8 @@ use lib.ListN.{length, drop}
 use lib.Seq.{drop-drop}
 use Rattle.octets.specs.Lists.{first, firstOr, keep, keepIf, cut, pieces}
 use Rattle.octets.proofs.Laws.Lists.{orElse, first-append, pieces-take}
-use Rattle.table.specs.Block.{blockSize, blockAt, blocksOf, kindIn, bodySize, body}
+use Rattle.table.specs.Block.{blockSize, blocksOf, kindIn, bodySize, body}
+use Rattle.table.specs.Internal.BlockAt.{blockAt}
 use Rattle.table.specs.Countings.{blockPlace}
 use Rattle.table.specs.Format.{formatOf, recordsIn}
 use Rattle.table.specs.Table.{bodies}

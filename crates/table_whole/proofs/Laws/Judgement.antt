@@ -9,14 +9,15 @@ use lib.ListN.{length}
 use borrow.Author.Tests.{eqb-true, not-true, not-false, leb-true, le-leb, lt-leb}
 use Rattle.answers.specs.declared.Refusal.{Refusal}
 use Rattle.answers.specs.declared.Refusal.the-variants.{ImageLength, BlockCheck, BlockLayout, TableWhole}
-use Rattle.answers.specs.Try.{Try, refused, good}
+use Rattle.answers.specs.Try.{Try, refused, good, numberOf}
 use Rattle.answers.proofs.Laws.Try.{refusedIf-good}
 use Rattle.octets.specs.Lists.{all, any, keep, holds, pieces}
 use Rattle.octets.proofs.Laws.Lists.{Every, every-all, every-map, every-flat, every-keep, both-left, both-right, other-right, cut-length, pieces-wide}
-use Rattle.octets.specs.NameRule.{isDnsName, isNetbiosName, isSiteName}
+use Rattle.octets.specs.NameRule.{dnsNameMost, printable, isDnsName, isNetbiosName, isSiteName}
 use Rattle.octets.proofs.Laws.NameRule.{Writable, dns-writable, netbios-writable, site-writable, empty-writable}
 use Rattle.unicode.proofs.Laws.Utf16.{netbios-spoken, empty-spoken}
 use Rattle.octets.specs.Text.{allZero, within}
+use Rattle.octets.proofs.Laws.Text.{within-low}
 use Rattle.unicode.proofs.Laws.Utf16.{Spoken}
 use Rattle.table.specs.declared.BlockPlace.{BlockPlace}
 use Rattle.table.specs.declared.field.TextField.{TextField}
@@ -38,8 +39,9 @@ use Rattle.table.proofs.Laws.Format.{format-fills}
 use Rattle.table_check.specs.Check.{goodCheck}
 use Rattle.table_layout.specs.Field.{zeros, textField, lastText}
 use Rattle.table_layout.specs.Layout.{nonzero, serverLayout, forestLayout, flagsLayout, sidLayout, isEmpty, isContextNetbios, contextLayout, siteLayout, subnetLayout, recordLayout, recordsLayout, bodyLayout, blockLayout, layoutsFrom}
-use Rattle.table_whole.specs.Judgement.{goodLength, tableIn, Accepted, judgedAs}
+use Rattle.table_whole.specs.Judgement.{goodLength, tableIn, Accepted, judgedAs, judgementNumber, JudgePromise}
 use Rattle.table_whole.specs.Whole.{contextsUnique, sitesUnique, accountsUnique, subnetsUnique, refersRightly, goodWhole}
+use Rattle.table_whole.specs.declared.judge.Judgement.{Judgement}
 use Rattle.table_whole.specs.declared.judge.Judgement.the-variants.{Passed, Refused}
 
 -- ---- what an accepted image holds
@@ -73,6 +75,34 @@ judged image t e =
 pub accepted : (image : List ℕ) (t : Table) → tableIn image ≡ good t → Accepted image
 accepted image t e = e ∙ ap good (sym (judged image t e .1))
 
+-- what 4 says of a table
+pub record Whole (t : Table) : Type 0 where
+  pub contexts : contextsUnique (t .contexts) ≡ true
+  pub sites : sitesUnique (t .sites) ≡ true
+  pub accounts : accountsUnique (t .accounts) ≡ true
+  pub references : refersRightly t ≡ true
+  pub subnets : subnetsUnique (t .subnets) ≡ true
+
+whole : (t : Table) → goodWhole t ≡ true → Whole t
+unfolding goodWhole
+whole t e =
+    let counts : Bool = within 1 16 (length (t .contexts)) && leb 1 (length (t .sites)) in
+    let contexts : Bool = counts && contextsUnique (t .contexts) in
+    let sites : Bool = contexts && sitesUnique (t .sites) in
+    let accounts : Bool = sites && accountsUnique (t .accounts) in
+    let references : Bool = accounts && refersRightly t in
+    let next : Bool = references && all (λ s. not (holds (sameSite (s .number)) (s .next))) (t .sites) in
+    let to-references : references ≡ true = both-left references _ (both-left next _ e) in
+    let to-accounts : accounts ≡ true = both-left accounts _ to-references in
+    let to-sites : sites ≡ true = both-left sites _ to-accounts in
+    record {
+      contexts = both-right counts _ (both-left contexts _ to-sites);
+      sites = both-right contexts _ to-sites;
+      accounts = both-right sites _ to-accounts;
+      references = both-right accounts _ to-references;
+      subnets = both-right next _ e;
+    }
+
 module _ (image : List ℕ) (ok : Accepted image) where
   pub accepted-judged : Judged image
   accepted-judged = judged image (tableFrom image) ok .0
@@ -80,33 +110,8 @@ module _ (image : List ℕ) (ok : Accepted image) where
   pub accepted-bounds : (1024 ≤ length image) × (length image ≤ 65536)
   accepted-bounds = length-bounds image (accepted-judged .length)
 
-  unique-rows : (sitesUnique (tableFrom image .sites) ≡ true) × (accountsUnique (tableFrom image .accounts) ≡ true) × (subnetsUnique (tableFrom image .subnets) ≡ true)
-  unfolding goodWhole
-  unique-rows =
-      let t = tableFrom image in
-      let before : Bool = within 1 16 (length (t .contexts)) && leb 1 (length (t .sites)) && contextsUnique (t .contexts) in
-      let sites : Bool = sitesUnique (t .sites) in
-      let accounts : Bool = accountsUnique (t .accounts) in
-      let next : Bool = all (λ s. not (holds (sameSite (s .number)) (s .next))) (t .sites) in
-      let halves : Bool = before && sites && accounts && refersRightly t && next in
-      let subnets : Bool = subnetsUnique (t .subnets) in
-      let first-rows : before && sites && accounts ≡ true =
-      both-left (before && sites && accounts) (refersRightly t)
-      (both-left (before && sites && accounts && refersRightly t) next
-      (both-left halves subnets (accepted-judged .whole))) in (
-        both-right before sites (both-left (before && sites) accounts first-rows),
-        both-right (before && sites) accounts first-rows,
-        both-right halves subnets (accepted-judged .whole),
-      )
-
-  pub accepted-sites : sitesUnique (tableFrom image .sites) ≡ true
-  accepted-sites = unique-rows .0
-
-  pub accepted-accounts : accountsUnique (tableFrom image .accounts) ≡ true
-  accepted-accounts = unique-rows .1
-
-  pub accepted-subnets : subnetsUnique (tableFrom image .subnets) ≡ true
-  accepted-subnets = unique-rows .2
+  pub accepted-whole : Whole (tableFrom image)
+  accepted-whole = whole (tableFrom image) (accepted-judged .whole)
 
 -- ---- what its table holds: texts that can be written, and GUIDs and addresses of their lengths
 
@@ -121,6 +126,7 @@ pub record GoodContext (c : Context) : Type 0 where
   pub netbios : Writable 15 (c .netbios)
   pub spoken : Spoken (c .netbios)
   pub dns : Writable 253 (c .dns)
+  pub filled : 1 ≤ length (c .dns)
 
 abbrev pub GoodSite : Site → Type 0
 GoodSite s = Writable 63 (s .name)
@@ -179,6 +185,12 @@ forest-good : (b : List ℕ) → forestLayout b ≡ true → Writable 253 (fores
 unfolding forestLayout forestOf
 forest-good b e = dns-writable (textAt b forestName) (last-ruled isDnsName b forestName bodySize e)
 
+dns-filled : (s : List ℕ) → isDnsName s ≡ true → 1 ≤ length s
+unfolding isDnsName
+dns-filled s e =
+    let sized : Bool = within 1 dnsNameMost (length s) in
+    within-low 1 dnsNameMost (length s) (both-left sized (printable s) (both-left (sized && printable s) _ e))
+
 context-good : (b : List ℕ) → length b ≡ contextFormat .width → contextLayout b ≡ true → GoodContext (contextOf b)
 unfolding contextLayout contextOf
 context-good b n e =
@@ -188,7 +200,8 @@ context-good b n e =
     let dns : Bool = lastText isDnsName b contextDnsName (contextFormat .width) in
     let m : netbios ≡ true = both-right front netbios (both-left (front && netbios) dns e) in
     let name : Writable 15 (textAt b contextNetbios) × Spoken (textAt b contextNetbios) = netbios-ruled (c .application) (textAt b contextNetbios) (text-ruled (isContextNetbios (c .application)) b contextNetbios m) in
-    record { guid = cut-length b 4 16 (omega arith); netbios = name .0; spoken = name .1; dns = dns-writable (textAt b contextDnsName) (last-ruled isDnsName b contextDnsName (contextFormat .width) (both-right (front && netbios) dns e)) }
+    let text : isDnsName (textAt b contextDnsName) ≡ true = last-ruled isDnsName b contextDnsName (contextFormat .width) (both-right (front && netbios) dns e) in
+    record { guid = cut-length b 4 16 (omega arith); netbios = name .0; spoken = name .1; dns = dns-writable (textAt b contextDnsName) text; filled = dns-filled (textAt b contextDnsName) text }
 
 site-good : (r : List ℕ) → siteLayout r ≡ true → GoodSite (siteOf r)
 unfolding siteLayout siteOf
@@ -322,8 +335,14 @@ accepted-good image ok =
     let p = two-pieces (length image / blockSize) blockSize image (omega arith) in
     subst (λ (x : List (List ℕ)). Every (λ y. length y ≡ blockSize) x → layoutsFrom serverPlace x ≡ true → GoodTable (tableOf x)) (sym (p .3)) (table-good (p .0) (p .1) (p .2)) wide (accepted-judged image ok .layouts)
 
-pub judged-good : (image : List ℕ) (t : Table) → tableIn image ≡ good t → GoodTable t
-judged-good image t e = subst GoodTable (judged image t e .1) (accepted-good image (accepted image t e))
+-- of the table that was judged
+
+module _ (image : List ℕ) (t : Table) (e : tableIn image ≡ good t) where
+  pub judged-good : GoodTable t
+  judged-good = subst GoodTable (judged image t e .1) (accepted-good image (accepted image t e))
+
+  pub judged-whole : Whole t
+  judged-whole = subst Whole (judged image t e .1) (accepted-whole image (accepted image t e))
 
 -- ---- the address bits of a subnet past its prefix are zero
 
@@ -388,6 +407,13 @@ module _ (image : List ℕ) where
         passed e = rw (l, c, y, e)
 
 -- ---- what a judgement says of the image
+
+pub judge-promised : (image : List ℕ) (r : Judgement) → r ≡ judgedAs (tableIn image) → JudgePromise image r
+judge-promised image r e = record { same = e; numbered = ap judgementNumber e ∙ numbers (tableIn image) }
+  where
+    numbers : (t : Try Table) → judgementNumber (judgedAs t) ≡ numberOf t
+    numbers (refused x) = refl
+    numbers (good t) = refl
 
 pub passed-accepted : (image : List ℕ) → Passed ≡ judgedAs (tableIn image) → Accepted image
 passed-accepted image e = go (tableIn image) refl e

@@ -59,7 +59,7 @@ module _ (s : List ℕ) (at : ℕ) where
   reading-first h decoded e = subst (λ (d : Decoded). Reading s at d (at + 1)) e (lead-below (getD s at 0), opened between s at h, opened-readable between s at h)
 
   read-point : (c next : ℕ) → at < next → next ≤ length s → Reading s at (point c) next → PointRead s at (Point c next)
-  read-point c next h k r = (h, k, r .0, r .1, r .2)
+  read-point c next h k r = (h, k, r .0 .1 .0 .below, r .1, r .2)
 
   -- a later octet, by what was read of it
   module _ (i : Partial) (next bits : ℕ) (r : Reading s at (more i) next) (six : SixBitsAt s next (i .low) (i .high) bits) where

@@ -9,24 +9,17 @@ use native.Mathlib.Omega.{arith}
 use lib.Dec.{ltb}
 use lib.ListN.{length, drop, length-append}
 use borrow.Author.Tests.{le-ltb, lt-ltb}
-use Rattle.octets.specs.Lists.{all}
+use Rattle.octets.specs.Lists.{all, isSome}
 use Rattle.octets.proofs.Laws.Lists.{Every, every-all, every-weaken}
 use Rattle.octets.specs.NameRule.{printable, isNetbiosName}
 use Rattle.octets.proofs.Laws.NameRule.{netbios-printable}
 use Rattle.octets.specs.Text.{isPrintable}
 use Rattle.octets.proofs.Laws.Text.{within-low, within-high}
 use Rattle.octets.specs.Number.{little, littleOctets}
-use Rattle.unicode.specs.Utf8.{points}
+use Rattle.unicode.specs.Utf8.{points, isUtf8}
 use Rattle.unicode.proofs.Laws.Utf8.{Scalar, units, unitsOf, sayable, points-ascii}
 use Rattle.unicode.proofs.Laws.Point.{end-points}
-use Rattle.unicode.specs.Utf16.{pointOctets, pointsOctets, utf16}
-
--- the units of a code point: itself, or a high and a low surrogate
-abbrev pub highUnit : ℕ → ℕ
-highUnit c = 0xD800 + (c - 0x10000) / 1024
-
-abbrev pub lowUnit : ℕ → ℕ
-lowUnit c = 0xDC00 + (c - 0x10000) % 1024
+use Rattle.unicode.specs.Utf16.{highUnit, lowUnit, pointOctets, pointsOctets, utf16}
 
 -- a code point below 10000h is one unit, whose octets make it again
 pub one-unit : (c : ℕ) → c < 0x10000 → (a b : ℕ) × (pointOctets c ≡ a ∷ b ∷ []) × (little (a ∷ b ∷ []) ≡ c)
@@ -117,19 +110,20 @@ module _ (w whole : List ℕ) where
   pub written-fits : (c : ℕ) (o : Option (List ℕ)) → (w ++ pointOctets c) ++ octetsLeft o ≡ whole → length w + length (pointOctets c) ≤ length whole
   written-fits c o e = omega (arith, simp length-append at (ap length e))
 
--- a text that UTF-16 can say: its code points, and their octets at most twice as many as its own
+-- a text that UTF-16 can say: UTF-8, its code points, and their octets at most twice as many as its own
 pub record Spoken (s : List ℕ) : Type 0 where
+  pub utf8 : isUtf8 s ≡ true
   pub codes : List ℕ
   pub said : utf16 s ≡ pointsOctets codes
   pub scalars : Every Scalar codes
   pub short : length (utf16 s) ≤ 2 * length s
 
 pub spoken : (s cs : List ℕ) → Every (λ x. 1 ≤ x) s → points s ≡ some cs → Spoken s
-unfolding utf16
+unfolding utf16 isUtf8
 spoken s cs z e =
     let k : Every Scalar cs × (unitsOf cs ≤ length s) = sayable s cs z e in
     let q : utf16 s ≡ pointsOctets cs = rw e in
-    record { codes = cs; said = q; scalars = k .0; short = rw q (omega (arith, length-points cs)) }
+    record { utf8 = ap isSome e; codes = cs; said = q; scalars = k .0; short = rw q (omega (arith, length-points cs)) }
 
 -- printable ASCII, as NetBIOS names are
 printable-spoken : (s : List ℕ) → printable s ≡ true → Spoken s

@@ -1,5 +1,5 @@
 use mathlib.Core.Path.{refl, sym, ap, _∙_}
-use Rattle.octets.specs.Fold.{foldTable}
+use Rattle.octets.specs.Fold.{foldPairs, foldFrom, foldTable}
 use Rattle.account_names.specs.Internal.Ordering.{isEqual}
 use borrow.Author.Needs.{needs}
 use Rattle.account_names.proofs.compare.same_rest.Statement.{statement}
@@ -9,7 +9,7 @@ slice-aggregate-compare-from : tie.Need-slice-aggregate-compare-from
 slice-aggregate-compare-from c = search needs
 
 compare-from-requires : tie.Need-compare-from-requires
-unfolding foldTable
+unfolding foldPairs foldFrom foldTable
 compare-from-requires c κs = let e = c .before .before .before in (refl, e .pre .0, e .pre .1)
 
 enum-told : tie.Need-enum-told

@@ -23,7 +23,7 @@ returns : tie.Need-returns
 returns c =
     let written = c .before .before .before .before .write-filter .ensures in
     let e = rw (c .before .before .before .before .before .before .request-of .ensures) at written in
-    (c .written-number .ensures ∙ ap writtenNumber (e .0), (c .before .written-length .ensures ∙ ap writtenLength (e .0), e .1))
+    (c .written-number .ensures ∙ ap writtenNumber (e .0 .same), (c .before .written-length .ensures ∙ ap writtenLength (e .0 .same), e .1))
 
 pub put-filter-spec : {M : Type 1} → statement M
 put-filter-spec =

@@ -16,7 +16,7 @@ reading-number-requires c κs = search needs
 
 returns : tie.Need-returns
 returns c =
-    let e = c .before .before .read-reply .ensures in
+    let e = c .before .before .read-reply .ensures .same in
     (c .reading-number .ensures ∙ ap readingNumber e, c .before .reading-members .ensures ∙ ap readingMembers e)
 
 pub put-reading-spec : {M : Type 1} → statement M

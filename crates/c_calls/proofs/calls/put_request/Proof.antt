@@ -16,7 +16,7 @@ taken-number-requires c κs = search needs
 
 returns : tie.Need-returns
 returns c =
-    let e = c .before .before .take-apart .ensures in
+    let e = c .before .before .take-apart .ensures .same in
     (c .taken-number .ensures ∙ ap takenNumber e, c .before .taken-members .ensures ∙ ap takenMembers e)
 
 pub put-request-spec : {M : Type 1} → statement M

@@ -15,7 +15,7 @@ text-number-requires c κs = search needs
 
 returns : tie.Need-returns
 returns c =
-    let e = c .before .before .before .name-text .ensures in
+    let e = c .before .before .before .name-text .ensures .same in
     (c .text-number .ensures ∙ ap (λ t. textNumber (t .len)) e, (ap (λ t. t .octets) e, c .before .text-length .ensures ∙ ap (λ t. textLength (t .len)) e))
 
 pub put-text-spec : {M : Type 1} → statement M

@@ -1,4 +1,6 @@
 use mathlib.Core.Path.{ap, _∙_}
+use mathlib.Core.Option.{Option·getD}
+use Rattle.filter_read.specs.declared.value.Judged.{Judged}
 use Rattle.filter_read.specs.Value.{pingIn, judgedValues, judgedNumber, judgedVersion}
 use borrow.Author.Needs.{needs}
 use Rattle.c_calls.proofs.calls.put_version.Statement.{statement}
@@ -19,8 +21,8 @@ judged-number-requires c κs = search needs
 returns : tie.Need-returns
 returns c =
     let filter = c .before .before .before .before .before .args .filter .now in
-    let e = c .before .before .judge-values .ensures ∙ ap (λ r. judgedValues (pingIn filter r)) (c .before .before .before .request-of .ensures) in
-    (c .judged-number .ensures ∙ ap judgedNumber e, c .before .judged-version .ensures ∙ ap judgedVersion e)
+    let e = c .before .before .judge-values .ensures .same ∙ ap (λ r. judgedValues (pingIn filter r)) (c .before .before .before .request-of .ensures) in
+    (c .judged-number .ensures ∙ ap judgedNumber e, c .before .judged-version .ensures ∙ ap (λ (j : Judged). Option·getD (judgedVersion j) 0) e)
 
 pub put-version-spec : {M : Type 1} → statement M
 put-version-spec =

@@ -11,7 +11,7 @@ use Rattle.table.specs.Context.{contextOf}
 use Rattle.table.specs.Countings.{sameSite}
 use Rattle.table.specs.Server.{Server, serverOf}
 use Rattle.table.specs.Table.{tableFrom}
-use Rattle.table_find.specs.Find.{clientSite}
+use Rattle.table_lookup.specs.Lookup.{clientSite}
 use Rattle.choose.specs.Choose.{nextSite, replyFor}
 use Rattle.choose.specs.Internal.Flags.{flagsBy}
 use Rattle.choose.proofs.Laws.Flags.{flags-by}

@@ -5,7 +5,7 @@ use Rattle.table.specs.Context.{contextOf}
 use Rattle.table.specs.Forest.{forestOf}
 use Rattle.table.specs.Server.{Server, serverOf}
 use Rattle.table.specs.Table.{tableFrom}
-use Rattle.table_find.specs.Find.{siteByNumber}
+use Rattle.table_lookup.specs.Lookup.{siteByNumber}
 use Rattle.choose_reply.specs.Internal.Lends.{nameOf}
 use Rattle.choose_reply.proofs.Laws.Lends.{no-slots, slot-then, lends-same, server-body, forest-body}
 use borrow.Author.Needs.{needs}

@@ -12,7 +12,7 @@ use Rattle.table.specs.Bits.{roleLevel2008}
 use Rattle.table.specs.Site.{Site, siteOf, siteFormat}
 use Rattle.table.specs.Table.{tableFrom}
 use Rattle.table_whole.proofs.Laws.Judgement.{accepted-bounds}
-use Rattle.table_find.specs.Find.{siteIfAny}
+use Rattle.table_lookup.specs.Lookup.{siteIfAny}
 use Rattle.choose_site.proofs.Laws.NextSite.{next-unasked, next-of-none, next-of}
 use borrow.Author.Needs.{needs}
 use Rattle.choose_site.proofs.site.next_site.Statement.{statement}

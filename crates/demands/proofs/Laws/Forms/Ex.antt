@@ -3,9 +3,9 @@ use mathlib.Core.Path.{_≡_, refl, sym, ap, _∙_, subst}
 use mathlib.Core.Bool.{Bool, true, false, cond}
 use mathlib.Core.List.{List, [], _++_, append-assoc}
 use mathlib.Core.Option.{Option, none, some}
-use Prim.Native.Nat.{ℕ, _+_, _<_, _≤_}
+use Prim.Native.Nat.{ℕ, _+_, _≤_}
 use native.Mathlib.Omega.{arith}
-use lib.ListN.{length, getD, length-append}
+use lib.ListN.{length, length-append}
 use Rattle.answers.specs.declared.Form.the-variants.{Ex}
 use Rattle.answers.specs.Try.{good}
 use Rattle.answers.specs.Wire.{NETLOGON-NT-VERSION-5EX-WITH-IP, NETLOGON-NT-VERSION-WITH-CLOSEST-SITE, exVersion, exVersionWithNextSite, Sbz, DcSockAddrSize, sin-family}
@@ -26,12 +26,10 @@ use Rattle.reader.proofs.Laws.Field.{Left, left-start, left-after, left-next}
 use Rattle.reader.proofs.Laws.Reader as reading
 use Rattle.reader.proofs.Laws.Reader.{NamesRow, givenBack, LastAt}
 use Rattle.reply.specs.Reply.{Reply, exHead, exNames, addressIf, exLast, exOctets}
-use Rattle.demands.specs.Length.{longest}
 use Rattle.demands.specs.Places.{namesStart, lastStart}
-use Rattle.demands.specs.WriterPlaces.{writtenAt}
 use Rattle.demands.proofs.Laws.Sound.{Sound}
 use Rattle.demands.proofs.Laws.Forms.{ending-same, address-same, stretch-is, size-most, ending-length}
-use Rattle.demands.proofs.Laws.Forms.Names.{chain, named-row, named-at}
+use Rattle.demands.proofs.Laws.Forms.Names.{chain, named-row}
 use Rattle.demands.proofs.Laws.Places.{names-end}
 
 -- the octets of name 8, if there is one
@@ -77,7 +75,7 @@ module _ (v : ℕ) (r : Reply) (k : Sound Ex v r) where
   abbrev exNamed : Writing
   exNamed = writeNames [] (length (exHead r)) (exNames r)
 
-  abbrev exFront : List ℕ
+  abbrev pub exFront : List ℕ
   exFront = exHead r ++ exNamed .octets ++ addressIf (r .withAddress) (r .ipv4)
 
   abbrev exEnd : List ℕ
@@ -100,10 +98,6 @@ module _ (v : ℕ) (r : Reply) (k : Sound Ex v r) where
 
   pub ex-row : NamesRow (exOctets r) (length (exHead r)) (exNames r) (exNamed .octets)
   ex-row = named-row (exHead r) (exNames r) ex-plain ex-short ex-room exRest (exOctets r) ex-names
-
-  pub ex-at : (i : ℕ) → i < length (exNames r) → getD (ex-row .starts) i 0 ≡ writtenAt Ex r i
-  unfolding ex-row
-  ex-at = named-at (exHead r) (exNames r) ex-plain ex-short ex-room exRest (exOctets r) ex-names
 
   front-length : length exFront ≡ length (exHead r) + length (exNamed .octets) + length (reading.address (has v NETLOGON-NT-VERSION-5EX-WITH-IP) (r .ipv4))
   front-length = rw address-is (simp length-append)
@@ -214,7 +208,7 @@ module _ (v : ℕ) (r : Reply) (k : Sound Ex v r) where
       let e : length (octets ++ reading.ending exVersionWithNextSite) ≡ length octets + length (reading.ending exVersionWithNextSite) = length-append octets (reading.ending exVersionWithNextSite) in
       omega (arith, ending-length exVersionWithNextSite, labels-short (exNamed .tails) (length exFront) (labels text), size-most 63 text w)
 
-  pub ex-length : length (exOctets r) ≤ longest Ex
+  pub ex-length : length (exOctets r) ≤ 1108
   ex-length =
       let last : List ℕ = reading.last (r .nextSite) exEnd in
       let n : length (exOctets r) ≡ length exFront + length last = ap length ex-split ∙ length-append exFront last in

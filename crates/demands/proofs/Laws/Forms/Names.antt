@@ -2,13 +2,13 @@
 use mathlib.Core.Path.{_≡_, refl, sym, subst}
 use mathlib.Core.Bool.{true}
 use mathlib.Core.List.{List, [], _++_}
-use Prim.Native.Nat.{ℕ, _+_, _<_, _≤_}
+use Prim.Native.Nat.{ℕ, _+_, _≤_}
 use native.Mathlib.Omega.{arith}
 use lib.Dec.{ltb}
-use lib.ListN.{length, getD, take, length-append}
+use lib.ListN.{length, length-append}
 use borrow.Author.Tests.{lt-ltb}
 use Rattle.names.specs.Name.{writeNames}
-use Rattle.names.proofs.Laws.Name.{Ready, sizes, names-short, starts, start-after, Row, row-longer, Chain, names-written}
+use Rattle.names.proofs.Laws.Name.{Ready, sizes, names-short, starts, Row, row-longer, Chain, names-written}
 use Rattle.octets.specs.Label.{labels}
 use Rattle.octets.proofs.Laws.Label.{Plain, size}
 use Rattle.octets.proofs.Laws.Lists.{Every, every-weaken}
@@ -31,12 +31,6 @@ module _ (head : List ℕ) (texts : List (List ℕ)) (plain : Every (λ text. Pl
         row = subst (λ (x : List ℕ). Row x 0 (length head) (starts [] (length head) texts) texts (chain .counts) (length head + length octets)) (sym whole) row;
         short = short;
       }
-
-  -- and the writer put each after those before it
-  pub named-at : (q s : List ℕ) (whole : s ≡ head ++ writeNames [] (length head) texts .octets ++ q) (i : ℕ) → i < length texts
-      → getD (named-row q s whole .starts) i 0 ≡ length head + length (writeNames [] (length head) (take i texts) .octets)
-  unfolding named-row
-  named-at q s whole i h = start-after texts [] (length head) i h
 
   -- the tails that they leave start below what names and head take
   pub tails-low : Every (λ t. ltb (t .offset) 0x4000 ≡ true) (writeNames [] (length head) texts .tails)

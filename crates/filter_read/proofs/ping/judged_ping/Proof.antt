@@ -16,7 +16,7 @@ enum-known-version c = search needs
 raw-ping-requires : tie.Need-raw-ping-requires
 raw-ping-requires c κs =
     let p = c .before .before .before .before .before .args in
-    version-judged (p .s .now) (p .request) _ (sym (c .before .version .given .1) ∙ c .before .before .before .judge-values .ensures) .0
+    version-judged (p .s .now) (p .request) _ (sym (c .before .version .given .1) ∙ c .before .before .before .judge-values .ensures .same) .0
 
 enum-known-r : tie.Need-enum-known-r
 enum-known-r c = search needs
@@ -24,12 +24,12 @@ enum-known-r c = search needs
 returns : tie.Need-returns
 returns c =
     let p = c .before .before .before .before .before .before .args in
-    ap good (c .raw-ping .ensures) ∙ sym (version-judged (p .s .now) (p .request) _ (sym (c .before .before .version .given .1) ∙ c .before .before .before .before .judge-values .ensures) .1)
+    ap good (c .raw-ping .ensures) ∙ sym (version-judged (p .s .now) (p .request) _ (sym (c .before .before .version .given .1) ∙ c .before .before .before .before .judge-values .ensures .same) .1)
 
 returns-2 : tie.Need-returns-2
 returns-2 c =
     let p = c .before .before .before .before .before .args in
-    sym (refused-judged (pingIn (p .s .now) (p .request)) _ (sym (c .before .r .given .1) ∙ c .before .before .before .judge-values .ensures))
+    sym (refused-judged (pingIn (p .s .now) (p .request)) _ (sym (c .before .r .given .1) ∙ c .before .before .before .judge-values .ensures .same))
 
 pub judged-ping-spec : {M : Type 1} → statement M
 judged-ping-spec = tie.close (tie.spec judge-values-requires enum-known-version raw-ping-requires enum-known-r returns returns-2)

@@ -24,14 +24,14 @@ returns : tie.Need-returns
 unfolding pingFrom
 returns c =
     let s = c .before .before .before .before .before .before .args .filter .now in
-    let t = request-taken (requestIn s) _ (sym (c .before .before .request .given .1) ∙ c .before .before .before .before .take-apart .ensures) in
+    let t = request-taken (requestIn s) _ (sym (c .before .before .request .given .1) ∙ c .before .before .before .before .take-apart .ensures .same) in
     c .judged-ping .ensures ∙ ap (λ (x : Try Request). x >>= pingIn s) (sym t)
 
 returns-2 : tie.Need-returns-2
 unfolding pingFrom
 returns-2 c =
     let s = c .before .before .before .before .before .args .filter .now in
-    let t = refused-taken (requestIn s) _ (sym (c .before .r .given .1) ∙ c .before .before .before .take-apart .ensures) in
+    let t = refused-taken (requestIn s) _ (sym (c .before .r .given .1) ∙ c .before .before .before .take-apart .ensures .same) in
     ap (λ (x : Try Request). x >>= pingIn s) (sym t)
 
 pub read-ping-spec : {M : Type 1} → statement M

@@ -5,12 +5,13 @@ use lib.ListN.{length}
 use Rattle.filter_position.specs.Filter.{clausesOf}
 use Rattle.filter_read.specs.Taken.{requestIn}
 use Rattle.filter_read.proofs.Laws.Gather.{answerOf, gathered-none, gathered-some}
+use Rattle.filter_read.proofs.Laws.Taken.{take-apart-promised}
 use Rattle.filter_read.proofs.read.take_apart.Statement.{statement}
 use Rattle.filter_read.proofs.read.take_apart.Tie as tie
 
 returns : tie.Need-returns
 unfolding requestIn
-returns c = rw (requestIn, lt-ltb 2048 (length (c .before .before .args .s .now)) (c .if1 .taken))
+returns c = take-apart-promised _ _ (rw (requestIn, lt-ltb 2048 (length (c .before .before .args .s .now)) (c .if1 .taken)))
 
 whole-requires : tie.Need-whole-requires
 whole-requires c κs = search needs
@@ -26,7 +27,7 @@ unfolding requestIn
 returns-2 c =
     let s = c .before .before .before .before .before .args .s .now in
     let e = gathered-none s (clausesOf s) (sym (c .before .before .whole .ensures) ∙ c .enum-told .given .1) in
-    rw (requestIn, le-ltb 2048 (length s) (c .before .before .before .if1 .left), e)
+    take-apart-promised _ _ (rw (requestIn, le-ltb 2048 (length s) (c .before .before .before .if1 .left), e))
 
 -- what was gathered is what document 01 says of the filter
 seen : (c : tie.After-known-told) → requestIn (c .before .before .before .before .before .before .args .s .now) ≡ answerOf (c .before .gathered .given .0 .0)
@@ -37,13 +38,13 @@ seen c =
     rw (requestIn, le-ltb 2048 (length s) (c .before .before .before .before .if1 .left)) (gathered-some s (clausesOf s) (g .0 .0) (sym (c .before .before .before .whole .ensures) ∙ g .1))
 
 returns-3 : tie.Need-returns-3
-returns-3 c = rw (seen (c .before), c .if2 .taken)
+returns-3 c = take-apart-promised _ _ (rw (seen (c .before), c .if2 .taken))
 
 returns-4 : tie.Need-returns-4
-returns-4 c = rw (seen (c .before .before), c .before .if2 .left, c .if3 .taken)
+returns-4 c = take-apart-promised _ _ (rw (seen (c .before .before), c .before .if2 .left, c .if3 .taken))
 
 returns-5 : tie.Need-returns-5
-returns-5 c = rw (seen (c .before .before .before), c .before .before .if2 .left, c .before .if3 .left)
+returns-5 c = take-apart-promised _ _ (rw (seen (c .before .before .before), c .before .before .if2 .left, c .before .if3 .left))
 
 pub take-apart-spec : {M : Type 1} → statement M
 take-apart-spec =

@@ -3,6 +3,7 @@ use borrow.Author.Tests.{not-false}
 use borrow.Author.Needs.{needs}
 use Rattle.filter_read.specs.declared.value.Judged.the-variants.{Version}
 use Rattle.filter_read.specs.Value.{wrongValue, versionAsked, pingIn}
+use Rattle.filter_read.proofs.Laws.Value.{judge-values-promised}
 use Rattle.filter_read.proofs.value.judge_values.Statement.{statement}
 use Rattle.filter_read.proofs.value.judge_values.Tie as tie
 
@@ -13,7 +14,7 @@ returns : tie.Need-returns
 unfolding pingIn wrongValue
 returns c =
     let e = sym (c .before .is-wrong-number .ensures) ∙ c .if1 .taken in
-    rw (pingIn, wrongValue, e)
+    judge-values-promised _ _ _ (rw (pingIn, wrongValue, e))
 
 is-wrong-number-requires-2 : tie.Need-is-wrong-number-requires-2
 is-wrong-number-requires-2 c κs = search needs
@@ -23,7 +24,7 @@ unfolding pingIn wrongValue
 returns-2 c =
     let e = sym (c .before .before .before .is-wrong-number .ensures) ∙ c .before .before .if1 .left in
     let f = sym (c .before .is-wrong-number2 .ensures) ∙ c .if2 .taken in
-    rw (pingIn, wrongValue, e, f)
+    judge-values-promised _ _ _ (rw (pingIn, wrongValue, e, f))
 
 is-wrong-user-requires : tie.Need-is-wrong-user-requires
 is-wrong-user-requires c κs = search needs
@@ -34,7 +35,7 @@ returns-3 c =
     let e = sym (c .before .before .before .before .before .is-wrong-number .ensures) ∙ c .before .before .before .before .if1 .left in
     let f = sym (c .before .before .before .is-wrong-number2 .ensures) ∙ c .before .before .if2 .left in
     let g = sym (c .before .is-wrong-user .ensures) ∙ c .if3 .taken in
-    rw (pingIn, wrongValue, e, f, g)
+    judge-values-promised _ _ _ (rw (pingIn, wrongValue, e, f, g))
 
 enum-known-nt-ver : tie.Need-enum-known-nt-ver
 enum-known-nt-ver c = search needs
@@ -48,7 +49,7 @@ returns-4 c =
     let e = sym (c .before .before .before .before .before .before .before .is-wrong-number .ensures) ∙ c .before .before .before .before .before .before .if1 .left in
     let f = sym (c .before .before .before .before .before .is-wrong-number2 .ensures) ∙ c .before .before .before .before .if2 .left in
     let g = sym (c .before .before .before .is-wrong-user .ensures) ∙ c .before .before .if3 .left in
-    rw (pingIn, wrongValue, e, f, g, c .enum-told .given .1)
+    judge-values-promised _ _ _ (rw (pingIn, wrongValue, e, f, g, c .enum-told .given .1))
 
 clause-number-requires : tie.Need-clause-number-requires
 clause-number-requires c κs =
@@ -62,7 +63,7 @@ returns-5 c =
     let e = sym (c .before .before .before .before .before .before .before .before .before .is-wrong-number .ensures) ∙ c .before .before .before .before .before .before .before .before .if1 .left in
     let f = sym (c .before .before .before .before .before .before .before .is-wrong-number2 .ensures) ∙ c .before .before .before .before .before .before .if2 .left in
     let g = sym (c .before .before .before .before .before .is-wrong-user .ensures) ∙ c .before .before .before .before .if3 .left in
-    rw (pingIn, wrongValue, e, f, g, c .before .before .nt-ver .given .1) (ap Version (c .clause-number .ensures))
+    judge-values-promised _ _ _ (rw (pingIn, wrongValue, e, f, g, c .before .before .nt-ver .given .1) (ap Version (c .clause-number .ensures)))
 
 pub judge-values-spec : {M : Type 1} → statement M
 judge-values-spec =

@@ -1,11 +1,10 @@
-use mathlib.Core.Path.{_≡_, refl, ap, _∙_}
+use mathlib.Core.Path.{_≡_, sym, ap, _∙_}
 use mathlib.Core.List.{List}
 use Prim.Native.Nat.{ℕ}
 use native.Mathlib.Omega.{arith}
 use lib.ListN.{length, getD}
-use borrow.Author.Tests.{lt-ltb, le-ltb}
-use Rattle.octets.specs.Fold.{foldEnd, foldPoint}
-use Rattle.folding.proofs.Laws.Fold.{table-size}
+use Rattle.octets.specs.Fold.{foldEnd}
+use Rattle.octets.proofs.Laws.Fold.{table-size, fold-below, fold-past}
 use borrow.Author.Needs.{needs}
 use Rattle.folding.proofs.fold.fold_point.Statement.{statement}
 use Rattle.folding.proofs.fold.fold_point.Tie as tie
@@ -22,15 +21,13 @@ entry-point-requires : tie.Need-entry-point-requires
 entry-point-requires c κs = search needs
 
 returns : tie.Need-returns
-unfolding foldPoint
 returns c =
     let e = c .before .before .before .before in
     let r = c .entry-point .ensures in
-    (r .0 ∙ ap (λ (t : List ℕ). getD t (e .args .point) 0) (e .pre) ∙ rw (lt-ltb (e .args .point) foldEnd (omega (arith, c .before .before .if1 .taken))) refl, λ h. r .1)
+    (r .0 ∙ ap (λ (t : List ℕ). getD t (e .args .point) 0) (e .pre) ∙ sym (fold-below (e .args .point) (omega (arith, c .before .before .if1 .taken))), λ h. r .1)
 
 returns-2 : tie.Need-returns-2
-unfolding foldPoint
-returns-2 c = (rw (le-ltb (c .before .before .args .point) foldEnd (omega (arith, c .if1 .left))), λ h. h)
+returns-2 c = (sym (fold-past (c .before .before .args .point) (omega (arith, c .if1 .left))), λ h. h)
 
 pub fold-point-spec : {M : Type 1} → statement M
 fold-point-spec =

@@ -10,8 +10,8 @@ use borrow.Author.Needs.{needs}
 use Rattle.names.proofs.plan.plan_name.Statement.{statement}
 use Rattle.names.proofs.plan.plan_name.Tie as tie
 
-stretch-of-requires : tie.Need-stretch-of-requires
-stretch-of-requires c κs = search needs
+slot-text-requires : tie.Need-slot-text-requires
+slot-text-requires c κs = search needs
 
 best-aim-requires : tie.Need-best-aim-requires
 best-aim-requires c κs = search needs
@@ -19,14 +19,14 @@ best-aim-requires c κs = search needs
 planned-requires : tie.Need-planned-requires
 planned-requires c κs =
     let p = c .before .before .before .before .args in
-    rw (c .before .stretch-of .ensures) (text-short (p .table .now) (p .request .now) (p .text) (c .before .before .before .before .pre .0 .1))
+    rw (c .before .slot-text .ensures) (text-short (p .table .now) (p .request .now) (p .text) (c .before .before .before .before .pre .0 .1))
 
 returns : tie.Need-returns
 returns c =
     let p = c .before .before .before .before .before .args in
     let q = c .before .before .before .before .before .pre .0 in
     let a = c .before .best-aim in
-    let e = c .before .before .stretch-of .ensures in
+    let e = c .before .before .slot-text .ensures in
     let ts : List Tail = namesTails (p .table .now) (p .request .now) (take (p .count) (p .names)) in
     subst (PlanOf (p .table .now) (p .request .now) (take (p .count) (p .names)) (p .text) (p .offset))
     (sym (c .planned .ensures ∙ ap (λ (s : List ℕ). planBy (p .text) (length s) (p .offset) (a .result)) e))
@@ -35,4 +35,4 @@ returns c =
 
 pub plan-name-spec : {M : Type 1} → statement M
 plan-name-spec =
-    tie.close (tie.spec stretch-of-requires best-aim-requires planned-requires returns)
+    tie.close (tie.spec slot-text-requires best-aim-requires planned-requires returns)

@@ -13,15 +13,15 @@ use borrow.Author.Needs.{needs}
 use Rattle.names_write.proofs.put.put_name.Statement.{statement}
 use Rattle.names_write.proofs.put.put_name.Tie as tie
 
-stretch-of-requires : tie.Need-stretch-of-requires
-stretch-of-requires c κs = search needs
+slot-text-requires : tie.Need-slot-text-requires
+slot-text-requires c κs = search needs
 
 put-labels-requires : tie.Need-put-labels-requires
 put-labels-requires c κs =
     let p = c .before .before .before .before .before .args in
     let f = c .before .before .before .before .before .pre .0 in
     let n = name-length (p .table .now) (p .request .now) (p .name) f in
-    let e = c .stretch-of .ensures in
+    let e = c .slot-text .ensures in
     (rw e (text-short (p .table .now) (p .request .now) (p .name .text) (f .short)), rw e (f .labels), omega arith)
 
 sub-put-ending : tie.Need-sub-put-ending
@@ -66,7 +66,7 @@ returns c =
     let n = name-length (p .table .now) (p .request .now) (p .name) f in
     let text : List ℕ = octetsAt (p .table .now) (p .request .now) (p .name .text) in
     let h = c .before .before .before .before .before .before .put-labels in
-    let e = h .ensures ∙ ap (λ (s : List ℕ). over (take (p .name .literal) (literalOctets s)) (p .out .now)) (c .before .before .before .before .before .before .before .stretch-of .ensures) in
+    let e = h .ensures ∙ ap (λ (s : List ℕ). over (take (p .name .literal) (literalOctets s)) (p .out .now)) (c .before .before .before .before .before .before .before .slot-text .ensures) in
     let q = c .before .before .put-ending in (
       ap (λ (k : ℕ). p .name .literal + k) (q .ensures .0) ∙ sym n,
       over-lent (take (p .name .literal) (literalOctets text)) (endingOctets (p .name .ending)) (q .last .0) (p .out .now) (h .last .0) (p .name .literal) e
@@ -77,7 +77,7 @@ pub put-name-spec : {M : Type 1} → statement M
 put-name-spec =
     tie.close
     (tie.spec
-    stretch-of-requires
+    slot-text-requires
     put-labels-requires
     sub-put-ending
     part-put-ending-start

@@ -1,5 +1,6 @@
 use Rattle.octets.proofs.Laws.Text.{same-lengths, same-fails, same-next, same-end}
-use Rattle.octets.specs.Text.{same, foldIf}
+use Rattle.octets.specs.Internal.FoldIf.{foldIf}
+use Rattle.octets.specs.Text.{same}
 use borrow.Author.Needs.{needs}
 use lib.ListN.{length, drop, length-map}
 use native.Mathlib.Omega.{arith}

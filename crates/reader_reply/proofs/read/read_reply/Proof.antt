@@ -1,4 +1,5 @@
 use borrow.Author.Needs.{needs}
+use Rattle.reader_forms.proofs.Laws.Reading.{read-reply-promised}
 use Rattle.reader_reply.proofs.read.read_reply.Statement.{statement}
 use Rattle.reader_reply.proofs.read.read_reply.Tie as tie
 
@@ -21,13 +22,13 @@ read-ex-requires : tie.Need-read-ex-requires
 read-ex-requires c κs = search needs
 
 returns : tie.Need-returns
-returns c = rw (c .before .enum-told .given .1) (c .read-nt40 .ensures)
+returns c = read-reply-promised _ _ _ _ (rw (c .before .enum-told .given .1) (c .read-nt40 .ensures))
 
 returns-2 : tie.Need-returns-2
-returns-2 c = rw (c .before .enum-told2 .given .1) (c .read-response .ensures)
+returns-2 c = read-reply-promised _ _ _ _ (rw (c .before .enum-told2 .given .1) (c .read-response .ensures))
 
 returns-3 : tie.Need-returns-3
-returns-3 c = rw (c .before .enum-told3 .given .1) (c .read-ex .ensures)
+returns-3 c = read-reply-promised _ _ _ _ (rw (c .before .enum-told3 .given .1) (c .read-ex .ensures))
 
 pub read-reply-spec : {M : Type 1} → statement M
 read-reply-spec =

@@ -9,7 +9,7 @@ use Rattle.reader_text.specs.Internal.Label.{dotted}
 use Rattle.reader_names.specs.declared.step.NameStep.{NameStep}
 use Rattle.reader_names.specs.declared.step.NameStep.the-variants as step
 use Rattle.reader_names.specs.Internal.Step.{nameStep, StepWithin}
-use Rattle.reader_text.proofs.Laws.Text.{TextLeft, text-start, text-ends, text-refused, text-label, text-pointer}
+use Rattle.reader_text.proofs.Laws.Text.{TextLeft, text-start, text-ends, text-refused, text-label, text-pointer, name-text-promised}
 use borrow.Author.Needs.{needs}
 use Rattle.reader_text.proofs.text.name_text.Statement.{statement}
 use Rattle.reader_text.proofs.text.name_text.Tie as tie
@@ -49,7 +49,7 @@ text-len-requires c κs = search needs
 returns : tie.Need-returns Inv-loop μ-loop
 returns c =
     let a = c .before .before .before .before .before .before .args in
-    text-ends (a .reply .now) (a .start) (c .before .before .before .before .loop .inv) (c .text-len .result) (c .text-len .ensures) (taken (c .before .before .before) step.Ends (c .before .enum-told .given .1))
+    name-text-promised _ _ _ (text-ends (a .reply .now) (a .start) (c .before .before .before .before .loop .inv) (c .text-len .result) (c .text-len .ensures) (taken (c .before .before .before) step.Ends (c .before .enum-told .given .1)))
 
 enum-known-len : tie.Need-enum-known-len Inv-loop μ-loop
 enum-known-len c = search needs
@@ -112,7 +112,7 @@ enum-known-refusal c = search needs
 returns-2 : tie.Need-returns-2 Inv-loop μ-loop
 returns-2 c =
     let a = c .before .before .before .before .before .before .args in
-    text-refused (a .reply .now) (a .start) (c .before .before .before .before .loop .inv) (c .before .refusal .given .0 .0) (taken (c .before .before .before) _ (c .before .refusal .given .1))
+    name-text-promised _ _ _ (text-refused (a .reply .now) (a .start) (c .before .before .before .before .loop .inv) (c .before .refusal .given .0 .0) (taken (c .before .before .before) _ (c .before .refusal .given .1)))
 
 pub name-text-spec : {M : Type 1} → statement M
 name-text-spec =

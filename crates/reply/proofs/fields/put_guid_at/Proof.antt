@@ -8,11 +8,11 @@ use borrow.Author.Needs.{needs}
 use Rattle.reply.proofs.fields.put_guid_at.Statement.{statement}
 use Rattle.reply.proofs.fields.put_guid_at.Tie as tie
 
-stretch-of-requires : tie.Need-stretch-of-requires
-stretch-of-requires c κs = search needs
+slot-text-requires : tie.Need-slot-text-requires
+slot-text-requires c κs = search needs
 
 put-octets-at-requires : tie.Need-put-octets-at-requires
-put-octets-at-requires c κs = omega (arith, ap length (c .stretch-of .ensures))
+put-octets-at-requires c κs = omega (arith, ap length (c .slot-text .ensures))
 
 same-length : tie.Need-same-length
 same-length c = search needs
@@ -20,10 +20,10 @@ same-length c = search needs
 returns : tie.Need-returns
 returns c =
     let a = c .before .before .before .before .before .before .before .before .before .args in
-    let e = c .before .before .before .stretch-of .ensures in
+    let e = c .before .before .before .slot-text .ensures in
     let w = c .before .before .put-octets-at in
     (w .ensures .0 ∙ ap (λ (x : List ℕ). a .at + length x) e, w .ensures .1 ∙ ap (λ (x : List ℕ). overAt (a .at) x (a .out .now)) e)
 
 pub put-guid-at-spec : {M : Type 1} → statement M
 put-guid-at-spec =
-    tie.close (tie.spec stretch-of-requires put-octets-at-requires same-length returns)
+    tie.close (tie.spec slot-text-requires put-octets-at-requires same-length returns)

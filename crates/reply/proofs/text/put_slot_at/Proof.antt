@@ -13,6 +13,12 @@ use borrow.Author.Needs.{needs}
 use Rattle.reply.proofs.text.put_slot_at.Statement.{statement}
 use Rattle.reply.proofs.text.put_slot_at.Tie as tie
 
+mul-text : tie.Need-mul-text
+mul-text c = omega arith
+
+array-copy-out-text : tie.Need-array-copy-out-text
+array-copy-out-text c = omega arith
+
 sub-put-text : tie.Need-sub-put-text
 sub-put-text c = search needs
 
@@ -27,17 +33,17 @@ slot-text-requires c κs = search needs
 
 put-text-requires : tie.Need-put-text-requires
 put-text-requires c κs =
-    let a = c .before .before .before .before .before .before .args in
+    let a = c .before .before .before .before .before .before .before .args in
     let e = c .slot-text .ensures in
     let s = stretch-short (a .table .now) (a .request .now) (getD (a .raw .«slots») (a .slot) noStretch) in (
-      omega (arith, ap length e, c .before .before .before .before .before .before .pre .0 .0 .slots (a .slot)),
-      simp (length-take, length-drop) (omega (arith, ap (λ (x : List ℕ). length (text16 x)) e, c .before .before .before .before .before .before .pre .1)),
+      omega (arith, ap length e, c .before .before .before .before .before .before .before .pre .0 .0 .slots (a .slot)),
+      simp (length-take, length-drop) (omega (arith, ap (λ (x : List ℕ). length (text16 x)) e, c .before .before .before .before .before .before .before .pre .1)),
     )
 
 add-result : tie.Need-add-result
 add-result c =
     let e = ap (λ (x : List ℕ). length (text16 x)) (c .before .before .before .slot-text .ensures) in
-    omega (arith, c .before .before .put-text .ensures .0, c .before .before .before .before .before .before .before .before .before .pre .1)
+    omega (arith, c .before .before .put-text .ensures .0, c .before .before .before .before .before .before .before .before .before .before .pre .1)
 
 same-length : tie.Need-same-length
 same-length c = search needs
@@ -45,7 +51,7 @@ same-length c = search needs
 returns : tie.Need-returns
 unfolding overAt
 returns c =
-    let a = c .before .before .before .before .before .before .before .before .before .args in
+    let a = c .before .before .before .before .before .before .before .before .before .before .args in
     let e = c .before .before .before .slot-text .ensures in
     let w = c .before .before .put-text in
     let x : List ℕ = text16 (slotText (a .table .now) (a .request .now) (a .raw .«slots») (a .slot)) in
@@ -58,6 +64,8 @@ pub put-slot-at-spec : {M : Type 1} → statement M
 put-slot-at-spec =
     tie.close
     (tie.spec
+    mul-text
+    array-copy-out-text
     sub-put-text
     part-put-text-start
     part-put-text-end

@@ -6,14 +6,14 @@ use borrow.Author.Needs.{needs}
 use Rattle.reply_plan.proofs.size.stretch_size.Statement.{statement}
 use Rattle.reply_plan.proofs.size.stretch_size.Tie as tie
 
-stretch-of-requires : tie.Need-stretch-of-requires
-stretch-of-requires c κs = search needs
+slot-text-requires : tie.Need-slot-text-requires
+slot-text-requires c κs = search needs
 
 returns : tie.Need-returns
 returns c =
     let a = c .before .before .before .args in
-    let e = ap length (c .stretch-of .ensures) in
+    let e = ap length (c .slot-text .ensures) in
     (e, omega (arith, stretch-short (a .table .now) (a .request .now) (a .stretch)))
 
 pub stretch-size-spec : {M : Type 1} → statement M
-stretch-size-spec = tie.close (tie.spec stretch-of-requires returns)
+stretch-size-spec = tie.close (tie.spec slot-text-requires returns)

@@ -1,14 +1,13 @@
-use mathlib.Core.Path.{_≡_, refl, sym, ap, _∙_}
+use mathlib.Core.Path.{_≡_, refl, sym, ap, subst, _∙_}
 use Prim.Native.Nat.{ℕ, _+_, _-_, _*_, _≤_, _<_}
 use native.Mathlib.Omega.{arith}
 use lib.ListN.{length, drop, length-drop}
-use Rattle.table_check.proofs.Laws.Step.{stepped, grown-cut}
-use Rattle.octets.proofs.Laws.Lists.{cut-length, cut-rest}
+use Rattle.table_check.proofs.Laws.Step.{step-below, step-as-singly, grown-cut}
+use Rattle.octets.proofs.Laws.Lists.{cut-rest}
 use Rattle.octets.specs.Lists.{cut}
 use Rattle.table_check.specs.declared.check.Check.{Check}
-use Rattle.table_check.specs.Step.{sum, counted}
+use Rattle.table_check.specs.Step.{step}
 use Rattle.table_check.specs.Check.{grown, checkOf}
-use borrow.Author.Needs.{needs}
 use borrow.Author.Needs.{needs}
 use Rattle.table_check.proofs.check.check_of.Statement.{statement}
 use Rattle.table_check.proofs.check.check_of.Tie as tie
@@ -26,20 +25,17 @@ loop-holds c = (omega arith, omega arith, omega arith, refl)
 sub-loop : tie.Need-sub-loop Inv-loop μ-loop
 sub-loop c = search needs
 
-add-sums-of : tie.Need-add-sums-of Inv-loop μ-loop
-add-sums-of c = search needs
+add-step : tie.Need-add-step Inv-loop μ-loop
+add-step c = search needs
 
-sub-sums-of : tie.Need-sub-sums-of Inv-loop μ-loop
-sub-sums-of c = search needs
+sub-step : tie.Need-sub-step Inv-loop μ-loop
+sub-step c = search needs
 
-part-sums-of-start : tie.Need-part-sums-of-start Inv-loop μ-loop
-part-sums-of-start c = search needs
+part-step-start : tie.Need-part-step-start Inv-loop μ-loop
+part-step-start c = search needs
 
-part-sums-of-end : tie.Need-part-sums-of-end Inv-loop μ-loop
-part-sums-of-end c = search needs
-
-sums-of-requires : tie.Need-sums-of-requires Inv-loop μ-loop
-sums-of-requires c κs = search needs
+part-step-end : tie.Need-part-step-end Inv-loop μ-loop
+part-step-end c = search needs
 
 step-requires : tie.Need-step-requires Inv-loop μ-loop
 step-requires c κs = search needs
@@ -52,45 +48,35 @@ loop-less c = search needs
 
 loop-again : tie.Need-loop-again Inv-loop μ-loop
 loop-again c =
-    let l = c .before .before .before .before .loop in
-    let s = c .before .before .before .before .before .before .args .octets .now in
+    let l = c .before .before .before .loop in
+    let s = c .before .before .before .before .before .args .octets .now in
     let sixteen : l .i + 16 - l .i ≡ 16 = omega arith in
-    let n : 16 ≡ length (cut s (l .i) 16) = sym (cut-length s (l .i) 16 (omega arith)) in
-    let e : c .before .sums-of .result .sum ≡ sum (cut s (l .i) 16) = c .before .sums-of .ensures .0 ∙ ap (λ (k : ℕ). sum (cut s (l .i) k)) sixteen in
-    let f : c .before .sums-of .result .counted ≡ counted (cut s (l .i) 16) = c .before .sums-of .ensures .1 ∙ ap (λ (k : ℕ). counted (cut s (l .i) k)) sixteen in
-    let q : c .step .result ≡ grown (l .check) (cut s (l .i) 16) = stepped (l .check) (c .step .result) _ _ 16 (cut s (l .i) 16) (l .inv .1) (l .inv .2) e f n (c .step .ensures .0) (c .step .ensures .1) in (
+    let q : c .step .result ≡ step (l .check) (cut s (l .i) 16) = c .step .ensures ∙ ap (λ (k : ℕ). step (l .check) (cut s (l .i) k)) sixteen in
+    let below = step-below (l .check) (cut s (l .i) 16) in (
       omega arith,
-      omega (arith, c .step .ensures .0),
-      omega (arith, c .step .ensures .1),
-      ap (λ (k : Check). grown k (drop (l .i + 16) s)) q ∙ grown-cut (l .check) s (l .i) 16 ∙ l .inv .3,
+      subst (λ (k : Check). k .a < 65536) (sym q) (below .0),
+      subst (λ (k : Check). k .b < 65536) (sym q) (below .1),
+      ap (λ (k : Check). grown k (drop (l .i + 16) s)) (q ∙ step-as-singly (l .check) (cut s (l .i) 16) (l .inv .1) (l .inv .2)) ∙ grown-cut (l .check) s (l .i) 16 ∙ l .inv .3,
     )
 
-sub-left : tie.Need-sub-left Inv-loop μ-loop
-sub-left c = search needs
+sub-step-2 : tie.Need-sub-step-2 Inv-loop μ-loop
+sub-step-2 c = search needs
 
-sub-sums-of-2 : tie.Need-sub-sums-of-2 Inv-loop μ-loop
-sub-sums-of-2 c = search needs
+part-step-start-2 : tie.Need-part-step-start-2 Inv-loop μ-loop
+part-step-start-2 c = search needs
 
-part-sums-of-start-2 : tie.Need-part-sums-of-start-2 Inv-loop μ-loop
-part-sums-of-start-2 c = search needs
-
-part-sums-of-end-2 : tie.Need-part-sums-of-end-2 Inv-loop μ-loop
-part-sums-of-end-2 c = search needs
-
-sums-of-requires-2 : tie.Need-sums-of-requires-2 Inv-loop μ-loop
-sums-of-requires-2 c κs = search needs
+part-step-end-2 : tie.Need-part-step-end-2 Inv-loop μ-loop
+part-step-end-2 c = search needs
 
 step-requires-2 : tie.Need-step-requires-2 Inv-loop μ-loop
 step-requires-2 c κs = search needs
 
 returns : tie.Need-returns Inv-loop μ-loop
 returns c =
-    let l = c .before .before .before .before .loop in
-    let s = c .before .before .before .before .before .before .args .octets .now in
+    let l = c .before .before .before .loop in
+    let s = c .before .before .before .before .before .args .octets .now in
     let rest : cut s (l .i) (length s - l .i) ≡ drop (l .i) s = cut-rest s (l .i) (length s - l .i) (omega arith) in
-    let e : c .before .sums-of2 .result .sum ≡ sum (drop (l .i) s) = c .before .sums-of2 .ensures .0 ∙ ap sum rest in
-    let f : c .before .sums-of2 .result .counted ≡ counted (drop (l .i) s) = c .before .sums-of2 .ensures .1 ∙ ap counted rest in
-    stepped (l .check) (c .step2 .result) _ _ _ (drop (l .i) s) (l .inv .1) (l .inv .2) e f (sym (length-drop (l .i) s)) (c .step2 .ensures .0) (c .step2 .ensures .1) ∙ l .inv .3
+    c .step2 .ensures ∙ ap (step (l .check)) rest ∙ step-as-singly (l .check) (drop (l .i) s) (l .inv .1) (l .inv .2) ∙ l .inv .3
 
 pub check-of-spec : {M : Type 1} → statement M
 check-of-spec =
@@ -100,19 +86,16 @@ check-of-spec =
     μ-loop
     loop-holds
     sub-loop
-    add-sums-of
-    sub-sums-of
-    part-sums-of-start
-    part-sums-of-end
-    sums-of-requires
+    add-step
+    sub-step
+    part-step-start
+    part-step-end
     step-requires
     add-i
     loop-less
     loop-again
-    sub-left
-    sub-sums-of-2
-    part-sums-of-start-2
-    part-sums-of-end-2
-    sums-of-requires-2
+    sub-step-2
+    part-step-start-2
+    part-step-end-2
     step-requires-2
     returns)

@@ -1,5 +1,6 @@
 use Rattle.table.specs.Countings.{blockPlace}
-use Rattle.table.specs.Block.{blockSize, blockAt, blocksOf}
+use Rattle.table.specs.Block.{blockSize, blocksOf}
+use Rattle.table.specs.Internal.BlockAt.{blockAt}
 use Rattle.table_check.specs.Check.{goodCheck}
 use Rattle.octets.proofs.Laws.Lists.{all-piece-fails, all-piece-next, all-pieces-end}
 use Rattle.octets.specs.Lists.{all}

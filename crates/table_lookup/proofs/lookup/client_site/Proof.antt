@@ -9,9 +9,9 @@ use Rattle.table.specs.declared.SiteNumber.{SiteNumber}
 use Rattle.table.specs.declared.record.RecordKind.the-variants as kind
 use Rattle.table.specs.Site.{siteFormat, siteOf}
 use Rattle.table.specs.Table.{tableFrom}
-use Rattle.table_whole.proofs.Laws.Judgement.{accepted-sites}
+use Rattle.table_whole.proofs.Laws.Judgement.{accepted-whole}
 use Rattle.table_find.specs.declared.search.SiteKey.the-variants.{Any, OtherThan}
-use Rattle.table_find.specs.Find.{clientSite}
+use Rattle.table_lookup.specs.Lookup.{clientSite}
 use Rattle.table_find.specs.Internal.Found.{LiesIn, siteAt}
 use Rattle.table_find.specs.Internal.Key.{isSite}
 use Rattle.table_lookup.proofs.Laws.ClientSite.{no-site, lone-site, several-sites}
@@ -86,7 +86,7 @@ returns-3 c =
     let t = tableFrom (a .image .now) in
     let p = c .before .before .before .before .before .before in
     let none-other = ap (siteAt (a .image .now)) (sym (c .enum-told3 .given .1)) ∙ another (c .before .before) in
-    (lone-site t (a .caller) (t .sites) _ (accepted-sites (a .image .now) (c .before .before .before .before .before .before .before .before .before .before .pre)) (first-there p) none-other, lies-there p)
+    (lone-site t (a .caller) (t .sites) _ (accepted-whole (a .image .now) (c .before .before .before .before .before .before .before .before .before .before .pre) .sites) (first-there p) none-other, lies-there p)
 
 pub client-site-spec : {M : Type 1} → statement M
 client-site-spec =

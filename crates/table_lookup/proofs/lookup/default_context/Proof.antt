@@ -5,7 +5,7 @@ use Rattle.table_whole.proofs.Laws.Judgement.{accepted-bounds}
 use mathlib.Core.Path.{ap, _∙_}
 use Rattle.table.specs.Server.{Server}
 use Rattle.table.specs.Table.{tableFrom}
-use Rattle.table_find.specs.Find.{contextByNumber, defaultContext}
+use Rattle.table_lookup.specs.Lookup.{contextByNumber, defaultContext}
 use borrow.Author.Needs.{needs}
 use Rattle.table_lookup.proofs.lookup.default_context.Statement.{statement}
 use Rattle.table_lookup.proofs.lookup.default_context.Tie as tie

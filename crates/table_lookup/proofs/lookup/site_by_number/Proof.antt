@@ -1,4 +1,4 @@
-use Rattle.table_find.specs.Find.{siteByNumber}
+use Rattle.table_lookup.specs.Lookup.{siteByNumber}
 use borrow.Author.Needs.{needs}
 use Rattle.table_lookup.proofs.lookup.site_by_number.Statement.{statement}
 use Rattle.table_lookup.proofs.lookup.site_by_number.Tie as tie

@@ -4,7 +4,7 @@ use mathlib.Core.Path.{sym, ap, _∙_}
 use Rattle.table.specs.Subnet.{subnetOf}
 use Rattle.table.specs.Table.{tableFrom}
 use Rattle.table_find.specs.Internal.Found.{subnetAt}
-use Rattle.table_find.specs.Find.{siteIfAny, siteOfSubnet}
+use Rattle.table_lookup.specs.Lookup.{siteIfAny, siteOfSubnet}
 use borrow.Author.Needs.{needs}
 use Rattle.table_lookup.proofs.lookup.site_by_subnet.Statement.{statement}
 use Rattle.table_lookup.proofs.lookup.site_by_subnet.Tie as tie

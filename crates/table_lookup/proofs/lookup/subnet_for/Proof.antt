@@ -3,7 +3,7 @@ use mathlib.Core.Option.{none}
 use mathlib.Core.Path.{ap, _∙_}
 use Rattle.table.specs.Block.{blocksOf}
 use Rattle.table_find.specs.Internal.Nearest.{nearestIn}
-use Rattle.table_find.proofs.Laws.Nearest.{subnet-found}
+use Rattle.table_lookup.proofs.Laws.Nearest.{subnet-found}
 use borrow.Author.Needs.{needs}
 use Rattle.table_lookup.proofs.lookup.subnet_for.Statement.{statement}
 use Rattle.table_lookup.proofs.lookup.subnet_for.Tie as tie

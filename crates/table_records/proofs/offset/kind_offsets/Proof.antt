@@ -1,6 +1,6 @@
 use Rattle.table_records.proofs.Laws.Offset.{one-more}
 use Rattle.table_records.proofs.Laws.Offset.{used-end, step-in, step-over, room-left}
-use Rattle.table.specs.Block.{blockAt}
+use Rattle.table.specs.Internal.BlockAt.{blockAt}
 use Rattle.table.specs.Countings.{blockPlace}
 use borrow.Author.Tests.{eq-eqb, ne-eqb}
 use native.Mathlib.Nat.{mul-comm, mul-le-mul-left}

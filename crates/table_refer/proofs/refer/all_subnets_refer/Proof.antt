@@ -6,7 +6,8 @@ use borrow.Author.Needs.{needs}
 use borrow.Author.Tests.{not-true, not-false}
 use Rattle.octets.specs.Lists.{all}
 use Rattle.octets.proofs.Laws.Lists.{all-piece-fails, all-piece-next, all-pieces-end}
-use Rattle.table.specs.Block.{blockSize, blockAt, blocksOf}
+use Rattle.table.specs.Block.{blockSize, blocksOf}
+use Rattle.table.specs.Internal.BlockAt.{blockAt}
 use Rattle.table.specs.Countings.{blockPlace}
 use Rattle.table_refer.specs.Internal.Refer.{subnetsRefer}
 use Rattle.table_refer.proofs.refer.all_subnets_refer.Statement.{statement}

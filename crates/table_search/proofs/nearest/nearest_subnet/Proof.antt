@@ -8,7 +8,8 @@ use lib.ListN.{length, drop}
 use borrow.Author.Tests.{eq-eqb, ne-eqb}
 use Rattle.octets.proofs.Laws.Lists.{cut-cut}
 use Rattle.table.specs.declared.record.RecordKind.the-variants as kind
-use Rattle.table.specs.Block.{blockSize, bodyOffset, bodySize, blockAt, blocksOf, kindIn}
+use Rattle.table.specs.Block.{blockSize, bodyOffset, bodySize, blocksOf, kindIn}
+use Rattle.table.specs.Internal.BlockAt.{blockAt}
 use Rattle.table.specs.Countings.{blockPlace}
 use Rattle.table_whole.proofs.Laws.Judgement.{accepted-bounds}
 use Rattle.table_find.specs.Internal.Found.{LiesIn, subnetAt}

@@ -6,7 +6,8 @@ use lib.Dec.{eqb}
 use borrow.Author.Tests.{eq-eqb, ne-eqb}
 use Rattle.octets.proofs.Laws.Lists.{cut-cut}
 use Rattle.table.specs.declared.record.RecordFormat.{RecordFormat}
-use Rattle.table.specs.Block.{blockSize, bodyOffset, bodySize, blockAt, kindIn}
+use Rattle.table.specs.Block.{blockSize, bodyOffset, bodySize, kindIn}
+use Rattle.table.specs.Internal.BlockAt.{blockAt}
 use Rattle.table.specs.Format.{formatOf}
 use Rattle.table_find.specs.Internal.Search.{firstInBody, firstInBlock}
 use Rattle.table_find.specs.Internal.Key.{kindFor}

@@ -1,5 +1,5 @@
 use mathlib.Core.Path.{refl}
-use Rattle.octets.specs.Fold.{foldTable}
+use Rattle.octets.specs.Fold.{foldPairs, foldFrom, foldTable}
 use Rattle.table_unique.proofs.Laws.Neighbours.{few-unique}
 use borrow.Author.Needs.{needs}
 use Rattle.table_unique.proofs.unique.are_accounts_unique.Statement.{statement}
@@ -12,7 +12,7 @@ slice-aggregate-are-unique : tie.Need-slice-aggregate-are-unique
 slice-aggregate-are-unique c = search needs
 
 are-unique-requires : tie.Need-are-unique-requires
-unfolding foldTable
+unfolding foldPairs foldFrom foldTable
 are-unique-requires c κs e = refl
 
 same-length : tie.Need-same-length

@@ -7,7 +7,8 @@ use lib.ListN.{length}
 use Rattle.octets.specs.Buffer.{over}
 use Rattle.octets.specs.Number.{littleOctets}
 use Rattle.lent.proofs.Laws.OverAt.{laid-over, laid-number, over-laid, length-laid}
-use Rattle.unicode.proofs.Laws.Utf16.{highUnit, lowUnit, one-unit-octets, two-units-octets}
+use Rattle.unicode.specs.Utf16.{highUnit, lowUnit}
+use Rattle.unicode.proofs.Laws.Utf16.{one-unit-octets, two-units-octets}
 use Rattle.unicode.proofs.utf16.put_point.Statement.{statement}
 use Rattle.unicode.proofs.utf16.put_point.Tie as tie
 

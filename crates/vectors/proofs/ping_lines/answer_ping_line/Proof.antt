@@ -10,11 +10,8 @@ use Rattle.vectors.proofs.ping_lines.answer_ping_line.Tie as tie
 word-requires : tie.Need-word-requires
 word-requires c κs = search needs
 
-word-requires-2 : tie.Need-word-requires-2
-word-requires-2 c κs = search needs
-
-asks-requires : tie.Need-asks-requires
-asks-requires c κs = search needs
+is-four-octets-requires : tie.Need-is-four-octets-requires
+is-four-octets-requires c κs = search needs
 
 say-unknown-requires : tie.Need-say-unknown-requires
 say-unknown-requires c κs = search needs
@@ -22,8 +19,8 @@ say-unknown-requires c κs = search needs
 returns : tie.Need-returns
 returns c = search needs
 
-word-requires-3 : tie.Need-word-requires-3
-word-requires-3 c κs = search needs
+word-requires-2 : tie.Need-word-requires-2
+word-requires-2 c κs = search needs
 
 room-of-requires : tie.Need-room-of-requires
 room-of-requires c κs = search needs
@@ -40,32 +37,23 @@ say-unknown-requires-2 c κs = search needs
 returns-2 : tie.Need-returns-2
 returns-2 c = search needs
 
-decode-requires : tie.Need-decode-requires
-decode-requires c κs = search needs
-
 filled-requires : tie.Need-filled-requires
 filled-requires c κs = search needs
 
 caller-of-requires : tie.Need-caller-of-requires
 caller-of-requires c κs = search needs
 
-part-requires : tie.Need-part-requires
-part-requires c κs = search needs
-
 array-borrow-prefix-reply : tie.Need-array-borrow-prefix-reply
 array-borrow-prefix-reply c =
-    let s = c .before .before .before .before .before .before .before .before .before in
+    let s = c .before .before .before in
     let fits : s .room .given .0 .0 ≤ 4096 = subst Lendable (s .room .given .1) (s .before .before .room-of .ensures) in
-    omega (arith, fits, c .before .before .before .filled .ensures)
+    omega (arith, fits, c .before .filled .ensures)
 
 slice-aggregate-answer-into : tie.Need-slice-aggregate-answer-into
 slice-aggregate-answer-into c = sym (length-take-le _ _ (array-borrow-prefix-reply (c .before)))
 
 answer-into-requires : tie.Need-answer-into-requires
 answer-into-requires c κs = search needs
-
-same-length : tie.Need-same-length
-same-length c = search needs
 
 returns-3 : tie.Need-returns-3
 returns-3 c = search needs
@@ -75,22 +63,18 @@ answer-ping-line-spec =
     tie.close
     (tie.spec
     word-requires
-    word-requires-2
-    asks-requires
+    is-four-octets-requires
     say-unknown-requires
     returns
-    word-requires-3
+    word-requires-2
     room-of-requires
     enum-known-room
     enum-told
     say-unknown-requires-2
     returns-2
-    decode-requires
     filled-requires
     caller-of-requires
-    part-requires
     array-borrow-prefix-reply
     slice-aggregate-answer-into
     answer-into-requires
-    same-length
     returns-3)
