@@ -1,19 +1,13 @@
 // A filter taken apart.
 ghost use mathlib.Core.Path.{_≡_};
-ghost use lib.ListN.{length};
-ghost use Rattle.filter_gather.specs.Internal.Gather.{nothing};
-ghost use Rattle.filter_gather.specs.Internal.Seen.{seenCount, decoded};
-ghost use Rattle.filter_read.specs.Taken.{requestIn, takenNumber, TakeApartPromise};
-ghost use Rattle.filter_read.specs.Internal.ClausesRead.{requestRead};
+ghost use Rattle.filter_read.specs.Taken.{takenNumber, TakeApartPromise};
+use crate::clauses::ClausesRead;
+use crate::clauses::read_clauses;
 use answers::Refusal;
 use answers::number_of;
 use filter::request::Request;
-use filter_gather::gather::whole;
-use filter_gather::seen::DUPLICATE;
 use filter_gather::seen::SEEN_COUNT;
-use filter_gather::seen::UNKNOWN;
 use filter_gather::seen::request_seen;
-use filter_position::position::FILTER_LIMIT;
 
 // What taking a filter apart gives: 0 with the request, or 5 to 8.
 pub enum Taken {
@@ -29,32 +23,6 @@ pub fn taken_number(taken: Taken) -> u8
         Taken::Request(_) => 0,
         Taken::Refused(refusal) => number_of(refusal),
     }
-}
-
-// What gathering a filter gives: its clauses in the array that is lent, or 5 to 8.
-pub enum ClausesRead {
-    Gathered,
-    Refused(Refusal),
-}
-
-// A filter gathered: 5 by its length alone, then 6, 7 and 8, each judged over the whole filter.
-pub fn read_clauses(s: &[u8], seen: &mut [u32; SEEN_COUNT]) -> ClausesRead
-    requires { ⌜ (length (now seen) ≡ seenCount) × (decoded (now seen) ≡ nothing) ⌝ }
-    ensures { λ r. ⌜ requestIn (now (s .entry)) ≡ requestRead r (decoded (now (seen .exit))) ⌝ }
-{
-    if FILTER_LIMIT < s.len() {
-        return ClausesRead::Refused(Refusal::FilterLength);
-    }
-    if !whole(s, seen) {
-        return ClausesRead::Refused(Refusal::FilterShape);
-    }
-    if seen[UNKNOWN] != 0 {
-        return ClausesRead::Refused(Refusal::UnknownClause);
-    }
-    if seen[DUPLICATE] != 0 {
-        return ClausesRead::Refused(Refusal::DuplicateClause);
-    }
-    ClausesRead::Gathered
 }
 
 pub fn take_apart(s: &[u8]) -> Taken

@@ -3,7 +3,7 @@ use borrow.Author.Needs.{needs}
 use Rattle.answers.specs.Try.{Try, _>>=_}
 use Rattle.filter.specs.declared.request.Request.{Request}
 use Rattle.filter_gather.specs.Internal.Seen.{decoded}
-use Rattle.filter_read.specs.declared.read.ClausesRead.{ClausesRead}
+use Rattle.filter_read.specs.declared.clauses.ClausesRead.{ClausesRead}
 use Rattle.filter_read.specs.Internal.ClausesRead.{requestRead}
 use Rattle.filter_read.specs.Value.{pingIn, pingFrom}
 use Rattle.filter_read.proofs.ping.read_ping.Statement.{statement}

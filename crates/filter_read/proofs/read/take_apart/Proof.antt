@@ -1,7 +1,7 @@
 use mathlib.Core.Path.{_≡_, refl, sym, ap, _∙_}
 use borrow.Author.Needs.{needs}
 use Rattle.filter_gather.specs.Internal.Seen.{decoded}
-use Rattle.filter_read.specs.declared.read.ClausesRead.{ClausesRead}
+use Rattle.filter_read.specs.declared.clauses.ClausesRead.{ClausesRead}
 use Rattle.filter_read.specs.declared.read.Taken.the-variants as taken
 use Rattle.filter_read.specs.Internal.ClausesRead.{requestRead}
 use Rattle.filter_read.specs.Taken.{requestIn, takenAs}

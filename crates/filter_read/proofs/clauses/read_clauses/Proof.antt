@@ -8,8 +8,8 @@ use Rattle.filter_gather.specs.Internal.Gather.{Gathered, gatheringOf, gathered
 use Rattle.filter_gather.specs.Internal.Seen.{decoded}
 use Rattle.filter_read.specs.Taken.{requestIn}
 use Rattle.filter_read.proofs.Laws.Gather.{answerOf, gathered-none, gathered-some}
-use Rattle.filter_read.proofs.read.read_clauses.Statement.{statement}
-use Rattle.filter_read.proofs.read.read_clauses.Tie as tie
+use Rattle.filter_read.proofs.clauses.read_clauses.Statement.{statement}
+use Rattle.filter_read.proofs.clauses.read_clauses.Tie as tie
 
 returns : tie.Need-returns
 unfolding requestIn

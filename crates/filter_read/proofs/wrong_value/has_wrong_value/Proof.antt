@@ -1,8 +1,8 @@
 use mathlib.Core.Path.{ap₂}
 use mathlib.Core.Bool.{_||_}
 use borrow.Author.Needs.{needs}
-use Rattle.filter_read.proofs.value.has_wrong_value.Statement.{statement}
-use Rattle.filter_read.proofs.value.has_wrong_value.Tie as tie
+use Rattle.filter_read.proofs.wrong_value.has_wrong_value.Statement.{statement}
+use Rattle.filter_read.proofs.wrong_value.has_wrong_value.Tie as tie
 
 is-wrong-number-requires : tie.Need-is-wrong-number-requires
 is-wrong-number-requires c κs = search needs
