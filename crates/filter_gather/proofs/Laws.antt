@@ -1,2 +1,4 @@
 pub mod Gather
+pub mod Letters
+pub mod Seen
 pub mod Turn

@@ -1,1 +1,3 @@
 pub mod Gather
+pub mod Letters
+pub mod Seen

@@ -1,24 +1,23 @@
 // The clauses of a filter, gathered one after the other.
 ghost use mathlib.Core.Path.{_≡_};
+ghost use Prim.Native.Nat.{_≤_};
 ghost use lib.ListN.{length};
-ghost use Rattle.octets.specs.Text.{sameFolded};
-ghost use Rattle.filter_position.specs.Filter.{andOf, clausesOf};
-ghost use Rattle.filter.specs.Request.{spelling};
-ghost use Rattle.filter_position.specs.Internal.Position.{Inside, FilterInside, clausesIn};
-ghost use Rattle.filter_gather.specs.Internal.Gather.{spelledAs, nameSpelled, added, nothing, gatheredFrom};
+ghost use Rattle.filter_position.specs.Filter.{filterLimit, andOf, clausesOf};
+ghost use Rattle.filter_position.specs.Internal.Position.{Inside, ClauseInside, FilterInside, clausesIn};
+ghost use Rattle.filter_gather.specs.Internal.Gather.{spelledAs, nameSpelled, added, gatheredFrom, gatheringOf};
+ghost use Rattle.filter_gather.specs.Internal.Seen.{seenCount, decoded};
+use crate::letters::place_of;
+use crate::seen::DUPLICATE;
+use crate::seen::SEEN_COUNT;
+use crate::seen::UNKNOWN;
+use crate::seen::pack;
 use filter::request::CLAUSE_COUNT;
-use filter::request::Clause;
 use filter::request::ClauseName;
-use filter::request::Request;
 use filter::request::clause_name_at;
-use filter::request::no_clauses;
-use filter::request::spelling_of;
 use filter_position::position::Filter;
 use filter_position::position::FilterRead;
 use filter_position::position::Position;
 use filter_position::position::RawClause;
-use octets::part::part;
-use octets::text::same_folded;
 
 // How many ANDs may stand one inside the other.
 const DEPTH: u8 = 4;
@@ -29,130 +28,90 @@ pub enum SpelledName {
     Known(ClauseName),
 }
 
-// The clauses read so far: the first of each name, whether one was of another name, and whether one was there before.
-pub struct Gathered {
-    pub request: Request,
-    pub unknown: bool,
-    pub duplicate: bool,
-}
-
-// What the clauses of a filter make, where it is of the shape.
-pub enum Gathering {
-    Wrong,
-    Good(Gathered),
-}
-
-// Whether octets spell a clause name, ASCII case ignored.
-fn is_spelling(s: &[u8], name: ClauseName) -> bool
-    ensures { λ r. ⌜ r ≡ sameFolded (now (s .entry)) (spelling name) ⌝ }
-{
-    let spelling = spelling_of(name);
-    let octets = spelling.octets;
-    let len = spelling.len;
-    same_folded(s, part(&octets, 0, len))
-}
-
 // The clause name that octets spell.
 pub fn name_of(s: &[u8]) -> SpelledName
     ensures { λ r. ⌜ r ≡ spelledAs (nameSpelled (now (s .entry))) ⌝ }
 {
-    let mut i = 0;
-    while i < CLAUSE_COUNT {
-        let name = clause_name_at(i);
-        if is_spelling(s, name) {
-            return SpelledName::Known(name);
-        }
-        i += 1;
+    let place = place_of(s, 0, s.len());
+    if CLAUSE_COUNT <= place {
+        return SpelledName::Unknown;
     }
-    SpelledName::Unknown
+    SpelledName::Known(clause_name_at(place))
 }
 
-impl Gathered {
-    // With one more clause: of another name, of a name that is there already, or the first of its name.
-    fn with(self, s: &[u8], clause: RawClause) -> Gathered
-        ensures { λ r. ⌜ r ≡ added (now (s .entry)) self clause ⌝ }
-    {
-        let request = self.request;
-        let name_start = clause.name_start;
-        let name_len = clause.name_len;
-        let SpelledName::Known(name) = name_of(part(s, name_start, name_len)) else {
-            return Gathered {
-                request,
-                unknown: true,
-                duplicate: self.duplicate,
-            };
-        };
-        if request.clause(name).is_present() {
-            return Gathered {
-                request,
-                unknown: self.unknown,
-                duplicate: true,
-            };
-        }
-        let present = Clause::Present {
-            start: clause.start,
-            len: clause.len,
-        };
-        let request = request.with(name, present);
-        Gathered {
-            request,
-            unknown: self.unknown,
-            duplicate: self.duplicate,
-        }
+// One more clause: of another name, of a name that is there already, or the first of its name.
+fn add_clause(s: &[u8], clause: RawClause, seen: &mut [u32; SEEN_COUNT])
+    requires { ⌜ (length (now s) ≤ filterLimit) × (length (now seen) ≡ seenCount) × ClauseInside (length (now s)) clause ⌝ }
+    ensures { λ _. ⌜ length (now (seen .exit)) ≡ seenCount ⌝ }
+    ensures { λ _. ⌜ decoded (now (seen .exit)) ≡ added (now (s .entry)) (decoded (now (seen .entry))) clause ⌝ }
+{
+    let name_start = clause.name_start;
+    let name_len = clause.name_len;
+    let place = place_of(s, name_start, name_len);
+    if CLAUSE_COUNT <= place {
+        seen[UNKNOWN] = 1;
+        return;
     }
+    if seen[place] != 0 {
+        seen[DUPLICATE] = 1;
+        return;
+    }
+    let start = clause.start;
+    let len = clause.len;
+    seen[place] = pack(start, len);
 }
 
-// The clauses of one filter, with `depth` ANDs left that may stand one inside the other.
-fn one_of(s: &[u8], filter: Filter, depth: u8, gathered: Gathered) -> Gathering
-    requires { ⌜ FilterInside (length (now s)) filter ⌝ }
-    ensures { λ r. ⌜ r ≡ gatheredFrom (now (s .entry)) gathered (clausesIn depth (now (s .entry)) filter) ⌝ }
+// The clauses of one filter, with `depth` ANDs left that may stand one inside the other; false where it is not of the shape.
+fn one_of(s: &[u8], filter: Filter, depth: u8, seen: &mut [u32; SEEN_COUNT]) -> bool
+    requires { ⌜ (length (now s) ≤ filterLimit) × (length (now seen) ≡ seenCount) × FilterInside (length (now s)) filter ⌝ }
+    ensures { λ _. ⌜ length (now (seen .exit)) ≡ seenCount ⌝ }
+    ensures { λ r. ⌜ gatheringOf r (decoded (now (seen .exit))) ≡ gatheredFrom (now (s .entry)) (decoded (now (seen .entry))) (clausesIn depth (now (s .entry)) filter) ⌝ }
 {
     match filter {
-        Filter::Clause(clause) => Gathering::Good(gathered.with(s, clause)),
-        Filter::And(inside) => and_of(s, inside, depth, gathered),
+        Filter::Clause(clause) => {
+            add_clause(s, clause, seen);
+            true
+        }
+        Filter::And(inside) => and_of(s, inside, depth, seen),
     }
 }
 
 // The clauses of the filters that fill an AND, one at least.
-fn and_of(s: &[u8], inside: Position, depth: u8, gathered: Gathered) -> Gathering
-    requires { ⌜ Inside (length (now s)) inside ⌝ }
-    ensures { λ r. ⌜ r ≡ gatheredFrom (now (s .entry)) gathered (andOf depth (now (s .entry)) (inside .at) (inside .end)) ⌝ }
+fn and_of(s: &[u8], inside: Position, depth: u8, seen: &mut [u32; SEEN_COUNT]) -> bool
+    requires { ⌜ (length (now s) ≤ filterLimit) × (length (now seen) ≡ seenCount) × Inside (length (now s)) inside ⌝ }
+    ensures { λ _. ⌜ length (now (seen .exit)) ≡ seenCount ⌝ }
+    ensures { λ r. ⌜ gatheringOf r (decoded (now (seen .exit))) ≡ gatheredFrom (now (s .entry)) (decoded (now (seen .entry))) (andOf depth (now (s .entry)) (inside .at) (inside .end)) ⌝ }
 {
     if depth == 0 {
-        return Gathering::Wrong;
+        return false;
     }
     let mut position = inside;
-    let mut so_far = gathered;
     loop {
         let FilterRead::Good { filter, rest } = position.filter(s) else {
-            return Gathering::Wrong;
+            return false;
         };
-        let Gathering::Good(more) = one_of(s, filter, depth - 1, so_far) else {
-            return Gathering::Wrong;
-        };
-        if rest.at == rest.end {
-            return Gathering::Good(more);
+        if !one_of(s, filter, depth - 1, seen) {
+            return false;
         }
-        so_far = more;
+        if rest.at == rest.end {
+            return true;
+        }
         position = rest;
     }
 }
 
 // The clauses of a whole filter: one filter that fills the octets.
-pub fn whole(s: &[u8]) -> Gathering
-    ensures { λ r. ⌜ r ≡ gatheredFrom (now (s .entry)) nothing (clausesOf (now (s .entry))) ⌝ }
+pub fn whole(s: &[u8], seen: &mut [u32; SEEN_COUNT]) -> bool
+    requires { ⌜ (length (now s) ≤ filterLimit) × (length (now seen) ≡ seenCount) ⌝ }
+    ensures { λ _. ⌜ length (now (seen .exit)) ≡ seenCount ⌝ }
+    ensures { λ r. ⌜ gatheringOf r (decoded (now (seen .exit))) ≡ gatheredFrom (now (s .entry)) (decoded (now (seen .entry))) (clausesOf (now (s .entry))) ⌝ }
 {
     let end = s.len();
     let FilterRead::Good { filter, rest } = (Position { at: 0, end }).filter(s) else {
-        return Gathering::Wrong;
+        return false;
     };
     if rest.at != end {
-        return Gathering::Wrong;
+        return false;
     }
-    let gathered = Gathered {
-        request: no_clauses(),
-        unknown: false,
-        duplicate: false,
-    };
-    one_of(s, filter, DEPTH, gathered)
+    one_of(s, filter, DEPTH, seen)
 }

@@ -5,7 +5,7 @@ ghost use lib.ListN.{length};
 ghost use Rattle.octets.specs.Lists.{cut};
 ghost use Rattle.octets.specs.Number.{big};
 ghost use Rattle.filter_position.specs.Filter.{elementAt, equality};
-ghost use Rattle.filter_position.specs.Internal.Position.{lengthAt, LengthWithin, taggedAs, TaggedWithin, equalityAs, filterAt, ReadWithin, Inside};
+ghost use Rattle.filter_position.specs.Internal.Position.{lengthAt, LengthWithin, taggedAs, TaggedWithin, equalityAs, EqualityWithin, filterAt, ReadWithin, Inside};
 use octets::number::big_u16_at;
 
 // The most octets that a filter may have.
@@ -149,6 +149,7 @@ impl Position {
     fn equality(self, s: &[u8]) -> Equality
         requires { ⌜ Inside (length (now s)) self ⌝ }
         ensures { λ r. ⌜ r ≡ equalityAs (equality (now (s .entry)) (self .at) (self .end)) ⌝ }
+        ensures { λ r. ⌜ EqualityWithin (self .end) r ⌝ }
     {
         let end = self.end;
         let Tagged::Element { tag, inside, rest } = self.element(s) else {

@@ -1,3 +1,4 @@
 pub mod Gather
 pub mod Taken
 pub mod Value
+pub mod WrongValue

@@ -1,1 +1,3 @@
+pub mod ClausesRead
 pub mod RawPing
+pub mod WrongValue

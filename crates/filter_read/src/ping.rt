@@ -1,20 +1,28 @@
 // The ping of a filter, as it stands in the octets it came in.
 ghost use mathlib.Core.Path.{_≡_};
-ghost use mathlib.Core.Bool.{not, false};
+ghost use mathlib.Core.Bool.{false};
 ghost use mathlib.Core.Option.{Option·map, Option·getD};
-ghost use Rattle.octets.specs.Lists.{holds};
 ghost use Rattle.octets.specs.Number.{little};
 ghost use Rattle.filter.specs.Request.{octetsOf};
-ghost use Rattle.filter_read.specs.Value.{isNumber, wrongValue, pingOf, pingIn, pingFrom};
-ghost use Rattle.filter_read.specs.Internal.RawPing.{pingAt, triedPing};
-use crate::read::Taken;
-use crate::read::take_apart;
-use crate::value::Judged;
+ghost use Rattle.filter_gather.specs.Internal.Seen.{decoded};
+ghost use Rattle.filter_read.specs.Value.{pingIn, pingFrom};
+ghost use Rattle.filter_read.specs.Internal.RawPing.{triedPing};
+ghost use Rattle.filter_read.specs.Internal.WrongValue.{wrongNumber};
+use crate::clauses::ClausesRead;
+use crate::clauses::read_clauses;
 use crate::value::clause_number;
-use crate::value::judge_values;
+use crate::wrong_value::has_wrong_value;
 use answers::Refusal;
+use answers::wire::NETLOGON_NT_VERSION_1;
 use filter::request::Clause;
-use filter::request::Request;
+use filter_gather::seen::AAC;
+use filter_gather::seen::DNS_DOMAIN;
+use filter_gather::seen::DOMAIN_GUID;
+use filter_gather::seen::DOMAIN_SID;
+use filter_gather::seen::NT_VER;
+use filter_gather::seen::SEEN_COUNT;
+use filter_gather::seen::USER;
+use filter_gather::seen::clause_seen;
 
 // What the answer goes by: the clauses as stretches of a lent source, AAC and version as numbers.
 pub struct RawPing {
@@ -32,51 +40,44 @@ pub enum PingRead {
     Refused(Refusal),
 }
 
-// The number of AAC, once 9 was judged; absent is 0.
-fn aac_in(s: &[u8], aac: Clause) -> u32
-    requires { ⌜ holds (λ x. not (isNumber x)) (octetsOf (now s) aac) ≡ false ⌝ }
-    ensures { λ r. ⌜ r ≡ Option·getD (Option·map little (octetsOf (now (s .entry)) aac)) 0 ⌝ }
+// The number of a clause, once 9 was judged.
+fn number_in(s: &[u8], clause: Clause, absent: u32) -> u32
+    requires { ⌜ wrongNumber (now s) clause ≡ false ⌝ }
+    ensures { λ r. ⌜ r ≡ Option·getD (Option·map little (octetsOf (now (s .entry)) clause)) absent ⌝ }
 {
-    let Clause::Present { start, len } = aac else {
-        return 0;
+    let Clause::Present { start, len } = clause else {
+        return absent;
     };
     clause_number(s, start, len)
 }
 
-fn raw_ping(s: &[u8], request: Request, version: u32) -> RawPing
-    requires { ⌜ wrongValue (now s) request ≡ false ⌝ }
-    ensures { λ r. ⌜ pingAt (now (s .entry)) r ≡ pingOf (now (s .entry)) request version ⌝ }
+// The values of what was gathered, judged, and the ping that they make; an absent AAC is 0, an absent version 1.
+fn judged_ping(s: &[u8], seen: &[u32; SEEN_COUNT]) -> PingRead
+    ensures { λ r. ⌜ triedPing (now (s .entry)) r ≡ pingIn (now (s .entry)) (decoded (now (seen .entry)) .request) ⌝ }
 {
-    let dns_domain = request.dns_domain;
-    let user = request.user;
-    let aac = request.aac;
-    let domain_sid = request.domain_sid;
-    let domain_guid = request.domain_guid;
-    RawPing {
-        dns_domain,
+    let nt_ver = clause_seen(seen[NT_VER]);
+    let aac = clause_seen(seen[AAC]);
+    let user = clause_seen(seen[USER]);
+    if has_wrong_value(s, nt_ver, aac, user) {
+        return PingRead::Refused(Refusal::ClauseValue);
+    }
+    PingRead::Ping(RawPing {
+        dns_domain: clause_seen(seen[DNS_DOMAIN]),
         user,
-        aac: aac_in(s, aac),
-        domain_sid,
-        domain_guid,
-        version,
-    }
-}
-
-fn judged_ping(s: &[u8], request: Request) -> PingRead
-    ensures { λ r. ⌜ triedPing (now (s .entry)) r ≡ pingIn (now (s .entry)) request ⌝ }
-{
-    match judge_values(s, request) {
-        Judged::Version(version) => PingRead::Ping(raw_ping(s, request, version)),
-        Judged::Refused(r) => PingRead::Refused(r),
-    }
+        aac: number_in(s, aac, 0),
+        domain_sid: clause_seen(seen[DOMAIN_SID]),
+        domain_guid: clause_seen(seen[DOMAIN_GUID]),
+        version: number_in(s, nt_ver, NETLOGON_NT_VERSION_1),
+    })
 }
 
 // A filter taken apart and its values judged.
 pub fn read_ping(filter: &[u8]) -> PingRead
     ensures { λ r. ⌜ triedPing (now (filter .entry)) r ≡ pingFrom (now (filter .entry)) ⌝ }
 {
-    match take_apart(filter) {
-        Taken::Request(request) => judged_ping(filter, request),
-        Taken::Refused(r) => PingRead::Refused(r),
+    let mut seen = [0; SEEN_COUNT];
+    match read_clauses(filter, &mut seen) {
+        ClausesRead::Gathered => judged_ping(filter, &seen),
+        ClausesRead::Refused(refusal) => PingRead::Refused(refusal),
     }
 }

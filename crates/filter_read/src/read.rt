@@ -1,12 +1,13 @@
 // A filter taken apart.
 ghost use mathlib.Core.Path.{_≡_};
 ghost use Rattle.filter_read.specs.Taken.{takenNumber, TakeApartPromise};
+use crate::clauses::ClausesRead;
+use crate::clauses::read_clauses;
 use answers::Refusal;
 use answers::number_of;
 use filter::request::Request;
-use filter_gather::gather::Gathering;
-use filter_gather::gather::whole;
-use filter_position::position::FILTER_LIMIT;
+use filter_gather::seen::SEEN_COUNT;
+use filter_gather::seen::request_seen;
 
 // What taking a filter apart gives: 0 with the request, or 5 to 8.
 pub enum Taken {
@@ -24,22 +25,12 @@ pub fn taken_number(taken: Taken) -> u8
     }
 }
 
-// A filter taken apart: 5 by its length alone, then 6, 7 and 8, each judged over the whole filter.
 pub fn take_apart(s: &[u8]) -> Taken
     ensures { λ r. ⌜ TakeApartPromise (now (s .entry)) r ⌝ }
 {
-    if FILTER_LIMIT < s.len() {
-        return Taken::Refused(Refusal::FilterLength);
+    let mut seen = [0; SEEN_COUNT];
+    match read_clauses(s, &mut seen) {
+        ClausesRead::Gathered => Taken::Request(request_seen(&seen)),
+        ClausesRead::Refused(refusal) => Taken::Refused(refusal),
     }
-    let Gathering::Good(gathered) = whole(s) else {
-        return Taken::Refused(Refusal::FilterShape);
-    };
-    if gathered.unknown {
-        return Taken::Refused(Refusal::UnknownClause);
-    }
-    if gathered.duplicate {
-        return Taken::Refused(Refusal::DuplicateClause);
-    }
-    let request = gathered.request;
-    Taken::Request(request)
 }

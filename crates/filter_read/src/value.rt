@@ -1,12 +1,11 @@
 // The values of a request's clauses, judged.
 ghost use mathlib.Core.Path.{_≡_};
-ghost use mathlib.Core.Bool.{true, not};
+ghost use mathlib.Core.Bool.{true};
 ghost use mathlib.Core.Option.{Option·getD};
-ghost use Rattle.octets.specs.Lists.{holds, cut};
+ghost use Rattle.octets.specs.Lists.{cut};
 ghost use Rattle.octets.specs.Number.{little};
-ghost use Rattle.unicode.specs.UserName.{isUserName};
-ghost use Rattle.filter.specs.Request.{octetsOf};
 ghost use Rattle.filter_read.specs.Value.{isNumber, judgedNumber, judgedVersion, JudgeValuesPromise};
+use crate::wrong_value::has_wrong_value;
 use answers::Refusal;
 use answers::number_of;
 use answers::wire::NETLOGON_NT_VERSION_1;
@@ -14,7 +13,6 @@ use filter::request::Clause;
 use filter::request::Request;
 use octets::number::u32_at;
 use octets::part::part;
-use unicode::user_name::is_user_name;
 
 // What judging a request's values gives: the version asked for, or 9.
 pub enum Judged {
@@ -42,9 +40,6 @@ pub fn judged_version(judged: Judged) -> u32
     }
 }
 
-// The octets of NtVer and of AAC.
-const NUMBER_WIDTH: usize = 4;
-
 // The number that the octets of NtVer or AAC make.
 pub fn clause_number(s: &[u8], start: usize, len: usize) -> u32
     requires { ⌜ isNumber (cut (now s) start len) ≡ true ⌝ }
@@ -53,42 +48,14 @@ pub fn clause_number(s: &[u8], start: usize, len: usize) -> u32
     u32_at(part(s, start, len), 0)
 }
 
-// A clause that is present and is no number of four octets.
-fn is_wrong_number(s: &[u8], clause: Clause) -> bool
-    ensures { λ r. ⌜ r ≡ holds (λ x. not (isNumber x)) (octetsOf (now (s .entry)) clause) ⌝ }
-{
-    let Clause::Present { start, len } = clause else {
-        return false;
-    };
-    let value = part(s, start, len);
-    value.len() != NUMBER_WIDTH
-}
-
-// A clause that is present and is no user's name: over 63 octets, not UTF-8, or holding a zero octet.
-fn is_wrong_user(s: &[u8], clause: Clause) -> bool
-    ensures { λ r. ⌜ r ≡ holds (λ x. not (isUserName x)) (octetsOf (now (s .entry)) clause) ⌝ }
-{
-    let Clause::Present { start, len } = clause else {
-        return false;
-    };
-    let value = part(s, start, len);
-    !is_user_name(value)
-}
-
 // The values of a request: 9 over the whole filter, else the version asked for, 1 where none is given.
 pub fn judge_values(s: &[u8], request: Request) -> Judged
     ensures { λ r. ⌜ JudgeValuesPromise (now (s .entry)) request r ⌝ }
 {
     let nt_ver = request.nt_ver;
-    if is_wrong_number(s, nt_ver) {
-        return Judged::Refused(Refusal::ClauseValue);
-    }
     let aac = request.aac;
-    if is_wrong_number(s, aac) {
-        return Judged::Refused(Refusal::ClauseValue);
-    }
     let user = request.user;
-    if is_wrong_user(s, user) {
+    if has_wrong_value(s, nt_ver, aac, user) {
         return Judged::Refused(Refusal::ClauseValue);
     }
     let Clause::Present { start, len } = nt_ver else {

@@ -11,11 +11,23 @@ use Rattle.filter.specs.declared.request.ClauseName.{ClauseName}
 use Rattle.filter.specs.declared.request.Request.{Request}
 use Rattle.filter.specs.Internal.ClauseNames.{stored}
 use Rattle.filter.specs.Request.{clauseNames, spelling, clause, requestBy, isPresent}
-use Rattle.filter_gather.specs.declared.gather.Gathered.{Gathered}
-use Rattle.filter_gather.specs.declared.gather.Gathering.{Gathering}
-use Rattle.filter_gather.specs.declared.gather.Gathering.the-variants as gathering
 use Rattle.filter_gather.specs.declared.gather.SpelledName.{SpelledName}
 use Rattle.filter_gather.specs.declared.gather.SpelledName.the-variants as spelled
+
+-- the clauses read so far: the first of each name, whether one was of another name, and whether one was there before
+pub record Gathered : Type 0 where
+  pub request : Request
+  pub unknown : Bool
+  pub duplicate : Bool
+
+-- what the clauses of a filter make, where it is of the shape
+pub data Gathering : Type 0 where
+  Wrong : Gathering
+  Good : Gathered → Gathering
+
+abbrev pub gatheringOf : Bool → Gathered → Gathering
+gatheringOf true g = Good g
+gatheringOf false g = Wrong
 
 -- the clause name that octets spell
 
@@ -44,8 +56,8 @@ allAdded s g [] = g
 allAdded s g (f ∷ fs) = allAdded s (added s g f) fs
 
 abbrev pub gatheredFrom : List ℕ → Gathered → Option (List RawClause) → Gathering
-gatheredFrom s g none = gathering.Wrong
-gatheredFrom s g (some fs) = gathering.Good (allAdded s g fs)
+gatheredFrom s g none = Wrong
+gatheredFrom s g (some fs) = Good (allAdded s g fs)
 
 abbrev pub nothing : Gathered
 nothing = record { request = requestBy (λ name. Absent); unknown = false; duplicate = false }

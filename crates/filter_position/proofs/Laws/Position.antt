@@ -229,7 +229,7 @@ whole-read s = by-element (elementAt s 0 (length s))
 
 -- what lies within a stretch lies within the octets around it
 pub filter-within : (n end : ℕ) (f : Filter) → end ≤ n → FilterInside end f → FilterInside n f
-filter-within n end (filter.Clause f) h w = tt
+filter-within n end (filter.Clause f) h w = (w .0, omega arith, omega arith)
 filter-within n end (filter.And p) h w = (w .0, omega arith)
 
 module _ (s : List ℕ) where

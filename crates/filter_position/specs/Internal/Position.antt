@@ -52,6 +52,14 @@ abbrev pub equalityAs : Option RawClause → Equality
 equalityAs none = equality.Wrong
 equalityAs (some f) = equality.Clause f
 
+-- a clause whose name and value lie in n octets, the value past the first of them
+abbrev pub ClauseInside : ℕ → RawClause → Type 0
+ClauseInside n f = (1 ≤ f .start) × (f .start + f .len ≤ n) × (f .«name_start» + f .«name_len» ≤ n)
+
+abbrev pub EqualityWithin : ℕ → Equality → Type 0
+EqualityWithin n equality.Wrong = Unit {0}
+EqualityWithin n (equality.Clause f) = ClauseInside n f
+
 -- the filter at a position, and the position of the next
 
 unfoldable pub filterIn : List ℕ → Element → Option Filter
@@ -69,7 +77,7 @@ unfoldable pub filterAt : List ℕ → ℕ → ℕ → FilterRead
 filterAt s at end = Option·elim (elementAt s at end) read.Wrong (λ e. readTo (record { at = e .next; end = end }) (filterIn s e))
 
 abbrev pub FilterInside : ℕ → Filter → Type 0
-FilterInside n (filter.Clause f) = Unit {0}
+FilterInside n (filter.Clause f) = ClauseInside n f
 FilterInside n (filter.And p) = Inside n p
 
 abbrev pub ReadWithin : Position → FilterRead → Type 0

@@ -20,9 +20,7 @@ use Rattle.filter.specs.declared.request.Request.{Request}
 use Rattle.filter.specs.Internal.ClauseNames.{isSameName, stored}
 use Rattle.filter.specs.Request.{clauseNames, spelling, clause, requestBy, isPresent}
 use Rattle.filter.proofs.Laws.ClauseNames.{names-none, same-name, clause-by}
-use Rattle.filter_gather.specs.declared.gather.Gathered.{Gathered}
-use Rattle.filter_gather.specs.declared.gather.Gathering.the-variants as gathering
-use Rattle.filter_gather.specs.Internal.Gather.{nameSpelled, addedTo, addedAs, added, allAdded, gatheredFrom, nothing}
+use Rattle.filter_gather.specs.Internal.Gather.{Gathered, Wrong, Good, nameSpelled, addedTo, addedAs, added, allAdded, gatheredFrom, nothing}
 use Rattle.filter_read.specs.Taken.{nameOctets, isNamed, hasUnknown, hasDuplicate, asClause, requestOf, judgedClauses}
 
 -- the answer that gathered clauses make
@@ -223,10 +221,10 @@ gathers s fs = by-unknown (hasUnknown s fs) refl
         let w : allAdded s nothing fs .duplicate ≡ hasDuplicate s fs = all-duplicate s nothing fs e ∙ ap (λ (b : Bool). b || hasDuplicate s fs) none-there in
         rw (h, e, w, made)
 
-pub gathered-none : (s : List ℕ) (o : Option (List RawClause)) → gatheredFrom s nothing o ≡ gathering.Wrong → o ≡ none
+pub gathered-none : (s : List ℕ) (o : Option (List RawClause)) → gatheredFrom s nothing o ≡ Wrong → o ≡ none
 gathered-none s none e = refl
 gathered-none s (some fs) e = let z : _≡_ {A = ℕ} 0 1 = cc in absurd (omega arith)
 
-pub gathered-some : (s : List ℕ) (o : Option (List RawClause)) (g : Gathered) → gatheredFrom s nothing o ≡ gathering.Good g → judgedClauses s o ≡ answerOf g
+pub gathered-some : (s : List ℕ) (o : Option (List RawClause)) (g : Gathered) → gatheredFrom s nothing o ≡ Good g → judgedClauses s o ≡ answerOf g
 gathered-some s none g e = let z : _≡_ {A = ℕ} 0 1 = cc in absurd (omega arith)
 gathered-some s (some fs) g e = let h : allAdded s nothing fs ≡ g = cc in sym (gathers s fs) ∙ ap answerOf h

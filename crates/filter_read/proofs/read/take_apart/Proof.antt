@@ -1,60 +1,44 @@
-use mathlib.Core.Path.{_≡_, sym, _∙_}
-use borrow.Author.Tests.{lt-ltb, le-ltb}
+use mathlib.Core.Path.{_≡_, refl, sym, ap, _∙_}
 use borrow.Author.Needs.{needs}
-use lib.ListN.{length}
-use Rattle.filter_position.specs.Filter.{clausesOf}
-use Rattle.filter_read.specs.Taken.{requestIn}
-use Rattle.filter_read.proofs.Laws.Gather.{answerOf, gathered-none, gathered-some}
+use Rattle.filter_gather.specs.Internal.Seen.{decoded}
+use Rattle.filter_read.specs.declared.clauses.ClausesRead.{ClausesRead}
+use Rattle.filter_read.specs.declared.read.Taken.the-variants as taken
+use Rattle.filter_read.specs.Internal.ClausesRead.{requestRead}
+use Rattle.filter_read.specs.Taken.{requestIn, takenAs}
 use Rattle.filter_read.proofs.Laws.Taken.{take-apart-promised}
 use Rattle.filter_read.proofs.read.take_apart.Statement.{statement}
 use Rattle.filter_read.proofs.read.take_apart.Tie as tie
 
-returns : tie.Need-returns
-unfolding requestIn
-returns c = take-apart-promised _ _ (rw (requestIn, lt-ltb 2048 (length (c .before .before .args .s .now)) (c .if1 .taken)))
-
-whole-requires : tie.Need-whole-requires
-whole-requires c κs = search needs
-
-enum-known-gathered : tie.Need-enum-known-gathered
-enum-known-gathered c = search needs
+read-clauses-requires : tie.Need-read-clauses-requires
+unfolding decoded
+read-clauses-requires c κs = (refl, refl)
 
 enum-told : tie.Need-enum-told
 enum-told c = search needs
 
+request-seen-requires : tie.Need-request-seen-requires
+request-seen-requires c κs = search needs
+
+enum-known-refusal : tie.Need-enum-known-refusal
+enum-known-refusal c = search needs
+
+-- what taking the filter apart gives, once it is known what was read
+told : (c : tie.After-read-clauses) (x : ClausesRead) → c .read-clauses .result ≡ x → takenAs (requestRead x (decoded (c .read-clauses .last .1 .0))) ≡ takenAs (requestIn (c .before .before .before .args .s .now))
+told c x e = sym (ap takenAs (c .read-clauses .ensures) ∙ ap (λ (y : ClausesRead). takenAs (requestRead y (decoded (c .read-clauses .last .1 .0)))) e)
+
+returns : tie.Need-returns
+returns c = take-apart-promised _ _ (ap taken.Request (c .request-seen .ensures) ∙ told (c .before .before .before .before) _ (c .before .before .enum-told .given .1))
+
 returns-2 : tie.Need-returns-2
-unfolding requestIn
-returns-2 c =
-    let s = c .before .before .before .before .before .args .s .now in
-    let e = gathered-none s (clausesOf s) (sym (c .before .before .whole .ensures) ∙ c .enum-told .given .1) in
-    take-apart-promised _ _ (rw (requestIn, le-ltb 2048 (length s) (c .before .before .before .if1 .left), e))
-
--- what was gathered is what document 01 says of the filter
-seen : (c : tie.After-known-told) → requestIn (c .before .before .before .before .before .before .args .s .now) ≡ answerOf (c .before .gathered .given .0 .0)
-unfolding requestIn
-seen c =
-    let s = c .before .before .before .before .before .before .args .s .now in
-    let g = c .before .gathered .given in
-    rw (requestIn, le-ltb 2048 (length s) (c .before .before .before .before .if1 .left)) (gathered-some s (clausesOf s) (g .0 .0) (sym (c .before .before .before .whole .ensures) ∙ g .1))
-
-returns-3 : tie.Need-returns-3
-returns-3 c = take-apart-promised _ _ (rw (seen (c .before), c .if2 .taken))
-
-returns-4 : tie.Need-returns-4
-returns-4 c = take-apart-promised _ _ (rw (seen (c .before .before), c .before .if2 .left, c .if3 .taken))
-
-returns-5 : tie.Need-returns-5
-returns-5 c = take-apart-promised _ _ (rw (seen (c .before .before .before), c .before .before .if2 .left, c .before .if3 .left))
+returns-2 c = take-apart-promised _ _ (told (c .before .before .before) _ (c .before .refusal .given .1))
 
 pub take-apart-spec : {M : Type 1} → statement M
 take-apart-spec =
     tie.close
     (tie.spec
-    returns
-    whole-requires
-    enum-known-gathered
+    read-clauses-requires
     enum-told
-    returns-2
-    returns-3
-    returns-4
-    returns-5)
+    request-seen-requires
+    enum-known-refusal
+    returns
+    returns-2)

@@ -22,7 +22,7 @@ unfolding equality bind
 returns c =
     let p = c .before .before .before .before .args in
     let e : elementAt (p .s .now) (p .self .at) (p .self .end) ≡ none = tagged-none (p .self .end) (elementAt (p .s .now) (p .self .at) (p .self .end)) (sym (c .before .before .element .ensures .0) ∙ c .enum-told .given .1) in
-    rw (equality, e)
+    (rw (equality, e), tt)
 
 returns-2 : tie.Need-returns-2
 unfolding equality bind
@@ -30,7 +30,7 @@ returns-2 c =
     let p = c .before .before .before .before .before .before .args in
     let g = c .before .before .tag .given in
     let e = tagged-some (p .self .end) (elementAt (p .s .now) (p .self .at) (p .self .end)) (g .0 .0) (g .0 .1 .0) (g .0 .1 .1 .0) (sym (c .before .before .before .before .element .ensures .0) ∙ g .1) in
-    rw (equality, e, ne-eqb _ _ (c .if1 .taken))
+    (rw (equality, e, ne-eqb _ _ (c .if1 .taken)), tt)
 
 -- the name, as the definition has it
 name-seen : (c : tie.Else1) → elementAt (c .before .before .before .before .before .before .args .s .now) (c .before .before .before .before .before .before .args .self .at) (c .before .before .before .before .before .before .args .self .end)
@@ -65,7 +65,7 @@ returns-3 c =
     let g = c .before .before .before .before .before .tag .given in
     let e = name-seen (c .before .before .before) in
     let v : elementAt (p .s .now) (g .0 .1 .0 .end) (p .self .end) ≡ none = value-at (c .before .before .before) ∙ tagged-none (g .0 .1 .1 .0 .end) (elementAt (p .s .now) (g .0 .1 .1 .0 .at) (g .0 .1 .1 .0 .end)) (sym (c .before .before .element2 .ensures .0) ∙ c .enum-told2 .given .1) in
-    rw (equality, e, eq-eqb _ _ (c .before .before .before .if1 .left), v)
+    (rw (equality, e, eq-eqb _ _ (c .before .before .before .if1 .left), v), tt)
 
 -- the value, as the definition has it
 value-seen : (c : tie.After-known-told2) → elementAt (c .before .before .before .before .before .before .before .before .before .before .args .s .now) (c .before .before .before .before .before .before .tag .given .0 .1 .0 .end) (c .before .before .before .before .before .before .before .before .before .before .args .self .end)
@@ -81,7 +81,7 @@ unfolding equality bind
 returns-4 c =
     let e = name-seen (c .before .before .before .before .before) in
     let v = value-seen (c .before) in
-    rw (equality, e, eq-eqb _ _ (c .before .before .before .before .before .if1 .left), v, ne-eqb _ _ (c .if2 .taken))
+    (rw (equality, e, eq-eqb _ _ (c .before .before .before .before .before .if1 .left), v, ne-eqb _ _ (c .if2 .taken)), tt)
 
 returns-5 : tie.Need-returns-5
 unfolding equality bind
@@ -90,7 +90,7 @@ returns-5 c =
     let v = c .before .before .before .before .value-tag .given in
     let w = rw (v .1) at (c .before .before .before .before .before .before .element2 .ensures .1) in
     let n : v .0 .1 .0 .end ≡ p .self .end → ⊥ = λ q. c .if3 .taken (sym (w .2) ∙ q) in
-    rw (equality, name-seen (c .before .before .before .before .before .before .before), eq-eqb _ _ (c .before .before .before .before .before .before .before .if1 .left), value-seen (c .before .before .before), eq-eqb _ _ (c .before .before .if2 .left), ne-eqb _ _ n)
+    (rw (equality, name-seen (c .before .before .before .before .before .before .before), eq-eqb _ _ (c .before .before .before .before .before .before .before .if1 .left), value-seen (c .before .before .before), eq-eqb _ _ (c .before .before .if2 .left), ne-eqb _ _ n), tt)
 
 sub-t13 : tie.Need-sub-t13
 sub-t13 c =
@@ -109,7 +109,8 @@ returns-6 c =
     let v = c .before .before .before .before .before .before .value-tag .given in
     let w = rw (v .1) at (c .before .before .before .before .before .before .before .before .element2 .ensures .1) in
     let n : v .0 .1 .0 .end ≡ p .self .end = w .2 ∙ c .before .before .if3 .left in
-    rw (equality, name-seen (c .before .before .before .before .before .before .before .before .before), eq-eqb _ _ (c .before .before .before .before .before .before .before .before .before .if1 .left), value-seen (c .before .before .before .before .before), eq-eqb _ _ (c .before .before .before .before .if2 .left), eq-eqb _ _ n)
+    let a = rw (c .before .before .before .before .before .before .before .before .before .before .before .tag .given .1) at (c .before .before .before .before .before .before .before .before .before .before .before .before .before .element .ensures .1) in
+    (rw (equality, name-seen (c .before .before .before .before .before .before .before .before .before), eq-eqb _ _ (c .before .before .before .before .before .before .before .before .before .if1 .left), value-seen (c .before .before .before .before .before), eq-eqb _ _ (c .before .before .before .before .if2 .left), eq-eqb _ _ n), (omega arith, omega arith, omega arith))
 
 pub equality-spec : {M : Type 1} → statement M
 equality-spec =

@@ -35,7 +35,7 @@ returns-2 c =
     let p = c .before .before .before .before .before .before .before .before .before .args in
     let g = c .before .before .before .before .before .tag .given in
     let e = sym (c .before .before .before .before .before .before .before .element .ensures .0) ∙ g .1 in
-    let f = sym (c .before .before .equality .ensures) ∙ c .enum-told2 .given .1 in
+    let f = sym (c .before .before .equality .ensures .0) ∙ c .enum-told2 .given .1 in
     (sym (filter-wrong (p .s .now) (p .self .at) (p .self .end) (g .0 .0) (g .0 .1 .0) (g .0 .1 .1 .0) e (c .before .before .before .if1 .taken) f), tt)
 
 returns-3 : tie.Need-returns-3
@@ -43,9 +43,10 @@ returns-3 c =
     let p = c .before .before .before .before .before .before .before .before .before .before .args in
     let g = c .before .before .before .before .before .before .tag .given in
     let e = sym (c .before .before .before .before .before .before .before .before .element .ensures .0) ∙ g .1 in
-    let f = sym (c .before .before .before .equality .ensures) ∙ c .before .clause .given .1 in
+    let f = sym (c .before .before .before .equality .ensures .0) ∙ c .before .clause .given .1 in
     let w = rw (g .1) at (c .before .before .before .before .before .before .before .before .element .ensures .1) in
-    (sym (filter-clause (p .s .now) (p .self .at) (p .self .end) (g .0 .0) (g .0 .1 .0) (g .0 .1 .1 .0) e (c .before .clause .given .0 .0) (c .before .before .before .before .if1 .taken) f), (omega arith, w .3, w .4, tt))
+    let i = rw (c .before .clause .given .1) at (c .before .before .before .equality .ensures .1) in
+    (sym (filter-clause (p .s .now) (p .self .at) (p .self .end) (g .0 .0) (g .0 .1 .0) (g .0 .1 .1 .0) e (c .before .clause .given .0 .0) (c .before .before .before .before .if1 .taken) f), (omega arith, w .3, w .4, (i .0, omega arith, omega arith)))
 
 returns-4 : tie.Need-returns-4
 returns-4 c =
