@@ -4,7 +4,8 @@ use Prim.Native.Nat.{ℕ}
 use lib.ListN.{length}
 use Rattle.answers.specs.declared.Form.{Form}
 use Rattle.filter_read.specs.{declared.value.Judged.Judged, Value.pingIn, Value.judgedValues}
-use Rattle.filter_write.specs.{declared.write.Written.Written, Write.filterFor, Write.writtenAs}
+use Rattle.answers.specs.{declared.written.Written.Written, Written.writtenAs}
+use Rattle.filter_write.specs.Write.{filterFor}
 use Rattle.reader.specs.Reader.{readIn}
 use Rattle.reader_forms.specs.{declared.reading.Reading.Reading, Reading.readingAs}
 use Rattle.table_check.specs.declared.check.Check.{Check}

@@ -8,7 +8,8 @@ use lib.ListN.{length}
 use Rattle.answers.specs.declared.Form.{Form}
 use Rattle.filter_read.specs.{declared.read.Taken.Taken, Value.judgedNumber, Value.judgedVersion}
 use Rattle.filter_read.specs.Taken.{requestIn, takenAs, takenNumber}
-use Rattle.filter_write.specs.Write.{writtenNumber, writtenLength, WriteFilterLeaves}
+use Rattle.answers.specs.Written.{writtenNumber, writtenLength}
+use Rattle.filter_write.specs.Write.{WriteFilterLeaves}
 use Rattle.locator.specs.declared.Answer.{Answer}
 use Rattle.locator.specs.Answer.{answerTo, answerAs, answerNumber, AnswerPingLeaves}
 use Rattle.reader_forms.specs.Reading.{readingNumber}

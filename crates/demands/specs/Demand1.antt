@@ -10,12 +10,11 @@ use mathlib.Core.List.{List, [], _∷_}
 use mathlib.Core.Option.{none}
 use Prim.Native.Nat.{ℕ, _<_}
 use lib.Dec.{eqb}
-use Rattle.answers.specs.{declared.Form.Form, declared.Refusal.Refusal, Refusal.NumberOfPromise}
+use Rattle.answers.specs.{declared.Form.Form, declared.Refusal.Refusal, declared.written.Written.Written, Refusal.NumberOfPromise, Written.writtenNumber, Written.writtenLength}
 use Rattle.filter.specs.declared.request.Request.{Request}
 use Rattle.filter_read.specs.declared.read.Taken.the-variants as taken
 use Rattle.filter_read.specs.declared.value.Judged.the-variants as judged
-use Rattle.filter_write.specs.{declared.write.Written.Written, Write.writtenNumber, Write.writtenLength}
-use Rattle.filter_write.specs.declared.write.Written.the-variants as written
+use Rattle.answers.specs.declared.written.Written.the-variants as written
 use Rattle.locator.specs.declared.Answer.{Answer}
 use Rattle.locator.specs.declared.Answer.the-variants as answer
 use Rattle.locator.specs.Answer.{answerNumber, answerLength, answerContext, answerForm}

@@ -1,4 +1,5 @@
 // The filter that the arguments ask with: written from clauses, or given as it is.
+use answers::written::Written;
 use arguments::clause::ClauseRead;
 use arguments::clause::SOURCE_SIZE;
 use arguments::clause::read_clause;
@@ -11,7 +12,6 @@ use arguments::word::take_named;
 use arguments::word::take_word;
 use filter::request::Request;
 use filter::request::no_clauses;
-use filter_write::write::Written;
 use filter_write::write::write_filter;
 use octets::part::part;
 use octets::text::same_octets;

@@ -1,4 +1,3 @@
-pub mod Transcode
 pub mod Codec
 pub mod Utf8
 pub mod Utf16

@@ -26,10 +26,11 @@ use Rattle.filter_read.specs.Taken.{takenNumber, TakeApartPromise}
 use Rattle.filter_read.proofs.Laws.Taken.{take-apart-promised}
 use Rattle.filter_read.proofs.Laws.Value.{judge-values-promised}
 use Rattle.filter_read.specs.Value.{judgedNumber, judgedVersion, JudgeValuesPromise}
-use Rattle.filter_write.specs.declared.write.Written.{Written}
-use Rattle.filter_write.specs.declared.write.Written.the-variants as written
-use Rattle.filter_write.specs.Write.{writtenNumber, writtenLength}
-use Rattle.filter_write.proofs.Laws.Write.{write-filter-promised}
+use Rattle.answers.specs.declared.written.Written.{Written}
+use Rattle.answers.specs.declared.written.Written.the-variants as written
+use Rattle.answers.specs.Written.{writtenNumber, writtenLength}
+use Rattle.answers.proofs.Laws.Written.{written-promised}
+use Rattle.filter_write.specs.Write.{filterFor}
 use Rattle.locator.specs.declared.Answer.{Answer}
 use Rattle.locator.specs.declared.Answer.the-variants as answer
 use Rattle.locator.specs.Answer.{answerTo, answerNumber}
@@ -104,7 +105,7 @@ demand-1-exported =
       «vinegarjar_take_apart» = λ filter request r p. taken-apart filter request (filterTaken filter) r (take-apart-promised filter _ refl) (p .0) (p .1);
       «vinegarjar_judge_values» = λ filter request version r p. judged-values filter request (valuesJudged filter request) version r (judge-values-promised filter (requestGiven request) _ refl) (p .0) (p .1);
       «vinegarjar_write_filter» = λ source request before after len r p.
-          written-filter source request before after (filterWritten source request before) len r (record { returned = write-filter-promised source (requestGiven request) before _ (refl, p .2) .0; left = p .2 }) (p .0) (p .1);
+          written-filter source request before after (filterWritten source request before) len r (record { returned = written-promised (filterFor source (requestGiven request) (length before)) _ (refl, p .2) .0; left = p .2 }) (p .0) (p .1);
       «vinegarjar_answer_ping» = λ image client filter before after answer r p.
           answered image client filter before after answer (pingAnswered image client filter before) r (record { returned = answer-promised (answerTo image (callerAt client) filter (length before)) _ (refl, p .2) .0; left = p .2 }) (p .0) (p .1);
       «vinegarjar_read_nt40» = λ reply reading r p. read reply reading Nt40 0 (replyRead Nt40 0 reply) r (read-reply-promised reply Nt40 0 _ refl) (p .0) (p .1);

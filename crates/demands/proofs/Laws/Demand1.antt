@@ -23,12 +23,13 @@ use Rattle.filter_read.specs.declared.value.Judged.{Judged}
 use Rattle.filter_read.specs.declared.value.Judged.the-variants as judged
 use Rattle.filter_read.specs.Taken.{judgedClauses, requestIn, takenAs, takenNumber}
 use Rattle.filter_read.specs.Value.{Ping, pingIn, pingFrom, judgedValues, judgedNumber}
-use Rattle.filter_write.specs.declared.write.Written.{Written}
-use Rattle.filter_write.specs.declared.write.Written.the-variants as written
-use Rattle.filter_write.specs.Write.{filterFor, writtenAs, writtenOctets, writtenLength, writtenNumber}
+use Rattle.answers.specs.declared.written.Written.{Written}
+use Rattle.answers.specs.declared.written.Written.the-variants as written
+use Rattle.answers.specs.Written.{writtenAs, writtenOctets, writtenLength, writtenNumber}
+use Rattle.filter_write.specs.Write.{filterFor}
 use Rattle.locator.specs.declared.Answer.{Answer}
 use Rattle.locator.specs.declared.Answer.the-variants as answer
-use Rattle.locator.specs.Answer.{Outcome, replyTo, answerOver, answerTo, answerAs, octetsWritten, answerLength, answerContext, answerForm, answerNumber}
+use Rattle.locator.specs.Answer.{Outcome, replyTo, answerOver, answerBy, answerTo, answerAs, octetsWritten, answerLength, answerContext, answerForm, answerNumber}
 use Rattle.octets.specs.Buffer.{over}
 use Rattle.octets.proofs.Laws.Buffer.{over-none}
 use Rattle.octets.specs.Lists.{any}
@@ -94,7 +95,7 @@ module _ (P : Refusal → Type 0) where
   reply-only a b t caller p room c = search (only-if P)
 
 answer-only : (image : List ℕ) (caller : Caller) (filter : List ℕ) (room : ℕ) → Only (By ForPing) Any (answerTo image caller filter room)
-unfolding answerTo pingFrom answerOver
+unfolding answerBy pingFrom answerOver
 answer-only image caller filter room =
     only-then (By ForPing) Any (tableIn image) _ (table-only (By ForPing) refl refl refl refl image) (λ t.
     only-then (By ForPing) Any (pingFrom filter) _ (only-then (By ForPing) Any (requestIn filter) _ (request-only (By ForPing) refl refl refl refl filter) (ping-only (By ForPing) refl filter)) (λ p.

@@ -10,10 +10,9 @@ use borrow.Author.Tests.{ltb-true, ltb-false}
 use Rattle.octets.specs.Lists.{isSome}
 use Rattle.octets.proofs.Laws.Lists.{Every, true-not-false}
 use Rattle.octets.proofs.Laws.Text.{within-range, without-range}
-use Rattle.unicode.specs.Utf8.{Partial, point, more, points, isUtf8}
-use Rattle.unicode.specs.Utf16.{highUnit, lowUnit, pointOctets, pointsOctets, utf16, OneText}
+use Rattle.unicode.specs.Utf8.{Partial, point, more, points, isUtf8, utf8Of}
+use Rattle.unicode.specs.Utf16.{highUnit, lowUnit, pointOctets, pointsOctets, utf16, lead16, follow16, pointsFrom16, pointsOf16, OneText}
 use Rattle.unicode.proofs.Laws.Codec.{Code}
-use Rattle.unicode.proofs.Laws.Transcode.{lead16, follow16, pointsFrom16, pointsOf16, utf8Of}
 use Rattle.unicode.proofs.Laws.Utf8.{points-comes}
 use Rattle.unicode.proofs.Laws.Utf16.{one-unit, two-units}
 

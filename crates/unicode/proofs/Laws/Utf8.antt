@@ -11,9 +11,8 @@ use borrow.Author.Tests.{ltb-true, ltb-false, eqb-true, eqb-false, lt-ltb, le-lt
 use Rattle.octets.proofs.Laws.Lists.{Every, none-not-some, cond-has}
 use Rattle.octets.specs.Text.{within}
 use Rattle.octets.proofs.Laws.Text.{within-low, within-high}
-use Rattle.unicode.specs.Utf8.{Partial, Decoded, point, more, lead, closes, follow, Decoder, between, partway, decode, pointsFrom, points}
+use Rattle.unicode.specs.Utf8.{Partial, Decoded, point, more, lead, closes, follow, Decoder, between, partway, decode, pointsFrom, points, utf8Of}
 use Rattle.unicode.proofs.Laws.Codec.{Code, Comes, Before, After, turn-comes}
-use Rattle.unicode.proofs.Laws.Transcode.{utf8Of}
 
 -- a code point's octets, by the octets themselves
 module _ (c : ℕ) where

@@ -1,8 +1,8 @@
-use Rattle.filter_write.specs.Write.{writtenNumber}
+use Rattle.answers.specs.Written.{writtenNumber}
 use mathlib.Core.Path.{_∙_, ap, sym}
 use borrow.Author.Needs.{needs}
-use Rattle.filter_write.proofs.write.written_number.Statement.{statement}
-use Rattle.filter_write.proofs.write.written_number.Tie as tie
+use Rattle.answers.proofs.written.written_number.Statement.{statement}
+use Rattle.answers.proofs.written.written_number.Tie as tie
 
 enum-told : tie.Need-enum-told
 enum-told c = search needs

@@ -1,0 +1,2 @@
+pub mod Ping
+pub mod Answer
