@@ -1,0 +1,1 @@
+// The answer to a mailslot message: document 02, #105.
