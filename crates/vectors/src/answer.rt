@@ -3,17 +3,17 @@ ghost use Prim.Native.Nat.{_≤_};
 use crate::filter_lines::answer_filter;
 use crate::filter_lines::answer_values;
 use crate::ping_lines::answer_ping_line;
-use crate::read_lines::answer_read;
-use crate::walk_lines::answer_walk;
-use crate::words::is_octets;
-use crate::words::say_numbers;
-use crate::words::say_unknown;
-use crate::words::word;
 use crate::write::answer_write;
 use console::digits::decode;
 use console::field::field_number;
 use console::say::say;
+use line_words::words::is_octets;
+use line_words::words::say_numbers;
+use line_words::words::say_unknown;
+use line_words::words::word;
 use octets::part::part;
+use reply_lines::read::answer_read;
+use reply_lines::walk::answer_walk;
 
 // The longest line that is read, without its LF.
 const LONGEST: usize = 140100;

@@ -1,21 +1,24 @@
 // `ping` lines: the standing image's answer to a client's filter.
-use crate::buffer::Room;
-use crate::buffer::filled;
-use crate::buffer::room_of;
-use crate::words::is_four_octets;
-use crate::words::say_numbers;
-use crate::words::say_octets;
-use crate::words::say_unknown;
-use crate::words::word;
+ghost use Prim.Native.Nat.{_≤_};
+ghost use lib.ListN.{length};
 use c_answer::answer::answer_members;
 use console::digits::decode;
 use console::say::say;
+use line_words::buffer::filled;
+use line_words::buffer::is_room;
+use line_words::buffer::room_of;
+use line_words::words::is_four_octets;
+use line_words::words::say_numbers;
+use line_words::words::say_octets;
+use line_words::words::say_unknown;
+use line_words::words::word;
+use locator::Answer;
 use locator::answer_number;
 use locator::ping::answer_ping;
+use octets::part::part;
 use table::Caller;
 
-fn answer_into<'a>(image: &'a [u8], caller: Caller, filter: &'a [u8], reply: &mut [u8]) {
-    let answer = answer_ping(image, caller, filter, reply);
+fn say_answer(answer: Answer, reply: &[u8]) {
     let members = answer_members(answer);
     let numbers = [
         answer_number(answer) as u64,
@@ -28,6 +31,14 @@ fn answer_into<'a>(image: &'a [u8], caller: Caller, filter: &'a [u8], reply: &mu
     say_octets(reply);
 }
 
+fn answer_into<'a>(image: &'a [u8], caller: Caller, filter: &'a [u8], reply: &mut [u8], room: usize)
+    requires { ⌜ room ≤ length (now reply) ⌝ }
+{
+    let start = 0;
+    let answer = answer_ping(image, caller, filter, &mut reply[start..room]);
+    say_answer(answer, part(reply, start, room));
+}
+
 fn caller_of(text: &[u8]) -> Caller {
     let mut address = [0u8; 4];
     decode(text, &mut address);
@@ -36,14 +47,16 @@ fn caller_of(text: &[u8]) -> Caller {
 
 pub fn answer_ping_line<'a>(line: &[u8], image: &'a [u8], filter: &'a [u8]) {
     let client = word(line, 1);
-    if !is_four_octets(client) {
+    if !is_four_octets(client) | !is_room(word(line, 3)) {
         say_unknown();
         return;
     }
-    let Room::Octets(room) = room_of(word(line, 3)) else {
-        say_unknown();
-        return;
-    };
     let mut reply = filled();
-    answer_into(image, caller_of(client), filter, &mut reply[..room]);
+    answer_into(
+        image,
+        caller_of(client),
+        filter,
+        &mut reply,
+        room_of(word(line, 3)),
+    );
 }

@@ -2,11 +2,11 @@ use mathlib.Core.Path.{subst}
 use native.Mathlib.Omega.{arith}
 use lib.ListN.{length}
 use Rattle.names.proofs.Laws.Walk.{bound, bound-read, bound-jump}
-use Rattle.vectors.specs.declared.walk_lines.WalkStep.the-variants as step
-use Rattle.vectors.specs.Internal.Walk.{StepWithin}
+use Rattle.reply_lines.specs.declared.walk.WalkStep.the-variants as step
+use Rattle.reply_lines.specs.Internal.Walk.{StepWithin}
 use borrow.Author.Needs.{needs}
-use Rattle.vectors.proofs.walk_lines.say_labels.Statement.{statement}
-use Rattle.vectors.proofs.walk_lines.say_labels.Tie as tie
+use Rattle.reply_lines.proofs.walk.say_labels.Statement.{statement}
+use Rattle.reply_lines.proofs.walk.say_labels.Tie as tie
 
 abbrev Inv-loop : tie.InvT-loop
 Inv-loop reply start run₀ at₀ t7 run at = Unit {0}

@@ -1,8 +1,8 @@
 use lib.ListN.{length}
 use Prim.Native.Nat.{_-_}
 use borrow.Author.Needs.{needs}
-use Rattle.vectors.proofs.words.say_numbers.Statement.{statement}
-use Rattle.vectors.proofs.words.say_numbers.Tie as tie
+use Rattle.line_words.proofs.words.say_numbers.Statement.{statement}
+use Rattle.line_words.proofs.words.say_numbers.Tie as tie
 
 abbrev Inv-loop : tie.InvT-loop
 Inv-loop kind numbers i₀ t4 i = Unit {0}

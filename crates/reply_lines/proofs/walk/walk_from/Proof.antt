@@ -2,10 +2,10 @@ use mathlib.Core.Path.{subst}
 use native.Mathlib.Omega.{arith}
 use lib.ListN.{length}
 use Rattle.names.proofs.Laws.Walk.{bound, bound-read, bound-jump}
-use Rattle.vectors.specs.Internal.Walk.{StepWithin}
+use Rattle.reply_lines.specs.Internal.Walk.{StepWithin}
 use borrow.Author.Needs.{needs}
-use Rattle.vectors.proofs.walk_lines.walk_from.Statement.{statement}
-use Rattle.vectors.proofs.walk_lines.walk_from.Tie as tie
+use Rattle.reply_lines.proofs.walk.walk_from.Statement.{statement}
+use Rattle.reply_lines.proofs.walk.walk_from.Tie as tie
 
 abbrev Inv-loop : tie.InvT-loop
 Inv-loop reply start run₀ at₀ pointers₀ labels₀ run at pointers labels = Unit {0}

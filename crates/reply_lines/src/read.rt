@@ -1,8 +1,4 @@
 // `read` lines: a received reply is read in a form, with version bits.
-use crate::words::is_four_octets;
-use crate::words::say_numbers;
-use crate::words::say_unknown;
-use crate::words::word;
 use answers::Form;
 use c_reading::reading::ADDRESS;
 use c_reading::reading::DOMAIN;
@@ -17,13 +13,16 @@ use c_reading::reading::SERVER;
 use c_reading::reading::USER;
 use c_reading::reading::VERSION;
 use c_reading::reading::reading_members;
-use console::digits::decode;
 use console::field::field_number;
 use console::say::say;
 use console::say::say_hex;
 use console::say::say_number;
 use libc::STDOUT_FILENO;
-use octets::number::wide;
+use line_words::words::bits_of;
+use line_words::words::is_four_octets;
+use line_words::words::say_numbers;
+use line_words::words::say_unknown;
+use line_words::words::word;
 use octets::part::part;
 use reader_forms::reading::Reading;
 use reader_forms::reading::reading_number;
@@ -64,13 +63,6 @@ const EX: [usize; 14] = [
     NEXT_SITE,
     VERSION,
 ];
-
-// The digits of version bits have the most significant first.
-fn version_of(text: &[u8]) -> u32 {
-    let mut octets = [0u8; 4];
-    decode(text, &mut octets);
-    wide(octets[0]) * 16777216 + wide(octets[1]) * 65536 + wide(octets[2]) * 256 + wide(octets[3])
-}
 
 fn say_name(reply: &[u8], start: usize, pointers: usize) {
     let text = name_text(reply, start);
@@ -153,6 +145,6 @@ pub fn answer_read(line: &[u8], reply: &[u8]) {
         say_unknown();
         return;
     }
-    let reading = read_reply(reply, form_of(form), version_of(bits));
+    let reading = read_reply(reply, form_of(form), bits_of(bits));
     say_reading(form, reply, reading);
 }

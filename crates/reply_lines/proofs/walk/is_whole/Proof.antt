@@ -3,8 +3,8 @@ use borrow.Author.Tests.{le-leb, lt-leb}
 use native.Mathlib.Omega.{arith}
 use lib.ListN.{length}
 use borrow.Author.Needs.{needs}
-use Rattle.vectors.proofs.walk_lines.is_whole.Statement.{statement}
-use Rattle.vectors.proofs.walk_lines.is_whole.Tie as tie
+use Rattle.reply_lines.proofs.walk.is_whole.Statement.{statement}
+use Rattle.reply_lines.proofs.walk.is_whole.Tie as tie
 
 returns : tie.Need-returns
 returns c =

@@ -1,8 +1,8 @@
 use lib.ListN.{length}
 use Prim.Native.Nat.{_-_}
 use borrow.Author.Needs.{needs}
-use Rattle.vectors.proofs.read_lines.say_members.Statement.{statement}
-use Rattle.vectors.proofs.read_lines.say_members.Tie as tie
+use Rattle.reply_lines.proofs.read.say_members.Statement.{statement}
+use Rattle.reply_lines.proofs.read.say_members.Tie as tie
 
 abbrev Inv-loop : tie.InvT-loop
 Inv-loop reply members places i₀ i = Unit {0}

@@ -3,8 +3,8 @@ use Prim.Native.Nat.{_+_}
 use borrow.Author.Tests.{leb-true}
 use lib.ListN.{length}
 use borrow.Author.Needs.{needs}
-use Rattle.vectors.proofs.walk_lines.walk_step.Statement.{statement}
-use Rattle.vectors.proofs.walk_lines.walk_step.Tie as tie
+use Rattle.reply_lines.proofs.walk.walk_step.Statement.{statement}
+use Rattle.reply_lines.proofs.walk.walk_step.Tie as tie
 
 look-at-requires : tie.Need-look-at-requires
 look-at-requires c κs = search needs
