@@ -2,8 +2,8 @@ use lib.ListN.{length}
 use mathlib.Core.Path.{_≡_}
 use Prim.Native.Nat.{_-_}
 use borrow.Author.Needs.{needs}
-use Rattle.locate.proofs.asked.request_asked.Statement.{statement}
-use Rattle.locate.proofs.asked.request_asked.Tie as tie
+use Rattle.locate.proofs.filter_asked.request_asked.Statement.{statement}
+use Rattle.locate.proofs.filter_asked.request_asked.Tie as tie
 
 abbrev Inv-loop : tie.InvT-loop
 Inv-loop source₀ count request₀ i₀ source request i = length source ≡ length source₀

@@ -2,8 +2,8 @@ use lib.ListN.{length}
 use mathlib.Core.Path.{_≡_}
 use Prim.Native.Nat.{_-_}
 use borrow.Author.Needs.{needs}
-use Rattle.arguments.proofs.clause.unescape.Statement.{statement}
-use Rattle.arguments.proofs.clause.unescape.Tie as tie
+use Rattle.arguments.proofs.escape.unescape.Statement.{statement}
+use Rattle.arguments.proofs.escape.unescape.Tie as tie
 
 abbrev Inv-loop : tie.InvT-loop
 Inv-loop text out₀ n₀ i₀ out n i = length out ≡ length out₀
