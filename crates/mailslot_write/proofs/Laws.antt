@@ -1,0 +1,3 @@
+pub mod Text16
+pub mod Good
+pub mod RoundTrip

@@ -1,0 +1,1 @@
+// A mailslot message, written: document 02, #105.
