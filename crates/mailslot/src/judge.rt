@@ -1,12 +1,10 @@
 // What the texts, the SID and the numbers of a message must be, for reader and writer.
 ghost use mathlib.Core.Path.{_≡_};
-ghost use mathlib.Core.Bool.{true, false, _&&_, _||_};
-ghost use Prim.Native.Nat.{_+_, _*_, _-_, _≤_, _<_};
-ghost use lib.Dec.{eqb};
-ghost use lib.ListN.{length, getD};
-ghost use Rattle.octets.specs.Text.{within};
+ghost use Prim.Native.Nat.{_≤_};
+ghost use lib.ListN.{length};
 ghost use Rattle.mailslot.specs.Message.{isMailslotName, isMessageSid};
 ghost use Rattle.mailslot.specs.Internal.Runs.{NameRun};
+ghost use Rattle.mailslot.specs.Internal.Shape.{isSidSize};
 use octets::number::wide;
 use unicode::utf8::octet_at;
 
@@ -46,7 +44,7 @@ pub fn is_mailslot_name(s: &[u8]) -> bool
 
 // Whether a SID of this count may have so many octets; none is no SID.
 pub fn is_sid_size(size: u32, count: u8) -> bool
-    ensures { λ r. ⌜ r ≡ (eqb size 0 || (within 8 68 size && eqb size (8 + 4 * count))) ⌝ }
+    ensures { λ r. ⌜ r ≡ isSidSize size count ⌝ }
 {
     (size == 0)
         | ((SID_LEAST <= size) & (size <= SID_MOST) & (size == SID_LEAST + 4 * wide(count)))
