@@ -1,6 +1,8 @@
 //! Mailslot messages (#105): their fields, and the answering of one.
 
 pub mod reader;
+#[cfg(test)]
+mod tests;
 pub mod writer;
 
 use crate::answers::Refusal;
