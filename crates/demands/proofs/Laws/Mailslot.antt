@@ -30,7 +30,7 @@ use Rattle.table.specs.declared.Caller.{Caller}
 use Rattle.table.specs.{Site.Site, Table.Table}
 use Rattle.table_whole.specs.Judgement.{tableIn}
 use Rattle.transcode.specs.Transcode.{areOctets}
-use Rattle.transcode.proofs.Laws.Text8.{to-8}
+use Rattle.transcode.proofs.Laws.Texts.{to-8}
 use Rattle.unicode.specs.Utf16.{utf16}
 use Rattle.demands.specs.Derivation.{GivesGoodPings, GoodPing}
 use Rattle.demands.specs.Mailslot.{WaysIn, NoApplicationFlag, UserUnits, UserAsSent}
