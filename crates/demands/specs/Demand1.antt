@@ -19,7 +19,7 @@ use Rattle.locator.specs.declared.Answer.{Answer}
 use Rattle.locator.specs.declared.Answer.the-variants as answer
 use Rattle.locator.specs.Answer.{answerNumber, answerLength, answerContext, answerForm}
 use Rattle.mailslot.specs.{declared.message.Message.Message, declared.message.MessageRead.MessageRead, Read.messageNumber, Read.messageGiven, Read.ReadMessagePromise}
-use Rattle.mailslot.specs.declared.message.MessageRead.the-variants as message
+use Rattle.mailslot.specs.declared.message.MessageRead.the-variants as messageRead
 use Rattle.octets.specs.{Lists.any, Text.within}
 use Rattle.reader_forms.specs.declared.reading.Reading.{Reading}
 use Rattle.reader_forms.specs.declared.reading.Reading.the-variants as reading
@@ -87,7 +87,7 @@ pub record Demand1 : Type 0 where
       → ForReply (readingNumber x) × (readingLength x ≡ 0) × (readingFields x ≡ none)
   pub «name_text» : (reply : List ℕ) (start : ℕ) (t : NameText) (r : Refusal) → NameTextPromise reply start t → t .len ≡ text.Refused r
       → ForName (textNumber (t .len)) × (textLength (t .len) ≡ 0) × (textGiven t ≡ [])
-  pub «read_message» : (message : List ℕ) (m : MessageRead) (r : Refusal) → ReadMessagePromise message m → m ≡ message.Refused r → ForMessage (messageNumber m) × (messageGiven m ≡ none)
+  pub «read_message» : (message : List ℕ) (m : MessageRead) (r : Refusal) → ReadMessagePromise message m → m ≡ messageRead.Refused r → ForMessage (messageNumber m) × (messageGiven m ≡ none)
   pub «write_message» : (source : List ℕ) (message : Message) (before after : List ℕ) (w : Written) (r : Refusal) → WriteMessagePromise source message before after w → w ≡ written.Refused r
       → ForMessageWriting (writtenNumber w) × (writtenLength w ≡ 0) × (after ≡ before)
   pub «answer_mailslot» : (image : List ℕ) (caller : Caller) (message before after : List ℕ) (a : Answer) (r : Refusal) → AnswerMailslotPromise image caller message before after a

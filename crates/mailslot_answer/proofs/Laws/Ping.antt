@@ -1,0 +1,155 @@
+-- The ping of a message that reads: its clauses as the code lays them out, and that 9 lets its user pass.
+use mathlib.Core.Path.{_≡_, refl, sym, ap, _∙_, subst}
+use mathlib.Core.Bool.{Bool, true, false, not, _&&_, _||_}
+use mathlib.Core.List.{List, [], _∷_, _++_, append-assoc}
+use mathlib.Core.Option.{Option, none, some, Option·getD}
+use Prim.Native.Nat.{ℕ, _+_, _-_, _≤_}
+use native.Mathlib.Omega.{arith}
+use lib.Dec.{eqb, leb, ltb}
+use lib.ListN.{length, drop}
+use borrow.Author.Tests.{leb-true, eqb-true, not-false}
+use Rattle.answers.specs.Try.{Try, refused, good, _>>=_}
+use Rattle.answers.proofs.Laws.Try.{good-same, good-then, refusedIf-good}
+use Rattle.filter.specs.declared.request.Clause.{Clause}
+use Rattle.filter.specs.declared.request.Clause.the-variants.{Absent, Present}
+use Rattle.filter.specs.Request.{octetsOf}
+use Rattle.filter_read.specs.Internal.RawPing.{pingAt}
+use Rattle.lent.specs.Internal.OverAt.{overAt}
+use Rattle.lent.proofs.Laws.OverAt.{laid-over, laid-more, over-laid}
+use Rattle.octets.specs.{Buffer.over, Lists.cut, Lists.holds, NameRule.sized, NameRule.without, NameRule.userNameMost, Sid.sidLength}
+use Rattle.octets.proofs.Laws.Lists.{both-left, both-right, other-right, true-not-false, cut-after}
+use Rattle.octets.proofs.Laws.Text.{within-high}
+use Rattle.reader.specs.Field.{stretchOf}
+use Rattle.unicode.specs.{UserName.isUserName, Utf8.isUtf8, Utf16.utf8From16}
+use Rattle.mailslot.specs.declared.message.Message.{Message}
+use Rattle.mailslot.specs.Message.{isComputerName, isMessageUser, isMailslotName, isMessageSid, goodMessage, readFields, asShape, messageIn}
+use Rattle.transcode.specs.Internal.Text8.{utf8Text}
+use Rattle.mailslot_answer.specs.Ping.{unlessEmpty, messagePing, mailslotPing}
+use Rattle.mailslot_answer.specs.Internal.Source.{ClauseAt}
+
+-- what a good user is in UTF-8
+user-text : (s : List ℕ) → isMessageUser s ≡ true → (t : List ℕ) × (utf8From16 s ≡ some t) × (isUserName t ≡ true)
+unfolding isMessageUser
+user-text s e = go (utf8From16 s) refl e
+  where
+    go : (o : Option (List ℕ)) → utf8From16 s ≡ o → holds isUserName o ≡ true → (t : List ℕ) × (utf8From16 s ≡ some t) × (isUserName t ≡ true)
+    go none q h = absurd (true-not-false (sym h))
+    go (some t) q h = (t, q, h)
+
+user-short : (t : List ℕ) → isUserName t ≡ true → length t ≤ userNameMost
+unfolding isUserName
+user-short t e = leb-true (length t) userNameMost (both-left (leb (length t) userNameMost) (isUtf8 t) (both-left (leb (length t) userNameMost && isUtf8 t) (without 0 t) e))
+
+sid-short : (s : List ℕ) → isMessageSid s ≡ true → length s ≤ 68
+unfolding isMessageSid
+sid-short s e = go (eqb (length s) 0) refl
+  where
+    go : (b : Bool) → eqb (length s) 0 ≡ b → length s ≤ 68
+    go true z = omega (arith, eqb-true (length s) 0 z)
+    go false z = within-high 8 68 (length s) (both-left (sized 8 68 s) (eqb (length s) (sidLength s)) (other-right (eqb (length s) 0) (sized 8 68 s && eqb (length s) (sidLength s)) e z))
+
+module _ (s : List ℕ) (m : Message) (e : messageIn s ≡ good m) where
+  good-message : goodMessage s m ≡ true
+  unfolding messageIn
+  good-message =
+      let f = good-then (asShape (readFields s)) _ m e in
+      let g = refusedIf-good (not (goodMessage s (f .0))) _ (good (f .0)) m (f .2) in
+      subst (λ (x : Message). goodMessage s x ≡ true) (good-same (g .1)) (not-false (goodMessage s (f .0)) (g .0))
+
+  -- the tests before that of the SID
+  abbrev before : Bool
+  before =
+      ltb (m .repeat) 0x10000
+      && isComputerName (stretchOf s (m .computer))
+      && isMessageUser (stretchOf s (m .user))
+      && isMailslotName (stretchOf s (m .mailslot))
+      && ltb (m .bits) 0x100000000
+
+  abbrev front : Bool
+  front = ltb (m .repeat) 0x10000 && isComputerName (stretchOf s (m .computer))
+
+  to-sid : before && isMessageSid (stretchOf s (m .sid)) ≡ true
+  unfolding goodMessage
+  to-sid = both-left (before && isMessageSid (stretchOf s (m .sid))) (ltb (m .version) 0x100000000) good-message
+
+  sid-fits : length (stretchOf s (m .sid)) ≤ 68
+  sid-fits = sid-short (stretchOf s (m .sid)) (both-right before (isMessageSid (stretchOf s (m .sid))) to-sid)
+
+  good-user : isMessageUser (stretchOf s (m .user)) ≡ true
+  good-user =
+      let u : Bool = isMessageUser (stretchOf s (m .user)) in
+      let n : Bool = isMailslotName (stretchOf s (m .mailslot)) in
+      let b : Bool = ltb (m .bits) 0x100000000 in
+      both-right front u (both-left (front && u) n (both-left (front && u && n) b (both-left before (isMessageSid (stretchOf s (m .sid))) to-sid)))
+
+  -- its octets in UTF-8
+  abbrev pub userText : List ℕ
+  userText = Option·getD (utf8From16 (stretchOf s (m .user))) []
+
+  pub user-told : utf8From16 (stretchOf s (m .user)) ≡ some userText
+  user-told = let t = user-text (stretchOf s (m .user)) good-user in t .1 ∙ ap some (sym (ap (λ (o : Option (List ℕ)). Option·getD o []) (t .1)))
+
+  pub user-name : isUserName userText ≡ true
+  user-name =
+      let t = user-text (stretchOf s (m .user)) good-user in
+      ap (λ (o : Option (List ℕ)). isUserName (Option·getD o [])) (t .1) ∙ t .2
+
+  user-fits : length userText ≤ 63
+  user-fits = user-short userText user-name
+
+  -- of octets that are the user's units, and of those that are the SID
+  pub user-room : (x : List ℕ) → x ≡ stretchOf s (m .user) → length (utf8Text x) ≤ 63
+  user-room x q = subst (λ (y : List ℕ). length (utf8Text y) ≤ 63) (sym q) user-fits
+
+  pub sid-room : (x : List ℕ) → x ≡ stretchOf s (m .sid) → length x ≤ 68
+  sid-room x q = subst (λ (y : List ℕ). length y ≤ 68) (sym q) sid-fits
+
+  pub user-passes : holds (λ x. not (isUserName x)) (messagePing s m .user) ≡ false
+  user-passes = go userText user-name
+    where
+      go : (t : List ℕ) → isUserName t ≡ true → holds (λ x. not (isUserName x)) (unlessEmpty t) ≡ false
+      go [] h = refl
+      go (x ∷ xs) h = ap not h
+
+  pub pinged : mailslotPing s ≡ good (messagePing s m)
+  unfolding mailslotPing
+  pinged = ap (λ (o : Try Message). o >>= λ (x : Message). good (messagePing s x)) e
+
+-- a clause by its length, as the code makes it
+module _ (start len : ℕ) where
+  pub absent-clause : len ≡ 0 → ClauseAt start len Absent
+  absent-clause e s [] q l = refl
+  absent-clause e s (y ∷ ys) q l = absurd (omega arith)
+
+  pub present-clause : (len ≡ 0 → ⊥) → ClauseAt start len (Present start len)
+  present-clause n s [] q l = absurd (n (sym l))
+  present-clause n s (y ∷ ys) q l = ap some q
+
+-- the user and the SID at the front of a source, each as its stretch
+module _ (t x d : List ℕ) (now : List ℕ) (e : now ≡ over (t ++ x) d) where
+  laid-out : now ≡ t ++ (x ++ drop (length (t ++ x)) d)
+  unfolding over
+  laid-out = e ∙ append-assoc t x (drop (length (t ++ x)) d)
+
+  pub front-cut : cut now 0 (length t) ≡ t
+  front-cut = ap (λ (y : List ℕ). cut y 0 (length t)) laid-out ∙ cut-after [] t (x ++ drop (length (t ++ x)) d)
+
+  pub back-cut : cut now (length t) (length x) ≡ x
+  back-cut = ap (λ (y : List ℕ). cut y (length t) (length x)) laid-out ∙ cut-after t x (drop (length (t ++ x)) d)
+
+-- what was put makes the ping: the user as UTF-8, then the SID, by the stretches that hold them
+pub ping-made : (s : List ℕ) (m : Message) (units sid d now now' : List ℕ) (n n' : ℕ) (userClause sidClause : Clause)
+    → units ≡ stretchOf s (m .user) → sid ≡ stretchOf s (m .sid)
+    → n ≡ length (utf8Text units) → now ≡ over (utf8Text units) d → n' ≡ n + length sid → now' ≡ overAt n sid now
+    → ClauseAt 0 n userClause → ClauseAt n (n' - n) sidClause
+    → pingAt now' (record { «dns_domain» = Absent; «user» = userClause; «aac» = m .bits; «domain_sid» = sidClause; «domain_guid» = Absent; «version» = m .version }) ≡ messagePing s m
+ping-made s m units sid d now now' n n' userClause sidClause p q e f e' f' user-at sid-at =
+    let t : List ℕ = utf8Text units in
+    let l : now' ≡ over (t ++ sid) d = over-laid (laid-more sid (laid-over f e) e' f') in
+    let k : n' - n ≡ length sid = omega arith in
+    let a : octetsOf now' userClause ≡ unlessEmpty t = user-at now' t (ap (cut now' 0) e ∙ front-cut t sid d now' l) (sym e) in
+    let x : cut now' n (n' - n) ≡ sid = ap (cut now' n) k ∙ ap (λ (i : ℕ). cut now' i (length sid)) e ∙ back-cut t sid d now' l in
+    let b : octetsOf now' sidClause ≡ unlessEmpty sid = sid-at now' sid x (sym k) in
+    let user : octetsOf now' userClause ≡ unlessEmpty (utf8Text (stretchOf s (m .user))) = a ∙ ap (λ (y : List ℕ). unlessEmpty (utf8Text y)) p in
+    let domain : octetsOf now' sidClause ≡ unlessEmpty (stretchOf s (m .sid)) = b ∙ ap unlessEmpty q in
+    λ i. record { dnsDomain = none; user = user i; aac = m .bits; domainSid = domain i; domainGuid = none; version = m .version }
