@@ -37,7 +37,8 @@ use Rattle.table_lookup.specs.Lookup.{clientSite}
 use Rattle.table_whole.specs.Judgement.{tableIn}
 use Rattle.transcode.specs.Transcode.{areOctets}
 use Rattle.transcode.proofs.Laws.Texts.{to-8}
-use Rattle.unicode.specs.Utf16.{utf16}
+use Rattle.unicode.specs.Utf8.{pointsFrom, isUtf8}
+use Rattle.unicode.specs.Utf16.{pointsOctets, utf16}
 use Rattle.unicode.proofs.Laws.OneText.{one-text}
 use Rattle.demands.specs.Derivation.{GivesGoodPings, GoodPing}
 use Rattle.demands.specs.Mailslot.{WaysIn, Says, SaidBy, AsksAlike, AsFilter, NoApplicationFlag, UserUnits, UserAsSent}
@@ -93,6 +94,15 @@ user-back Nt40 r s units v e (f, read, back) = (f, read, back .user .units ∙ e
 user-back Response r s units v e (f, read, back) = (f, read, back .user .units ∙ e)
 user-back Ex r s units v e g = tt
 
+-- the empty text has no units
+empty-utf8 : isUtf8 [] ≡ true
+unfolding isUtf8 pointsFrom
+empty-utf8 = refl
+
+empty-units : utf16 [] ≡ []
+unfolding utf16 pointsFrom pointsOctets
+empty-units = refl
+
 -- the user's text, by the units that were sent
 module _ (s : List ℕ) (m : Message) (o : areOctets s ≡ true) (e : messageIn s ≡ good m) where
   text-says : Says (stretchOf s (m .user)) (userText s m e)
@@ -136,8 +146,8 @@ module _ (s : List ℕ) (m : Message) (g : List ℕ) (r : Request) (o : areOctet
   same-user =
       let said = text-says s m o e in
       same-clause Says units (userText s m e) (octetsOf g (clause r User)) (alike .user)
-      (λ q. one-text (userText s m e) [] (said .utf8) refl (said .same ∙ q))
-      (λ q. sym (said .same) ∙ ap utf16 q)
+      (λ q. one-text (userText s m e) [] (said .utf8) empty-utf8 (said .same ∙ q ∙ sym empty-units))
+      (λ q. sym (said .same) ∙ ap utf16 q ∙ empty-units)
       (λ t h. one-text t (userText s m e) (h .utf8) (said .utf8) (h .same ∙ sym (said .same)))
 
   same-sid : octetsOf g (clause r DomainSid) ≡ unlessEmpty (stretchOf s (m .sid))
