@@ -23,6 +23,7 @@ use Rattle.mailslot.specs.Message.{isComputerName, isMessageUser, isMail
 use Rattle.mailslot.specs.Internal.Shape.{EndsText, EndsName, Texts, Numbers, sidPadding, messageAt}
 use Rattle.mailslot.proofs.Laws.Field.{Octets, then-known, octets-there, octets-read, number-there, number-read, constant-there, constant-read, tokens-there, tokens-read}
 use Rattle.mailslot.proofs.Laws.Ends.{textField, text-got, nameField, name-got, name-read}
+use Rattle.mailslot.proofs.Laws.User.{computer-read, user-read}
 use Rattle.mailslot.proofs.Laws.Sid.{sidField, sid-there, sid-read, sid-judged}
 
 -- a message of the shape, wherever its texts end
@@ -188,9 +189,9 @@ module _ (s : List ℕ) (computer user mailslot sid : ℕ) (o : Octets s) (t : T
       let eight : bits + 4 + 4 ≡ bits + 8 = omega arith in
       ap (λ (i : ℕ). i + sidPadding size i) eight ∙ sym (n .sidStarts)
 
-  fields-there : readText s 4 ≡ good (textField 4 computer) → readText s (computer + 2) ≡ good (textField (computer + 2) user) → readFields s ≡ good (messageAt s computer user mailslot sid)
+  fields-there : readFields s ≡ good (messageAt s computer user mailslot sid)
   unfolding readFields
-  fields-there c u =
+  fields-there =
       let k : behind ≡ sid = behind-sid in
       let e : behind + size + 8 ≡ length s = ap (λ (i : ℕ). i + size + 8) k ∙ n .ends in
       let first : u16At s (behind + size + 4) ≡ LmNtToken = ap (λ (i : ℕ). u16At s (i + size + 4)) k ∙ n .first in
@@ -200,8 +201,8 @@ module _ (s : List ℕ) (computer user mailslot sid : ℕ) (o : Octets s) (t : T
       (rw (
         constant-there s 0 LOGON-SAM-LOGON-REQUEST o (omega arith) (t .opcode),
         octets-there s 2 2 (omega arith),
-        c,
-        u,
+        computer-read s 4 computer o (t .computerEnds),
+        user-read s (computer + 2) user o (t .userEnds),
         name-read s (user + 2) mailslot (t .mailslotEnds),
         number-there s bits (omega arith),
         number-there s (bits + 4) (omega arith),
@@ -217,6 +218,6 @@ module _ (s : List ℕ) (computer user mailslot sid : ℕ) (o : Octets s) (t : T
       sym (good-by-sid s (messageAt s computer user mailslot sid) (u16-fits s 2 o (omega arith)) (t .computerEnds .text) (t .userEnds .text) (t .mailslotEnds .name) (u32-fits s bits o (omega arith)) (u32-fits s (sid + size) o (omega arith)))
       ∙ sid-judged s sid size (omega arith) ∙ n .sized
 
-  pub shape-read : readText s 4 ≡ good (textField 4 computer) → readText s (computer + 2) ≡ good (textField (computer + 2) user) → messageIn s ≡ good (messageAt s computer user mailslot sid)
+  pub shape-read : messageIn s ≡ good (messageAt s computer user mailslot sid)
   unfolding messageIn
-  shape-read c u = rw (fields-there c u, fields-good)
+  shape-read = rw (fields-there, fields-good)
