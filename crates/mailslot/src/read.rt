@@ -40,7 +40,7 @@ fn padding_at(at: usize) -> usize
 }
 
 // Those before a SID; none where there is no SID.
-fn sid_padding(size: u32, at: usize) -> usize
+pub fn sid_padding(size: u32, at: usize) -> usize
     ensures { λ r. ⌜ (r ≡ sidPadding size at) × (r ≤ 3) ⌝ }
 {
     if size == 0 {
