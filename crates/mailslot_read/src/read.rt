@@ -7,10 +7,10 @@ ghost use lib.ListN.{length};
 ghost use Rattle.answers.specs.Wire.{LmNtToken, Lm20Token};
 ghost use Rattle.octets.specs.Number.{u16At};
 ghost use Rattle.transcode.specs.Transcode.{areOctets};
-ghost use Rattle.mailslot.specs.Message.{isMessageUser, padding, messageIn};
+ghost use Rattle.mailslot.specs.Message.{isMessageUser, messageIn};
 ghost use Rattle.mailslot.specs.Read.{messageAs, ReadMessagePromise};
 ghost use Rattle.mailslot.specs.Longest.{messageMost};
-ghost use Rattle.mailslot.specs.Internal.Shape.{EndsText, EndsName, OneEnd, Texts, sidPadding};
+ghost use Rattle.mailslot.specs.Internal.Shape.{EndsText, EndsName, OneEnd, Texts};
 use answers::Refusal;
 use answers::wire::LM_NT_TOKEN;
 use answers::wire::LM20_TOKEN;
@@ -21,6 +21,7 @@ use mailslot::judge::is_sid_size;
 use mailslot::judge::name_run;
 use mailslot::message::Message;
 use mailslot::message::MessageRead;
+use mailslot::padding::sid_padding;
 use mailslot::text::text_run;
 use octets::number::u16_at;
 use octets::number::u32_at;
@@ -72,23 +73,6 @@ fn name_end(message: &[u8], start: usize) -> usize
         return message.len();
     }
     end
-}
-
-// The octets up to a multiple of four, counted from the message's first.
-fn padding_at(at: usize) -> usize
-    ensures { λ r. ⌜ (r ≡ padding at) × (r ≤ 3) ⌝ }
-{
-    (4 - at % 4) % 4
-}
-
-// Those before a SID; none where there is no SID.
-fn sid_padding(size: u32, at: usize) -> usize
-    ensures { λ r. ⌜ (r ≡ sidPadding size at) × (r ≤ 3) ⌝ }
-{
-    if size == 0 {
-        return 0;
-    }
-    padding_at(at)
 }
 
 // Whether the two tokens stand at an offset.

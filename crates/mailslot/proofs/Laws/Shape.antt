@@ -6,7 +6,7 @@ use Prim.Native.Nat.{ℕ, _+_, _*_, _-_, _≤_, _<_}
 use native.Mathlib.Omega.{arith}
 use lib.Dec.{eqb, ltb}
 use lib.ListN.{length, getD}
-use borrow.Author.Tests.{lt-ltb, not-false}
+use borrow.Author.Tests.{ltb-true, lt-ltb, not-false}
 use Rattle.answers.specs.declared.Refusal.the-variants.{MailslotShape}
 use Rattle.answers.specs.Try.{Try, refused, good, refusedIf, _>>=_}
 use Rattle.answers.specs.Wire.{LOGON-SAM-LOGON-REQUEST, LmNtToken, Lm20Token}
@@ -74,6 +74,15 @@ module _ (s : List ℕ) (m : Message) where
         mailslot = both-right used (isMailslotName (stretchOf s (m .mailslot))) b;
         sid = both-right bitted (isMessageSid (stretchOf s (m .sid))) d;
       }
+
+  pub good-numbers : goodMessage s m ≡ true → (m .repeat < 0x10000) × (m .bits < 0x100000000) × (m .version < 0x100000000)
+  unfolding goodMessage
+  good-numbers e =
+      let d : told ≡ true = both-left told (ltb (m .version) 0x100000000) e in
+      let b : bitted ≡ true = both-left bitted (isMessageSid (stretchOf s (m .sid))) d in
+      let u : used ≡ true = both-left used (isMailslotName (stretchOf s (m .mailslot))) (both-left slotted (ltb (m .bits) 0x100000000) b) in
+      let r : repeated ≡ true = both-left repeated (isComputerName (stretchOf s (m .computer))) (both-left named (isMessageUser (stretchOf s (m .user))) u) in
+      (ltb-true (m .repeat) 0x10000 r, ltb-true (m .bits) 0x100000000 (both-right slotted (ltb (m .bits) 0x100000000) b), ltb-true (m .version) 0x100000000 (both-right told (ltb (m .version) 0x100000000) e))
 
   pub not-good : (GoodParts s m → ⊥) → false ≡ goodMessage s m
   not-good none = go (goodMessage s m) refl

@@ -1,9 +1,9 @@
 use mathlib.Core.Path.{refl}
 use native.Mathlib.Omega.{arith}
 use Rattle.mailslot.specs.Message.{padding}
 use borrow.Author.Needs.{needs}
-use Rattle.mailslot_read.proofs.read.padding_at.Statement.{statement}
-use Rattle.mailslot_read.proofs.read.padding_at.Tie as tie
+use Rattle.mailslot.proofs.padding.padding_at.Statement.{statement}
+use Rattle.mailslot.proofs.padding.padding_at.Tie as tie
 
 sub-result : tie.Need-sub-result
 sub-result c = search needs

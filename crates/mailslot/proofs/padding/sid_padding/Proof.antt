@@ -2,8 +2,8 @@ use mathlib.Core.Path.{_∙_}
 use native.Mathlib.Omega.{arith}
 use borrow.Author.Tests.{ne-eqb}
 use borrow.Author.Needs.{needs}
-use Rattle.mailslot_read.proofs.read.sid_padding.Statement.{statement}
-use Rattle.mailslot_read.proofs.read.sid_padding.Tie as tie
+use Rattle.mailslot.proofs.padding.sid_padding.Statement.{statement}
+use Rattle.mailslot.proofs.padding.sid_padding.Tie as tie
 
 returns : tie.Need-returns
 returns c = (rw (c .if1 .taken), omega arith)
