@@ -1,11 +1,11 @@
-"""Puts fresh answered pings through the peers: compare.py MODE COUNT SEED ROOT FOLDER PEER...
+"""Puts fresh answered pings through the peers: compare.py MODE COUNT SEED GENERATE PROGRAM FOLDER PEER...
 
 MODE is `agree`, or `faults`, by which one octet of each reply is changed on its way to the peers, who must notice.
-FOLDER is for files made on the way, and holds the program made from libndr.c.
+GENERATE makes requests, and PROGRAM answers vector lines. FOLDER is for files made on the way, and holds the program
+made from libndr.c.
 """
 
 import importlib
-import os
 import random
 import sys
 
@@ -62,8 +62,7 @@ def text_at(reply, at):
     return None
 
 
-def main(mode, count, seed, root, folder, *names):
-    generate, program = os.path.join(root, "second/generate"), os.path.join(root, "target/bin/vectors")
+def main(mode, count, seed, generate, program, folder, *names):
     pings = fresh_answered(generate, program, int(count), int(seed))
     peers = [importlib.import_module(name) for name in names]
     if mode == "faults":
