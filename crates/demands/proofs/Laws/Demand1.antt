@@ -108,8 +108,7 @@ module _ (P : Refusal → Type 0) where
   message-context-only : P TableWhole → P SidShape → P SidNotHeld → P SidOfAnother → (t : Table) (s : List ℕ) (m : Message) → Only P Any (contextIn t (messagePing s m))
   unfolding contextIn
   message-context-only e f g h t s m =
-      only-then P Any (orWhole (contextUsed t (messagePing s m))) _ (found-only e (contextUsed t (messagePing s m))) (λ c.
-      only-if P Any _ _ _ f (only-if P Any _ _ _ g (only-if P Any _ _ (good c) h tt)))
+      only-then P Any (orWhole (contextUsed t (messagePing s m))) _ (found-only e (contextUsed t (messagePing s m))) (λ c. search (only-if P))
 
   context-only : P GuidLength → P GuidNotHeld → P DnsNameEmpty → P DnsNameNotHeld → P TableWhole → P SidShape → P SidNotHeld → P SidOfAnother
       → (t : Table) (p : Ping) → Only P Any (contextIn t p)

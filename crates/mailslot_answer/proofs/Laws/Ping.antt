@@ -3,9 +3,9 @@ use mathlib.Core.Path.{_≡_, refl, sym, ap, _∙_, subst}
 use mathlib.Core.Bool.{Bool, true, false, not, _&&_, _||_}
 use mathlib.Core.List.{List, [], _∷_, _++_, append-assoc}
 use mathlib.Core.Option.{Option, none, some, Option·getD}
-use Prim.Native.Nat.{ℕ, _+_, _-_, _≤_}
+use Prim.Native.Nat.{ℕ, _+_, _-_, _≤_, _<_}
 use native.Mathlib.Omega.{arith}
-use lib.Dec.{eqb, leb, ltb}
+use lib.Dec.{eqb, leb}
 use lib.ListN.{length, drop}
 use borrow.Author.Tests.{leb-true, eqb-true, not-false}
 use Rattle.answers.specs.Try.{Try, refused, good, _>>=_}
@@ -17,12 +17,16 @@ use Rattle.filter_read.specs.Internal.RawPing.{pingAt}
 use Rattle.lent.specs.Internal.OverAt.{overAt}
 use Rattle.lent.proofs.Laws.OverAt.{laid-over, laid-more, over-laid}
 use Rattle.octets.specs.{Buffer.over, Lists.cut, Lists.holds, NameRule.sized, NameRule.without, NameRule.userNameMost, Sid.sidLength}
-use Rattle.octets.proofs.Laws.Lists.{both-left, both-right, other-right, true-not-false, cut-after}
+use Rattle.octets.proofs.Laws.Lists.{both-left, other-right, true-not-false, cut-after}
 use Rattle.octets.proofs.Laws.Text.{within-high}
 use Rattle.reader.specs.Field.{stretchOf}
 use Rattle.unicode.specs.{UserName.isUserName, Utf8.isUtf8, Utf16.utf8From16}
+use Rattle.answers.specs.declared.Refusal.{Refusal}
 use Rattle.mailslot.specs.declared.message.Message.{Message}
-use Rattle.mailslot.specs.Message.{isComputerName, isMessageUser, isMailslotName, isMessageSid, goodMessage, readFields, asShape, messageIn}
+use Rattle.mailslot.specs.declared.message.MessageRead.the-variants as read
+use Rattle.mailslot.specs.Read.{messageAs}
+use Rattle.mailslot.specs.Message.{isMessageUser, isMessageSid, goodMessage, readFields, asShape, messageIn}
+use Rattle.mailslot.proofs.Laws.Shape.{good-parts, good-numbers}
 use Rattle.transcode.specs.Internal.Text8.{utf8Text}
 use Rattle.mailslot_answer.specs.Ping.{unlessEmpty, messagePing, mailslotPing}
 use Rattle.mailslot_answer.specs.Internal.Source.{ClauseAt}
@@ -56,31 +60,17 @@ module _ (s : List ℕ) (m : Message) (e : messageIn s ≡ good m) where
       let g = refusedIf-good (not (goodMessage s (f .0))) _ (good (f .0)) m (f .2) in
       subst (λ (x : Message). goodMessage s x ≡ true) (good-same (g .1)) (not-false (goodMessage s (f .0)) (g .0))
 
-  -- the tests before that of the SID
-  abbrev before : Bool
-  before =
-      ltb (m .repeat) 0x10000
-      && isComputerName (stretchOf s (m .computer))
-      && isMessageUser (stretchOf s (m .user))
-      && isMailslotName (stretchOf s (m .mailslot))
-      && ltb (m .bits) 0x100000000
-
-  abbrev front : Bool
-  front = ltb (m .repeat) 0x10000 && isComputerName (stretchOf s (m .computer))
-
-  to-sid : before && isMessageSid (stretchOf s (m .sid)) ≡ true
-  unfolding goodMessage
-  to-sid = both-left (before && isMessageSid (stretchOf s (m .sid))) (ltb (m .version) 0x100000000) good-message
+  good-user : isMessageUser (stretchOf s (m .user)) ≡ true
+  good-user = good-parts s m good-message .user
 
   sid-fits : length (stretchOf s (m .sid)) ≤ 68
-  sid-fits = sid-short (stretchOf s (m .sid)) (both-right before (isMessageSid (stretchOf s (m .sid))) to-sid)
+  sid-fits = sid-short (stretchOf s (m .sid)) (good-parts s m good-message .sid)
 
-  good-user : isMessageUser (stretchOf s (m .user)) ≡ true
-  good-user =
-      let u : Bool = isMessageUser (stretchOf s (m .user)) in
-      let n : Bool = isMailslotName (stretchOf s (m .mailslot)) in
-      let b : Bool = ltb (m .bits) 0x100000000 in
-      both-right front u (both-left (front && u) n (both-left (front && u && n) b (both-left before (isMessageSid (stretchOf s (m .sid))) to-sid)))
+  pub bits-fit : m .bits < 0x100000000
+  bits-fit = good-numbers s m good-message .1
+
+  pub version-fits : m .version < 0x100000000
+  version-fits = good-numbers s m good-message .2
 
   -- its octets in UTF-8
   abbrev pub userText : List ℕ
@@ -114,6 +104,19 @@ module _ (s : List ℕ) (m : Message) (e : messageIn s ≡ good m) where
   pub pinged : mailslotPing s ≡ good (messagePing s m)
   unfolding mailslotPing
   pinged = ap (λ (o : Try Message). o >>= λ (x : Message). good (messagePing s x)) e
+
+-- what reading gave, by the enum
+pub read-good : (t : Try Message) (m : Message) → read.Read m ≡ messageAs t → t ≡ good m
+read-good (refused x) m e = let z : _≡_ {A = ℕ} 0 1 = cc in absurd (omega arith)
+read-good (good a) m e = let k : m ≡ a = cc in ap good (sym k)
+
+pub read-refused : (t : Try Message) (x : Refusal) → read.Refused x ≡ messageAs t → t ≡ refused x
+read-refused (refused y) x e = let k : x ≡ y = cc in ap refused (sym k)
+read-refused (good a) x e = let z : _≡_ {A = ℕ} 0 1 = cc in absurd (omega arith)
+
+pub not-pinged : (s : List ℕ) (x : Refusal) → messageIn s ≡ refused x → mailslotPing s ≡ refused x
+unfolding mailslotPing
+not-pinged s x e = ap (λ (o : Try Message). o >>= λ (m : Message). good (messagePing s m)) e
 
 -- a clause by its length, as the code makes it
 module _ (start len : ℕ) where
