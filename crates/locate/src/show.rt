@@ -9,7 +9,7 @@ use filter_read::ping::read_ping;
 use locator::Answer;
 use locator::ping::answer_ping;
 use mailslot::message::MessageRead;
-use mailslot::read::read_message;
+use mailslot_read::read::read_message;
 use mailslot_answer::answer::answer_mailslot;
 use octets::part::part;
 use reader_reply::read::read_reply;

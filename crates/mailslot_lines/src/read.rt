@@ -6,7 +6,7 @@ use line_words::words::say_numbers;
 use mailslot::message::Message;
 use mailslot::message::MessageRead;
 use mailslot::message::message_number;
-use mailslot::read::read_message;
+use mailslot_read::read::read_message;
 use octets::part::part;
 use reader::field::Stretch;
 
