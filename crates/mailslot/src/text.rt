@@ -1,7 +1,7 @@
 // Texts in UTF-16LE that a user's name may be, character by character.
 ghost use mathlib.Core.Path.{_≡_};
 ghost use mathlib.Core.Bool.{true};
-ghost use Prim.Native.Nat.{_+_, _*_, _≤_};
+ghost use Prim.Native.Nat.{_+_, _*_, _≤_, _<_};
 ghost use lib.ListN.{length};
 ghost use Rattle.octets.specs.Number.{u16At};
 ghost use Rattle.transcode.specs.Transcode.{areOctets};
@@ -15,11 +15,11 @@ const FIRST_HIGH: u16 = 0xD800;
 
 const FIRST_LOW: u16 = 0xDC00;
 
-const LAST_LOW: u16 = 0xDFFF;
+const AFTER_LOW: u16 = 0xE000;
 
 // The octets of UTF-8 of a pair of surrogates: 4, or 0 where the unit stands alone.
 fn pair_size(s: &[u8], at: usize, unit: u16) -> usize
-    requires { ⌜ (at + 2 ≤ length (now s)) × (unit ≡ u16At (now s) at) × (0xD800 ≤ unit) × (unit ≤ 0xDFFF) ⌝ }
+    requires { ⌜ (at + 2 ≤ length (now s)) × (unit ≡ u16At (now s) at) × (0xD800 ≤ unit) × (unit < 0xE000) ⌝ }
     ensures { λ r. ⌜ CharacterSize (now (s .entry)) at r ⌝ }
 {
     if FIRST_LOW <= unit {
@@ -29,10 +29,7 @@ fn pair_size(s: &[u8], at: usize, unit: u16) -> usize
         return 0;
     }
     let low = u16_at(s, at + 2);
-    if low < FIRST_LOW {
-        return 0;
-    }
-    if LAST_LOW < low {
+    if (low < FIRST_LOW) | (AFTER_LOW <= low) {
         return 0;
     }
     4
@@ -53,10 +50,7 @@ fn character_size(s: &[u8], at: usize) -> usize
     if unit < 0x800 {
         return 2;
     }
-    if unit < FIRST_HIGH {
-        return 3;
-    }
-    if LAST_LOW < unit {
+    if (unit < FIRST_HIGH) | (AFTER_LOW <= unit) {
         return 3;
     }
     pair_size(s, at, unit)
@@ -90,10 +84,7 @@ fn plain_run(s: &[u8], start: usize) -> usize
     let mut i = 0;
     while i < units {
         let unit = u16_at(s, start + 2 * i);
-        if unit == 0 {
-            return i;
-        }
-        if 0x7F < unit {
+        if (unit == 0) | (0x7F < unit) {
             return i;
         }
         i += 1;

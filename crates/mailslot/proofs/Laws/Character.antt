@@ -185,7 +185,7 @@ module _ (s : List ℕ) (at u : ℕ) (e : u ≡ u16At s at) (h : at + 4 ≤ leng
   pub pair-stands : 0xDC00 ≤ v → v ≤ 0xDFFF → CharacterSize s at 4
   pair-stands a b = record { most = omega arith; stands = λ q. stood a b; lacks = λ q. absurd (omega arith) }
 
-  pub high-lone : (0xDC00 ≤ v → 0xDFFF < v) → CharacterSize s at 0
+  pub high-lone : (0xDC00 ≤ v → 0xE000 ≤ v) → CharacterSize s at 0
   unfolding follow16
   high-lone l = lacking s at u e (omega arith) (λ size m q. go size m (ltb m 2) refl)
     where
@@ -193,4 +193,4 @@ module _ (s : List ℕ) (at u : ℕ) (e : u ≡ u16At s at) (h : at + 4 ≤ leng
       go size m true p = high-short s at u e (omega arith) k n size m (ltb-true m 2 p)
       go size m false p =
           let more : 2 + m ≡ 4 + (m - 2) = omega (arith, ltb-false m 2 p) in
-          rw more (left-both size (m - 2) ∙ rw (without-range 0xDC00 0xDFFF v l))
+          rw more (left-both size (m - 2) ∙ rw (without-range 0xDC00 0xDFFF v (λ k. omega (arith, l k))))

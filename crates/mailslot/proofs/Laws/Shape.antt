@@ -75,19 +75,13 @@ module _ (s : List ℕ) (m : Message) where
         sid = both-right bitted (isMessageSid (stretchOf s (m .sid))) d;
       }
 
-  pub not-good : (GoodParts s m → ⊥) → false ≡ goodMessage s m
-  not-good none = go (goodMessage s m) refl
-    where
-      go : (b : Bool) → goodMessage s m ≡ b → false ≡ b
-      go true e = absurd (none (good-parts e))
-      go false e = refl
-
-  -- where the others are good, the SID decides
-  pub good-by-sid : m .repeat < 0x10000 → isComputerName (stretchOf s (m .computer)) ≡ true → isMessageUser (stretchOf s (m .user)) ≡ true → isMailslotName (stretchOf s (m .mailslot)) ≡ true
-      → m .bits < 0x100000000 → m .version < 0x100000000 → isMessageSid (stretchOf s (m .sid)) ≡ goodMessage s m
+  -- the numbers have the widths of their fields: the texts and the SID decide
+  pub good-by-parts : m .repeat < 0x10000 → m .bits < 0x100000000 → m .version < 0x100000000
+      → (isComputerName (stretchOf s (m .computer)) && isMessageUser (stretchOf s (m .user)) && isMailslotName (stretchOf s (m .mailslot)) && isMessageSid (stretchOf s (m .sid))) ≡ goodMessage s m
   unfolding goodMessage
-  good-by-sid r c u a b v =
-      rw (lt-ltb (m .repeat) 0x10000 r, c, u, a, lt-ltb (m .bits) 0x100000000 b, lt-ltb (m .version) 0x100000000 v) (sym (and-true (isMessageSid (stretchOf s (m .sid)))))
+  good-by-parts r b v =
+      let texts : Bool = isComputerName (stretchOf s (m .computer)) && isMessageUser (stretchOf s (m .user)) && isMailslotName (stretchOf s (m .mailslot)) in
+      rw (lt-ltb (m .repeat) 0x10000 r, lt-ltb (m .bits) 0x100000000 b, lt-ltb (m .version) 0x100000000 v, and-true texts, and-true (texts && isMessageSid (stretchOf s (m .sid))))
 
 -- ---- what reads has the shape
 
@@ -215,8 +209,9 @@ module _ (s : List ℕ) (computer user mailslot sid : ℕ) (o : Octets s) (t : T
       let l : 4 ≤ length s = omega (arith, t .computerEnds .from, t .computerEnds .to) in
       let e : sid + size + 8 ≡ length s = n .ends in
       let k : bits + 8 ≤ sid = omega (arith, n .sidStarts) in
-      sym (good-by-sid s (messageAt s computer user mailslot sid) (u16-fits s 2 o (omega arith)) (t .computerEnds .text) (t .userEnds .text) (t .mailslotEnds .name) (u32-fits s bits o (omega arith)) (u32-fits s (sid + size) o (omega arith)))
-      ∙ sid-judged s sid size (omega arith) ∙ n .sized
+      let told : isMessageSid (cut s sid size) ≡ true = sid-judged s sid size (omega arith) ∙ n .sized in
+      sym (good-by-parts s (messageAt s computer user mailslot sid) (u16-fits s 2 o (omega arith)) (u32-fits s bits o (omega arith)) (u32-fits s (sid + size) o (omega arith)))
+      ∙ rw (t .computerEnds .text, t .userEnds .text, t .mailslotEnds .name, told)
 
   pub shape-read : messageIn s ≡ good (messageAt s computer user mailslot sid)
   unfolding messageIn

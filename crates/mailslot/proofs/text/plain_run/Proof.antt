@@ -1,9 +1,12 @@
-use mathlib.Core.Path.{_≡_, subst}
+use mathlib.Core.Path.{_≡_, sym, subst, _∙_}
 use Prim.Native.Nat.{_+_, _*_, _-_, _≤_}
 use native.Mathlib.Omega.{arith}
 use borrow.Author.Needs.{needs}
+use borrow.Author.Tests.{not-false}
 use Rattle.octets.specs.Lists.{cut}
-use Rattle.mailslot.specs.Internal.Runs.{Running}
+use Rattle.octets.proofs.Laws.Text.{within-low, within-high}
+use Rattle.mailslot.specs.Internal.Runs.{ofName, Running}
+use Rattle.mailslot.proofs.Laws.Name.{name-octet}
 use Rattle.mailslot.proofs.Laws.Run.{run-starts, plain-goes}
 use Rattle.mailslot.proofs.Laws.User.{octets-known, octets-cut, user-left}
 use Rattle.mailslot.proofs.text.plain_run.Statement.{statement}
@@ -41,9 +44,6 @@ u16-at-requires c κs = search needs
 returns : tie.Need-returns Inv-loop μ-loop
 returns c = c .before .before .before .loop .inv .1
 
-returns-2 : tie.Need-returns-2 Inv-loop μ-loop
-returns-2 c = c .before .before .before .before .loop .inv .1
-
 add-i : tie.Need-add-i Inv-loop μ-loop
 add-i c = search needs
 
@@ -52,16 +52,18 @@ loop-less c = search needs
 
 loop-again : tie.Need-loop-again Inv-loop μ-loop
 loop-again c =
-    let a = c .before .before .before .before .before .before .before .args in
-    let l = c .before .before .before .before .loop in
-    let u = c .before .before .u16-at in
+    let a = c .before .before .before .before .before .before .args in
+    let l = c .before .before .before .loop in
+    let u = c .before .u16-at in
+    let letter = not-false (ofName (u .result)) (sym (name-octet (u .result)) ∙ c .if1 .left) in
     let two : a .start + 2 * l .i + 2 ≡ a .start + 2 * (l .i + 1) = omega arith in (
       omega arith,
-      subst (λ at. Running (a .s .now) (a .start) at (l .i + 1)) two (plain-goes (a .s .now) (a .start) (a .start + 2 * l .i) (l .i) (l .inv .1) (u .result) (u .ensures) (omega arith) (omega arith) (omega arith) (omega arith)),
+      subst (λ at. Running (a .s .now) (a .start) at (l .i + 1)) two
+          (plain-goes (a .s .now) (a .start) (a .start + 2 * l .i) (l .i) (l .inv .1) (u .result) (u .ensures) (omega arith) (within-low 1 0x7F (u .result) letter) (within-high 1 0x7F (u .result) letter) (omega arith)),
     )
 
-returns-3 : tie.Need-returns-3 Inv-loop μ-loop
-returns-3 c = c .before .loop .inv .1
+returns-2 : tie.Need-returns-2 Inv-loop μ-loop
+returns-2 c = c .before .loop .inv .1
 
 pub plain-run-spec : {M : Type 1} → statement M
 plain-run-spec =
@@ -76,8 +78,7 @@ plain-run-spec =
     add-u16-at
     u16-at-requires
     returns
-    returns-2
     add-i
     loop-less
     loop-again
-    returns-3)
+    returns-2)
