@@ -63,7 +63,7 @@ pub fn is_mailslot_name(s: &[u8]) -> bool
     name_run(s, 0) == s.len()
 }
 
-// Whether a SID of this count may have so many octets; none is no SID.
+// Whether a SID of this count has so many octets; no octets are no SID.
 pub fn is_sid_size(size: u32, count: u8) -> bool
     ensures { λ r. ⌜ r ≡ isSidSize size count ⌝ }
 {

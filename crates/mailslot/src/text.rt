@@ -10,7 +10,7 @@ use octets::name_rule::USER_NAME_MOST;
 use octets::number::u16_at;
 use transcode::octet::first_octet;
 
-// The characters from here on have two units, a high and a low surrogate.
+// A character past FFFFh has two units, a high and then a low surrogate.
 const FIRST_HIGH: u16 = 0xD800;
 
 const FIRST_LOW: u16 = 0xDC00;
@@ -97,6 +97,7 @@ pub fn text_run(s: &[u8], start: usize) -> usize
     requires { ⌜ start ≤ length (now s) ⌝ }
     ensures { λ r. ⌜ TextRun (now (s .entry)) start r ⌝ }
 {
+    // Compiled to nothing: it tells the proof that these are octets.
     let _octet = first_octet(s);
     let mut size = plain_run(s, start);
     let mut at = start + 2 * size;

@@ -5,8 +5,8 @@ use mathlib.Core.List.{List, [], _∷_, _++_, flatMap}
 use mathlib.Core.Option.{Option, none, some, Option·map}
 use Prim.Native.Nat.{ℕ, zero, suc, _+_, _*_, _-_, _%_, _≤_, _<_}
 use native.Mathlib.Omega.{arith}
-use lib.Dec.{eqb, leb, ltb}
-use lib.ListN.{length, getD, take, drop, length-append, length-take, length-drop}
+use lib.Dec.{leb, ltb}
+use lib.ListN.{length, getD, length-append, length-take, length-drop}
 use borrow.Author.Tests.{ne-eqb, lt-leb, lt-ltb, le-ltb, ltb-true, ltb-false}
 use Rattle.octets.specs.Lists.{all, cut, holds}
 use Rattle.octets.specs.NameRule.{without, userNameMost}
@@ -14,10 +14,10 @@ use Rattle.octets.specs.Number.{little, u16At}
 use Rattle.octets.proofs.Laws.Lists.{cut-cons, cond-has}
 use Rattle.octets.proofs.Laws.Number.{u16-octets}
 use Rattle.octets.proofs.Laws.Text.{within-range, without-range}
-use Rattle.unicode.specs.Utf8.{Partial, Decoded, bad, point, Decoder, between, partway, onDecoded, utf8Of}
+use Rattle.unicode.specs.Utf8.{Partial, Decoder, between, partway, onDecoded, utf8Of}
 use Rattle.unicode.specs.Utf16.{lead16, follow16, decode16, pointsFrom16, pointsOf16}
 use Rattle.unicode.proofs.Laws.OneText.{afterHigh, lead-plain, lead-high, follow-low}
-use Rattle.mailslot.specs.Internal.Runs.{userLeft, Stops, Character, CharacterSize, octetsFor}
+use Rattle.mailslot.specs.Internal.Runs.{userLeft, Stops, Character, CharacterSize}
 
 -- ---- by the code points that are left
 

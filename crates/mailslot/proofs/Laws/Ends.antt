@@ -5,11 +5,11 @@ use mathlib.Core.List.{List, [], _∷_, _++_}
 use Prim.Native.Nat.{ℕ, zero, suc, _+_, _-_, _≤_, _<_}
 use native.Mathlib.Omega.{arith}
 use lib.Dec.{eqb, leb}
-use lib.ListN.{length, getD, take, drop, length-take, length-drop, take-append-drop, length-append}
+use lib.ListN.{length, getD, drop, length-drop, take-append-drop}
 use lib.Seq.{drop-drop, drop-cons, getD-drop}
 use borrow.Author.Tests.{eqb-true, ne-eqb}
 use Rattle.answers.specs.declared.Refusal.the-variants.{ReplyCut, ReplyText}
-use Rattle.answers.specs.Try.{Try, good}
+use Rattle.answers.specs.Try.{good}
 use Rattle.answers.proofs.Laws.Try.{good-then, refused-not-good, good-same}
 use Rattle.octets.specs.Lists.{all, cut}
 use Rattle.octets.specs.Number.{little, u16At}

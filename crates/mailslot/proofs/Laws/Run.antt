@@ -5,7 +5,7 @@ use mathlib.Core.List.{List, flatMap}
 use Prim.Native.Nat.{ℕ, zero, suc, _+_, _-_, _≤_, _<_}
 use native.Mathlib.Nat.{add-zero}
 use native.Mathlib.Omega.{arith}
-use lib.Dec.{eqb, ltb, leb}
+use lib.Dec.{eqb, ltb}
 use lib.ListN.{length}
 use lib.Seq.{take-length}
 use borrow.Author.Tests.{eqb-true, eqb-false, ltb-true, ltb-false, le-leb}

@@ -2,15 +2,15 @@
 use mathlib.Core.Path.{_≡_, refl, sym, ap, _∙_, subst}
 use mathlib.Core.Bool.{Bool, true, false, not, _&&_, and-true}
 use mathlib.Core.List.{List}
-use Prim.Native.Nat.{ℕ, _+_, _*_, _-_, _≤_, _<_}
+use Prim.Native.Nat.{ℕ, _+_, _-_, _≤_, _<_}
 use native.Mathlib.Omega.{arith}
 use lib.Dec.{eqb, ltb}
-use lib.ListN.{length, getD}
+use lib.ListN.{length}
 use borrow.Author.Tests.{lt-ltb, not-false}
 use Rattle.answers.specs.declared.Refusal.the-variants.{MailslotShape}
 use Rattle.answers.specs.Try.{Try, refused, good, refusedIf, _>>=_}
 use Rattle.answers.specs.Wire.{LOGON-SAM-LOGON-REQUEST, LmNtToken, Lm20Token}
-use Rattle.answers.proofs.Laws.Try.{good-then, refusedIf-good, refused-not-good, good-same}
+use Rattle.answers.proofs.Laws.Try.{good-then, refusedIf-good, refused-not-good}
 use Rattle.octets.specs.Lists.{cut}
 use Rattle.octets.specs.Number.{littleOctets, u16At, u32At}
 use Rattle.octets.proofs.Laws.Lists.{both-left, both-right, every-at}
@@ -20,7 +20,7 @@ use Rattle.reader.specs.Reader.{readConstant, readNumber}
 use Rattle.reader.specs.Text.{readText}
 use Rattle.mailslot.specs.declared.message.Message.{Message}
 use Rattle.mailslot.specs.Message.{isComputerName, isMessageUser, isMailslotName, isMessageSid, goodMessage, readZeroEnded, readSid, readFields, asShape, messageIn}
-use Rattle.mailslot.specs.Internal.Shape.{EndsText, EndsName, Texts, Numbers, sidPadding, messageAt}
+use Rattle.mailslot.specs.Internal.Shape.{Texts, Numbers, sidPadding, messageAt}
 use Rattle.mailslot.proofs.Laws.Field.{Octets, then-known, octets-there, octets-read, number-there, number-read, constant-there, constant-read, tokens-there, tokens-read}
 use Rattle.mailslot.proofs.Laws.Ends.{textField, text-got, nameField, name-got, name-read}
 use Rattle.mailslot.proofs.Laws.User.{computer-read, user-read}
