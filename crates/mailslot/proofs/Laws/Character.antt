@@ -80,7 +80,7 @@ alone i (x ∷ y ∷ l) k = absurd (omega arith)
 
 module _ (s : List ℕ) (at : ℕ) where
   -- a stretch from its first unit on
-  by-unit : (d : Decoder) (u m : ℕ) → u ≡ u16At s at → at + 2 ≤ length s → pointsFrom16 d (cut s at (2 + m)) ≡ onDecoded (decode16 d u) (λ n. pointsFrom16 n (cut s (at + 2) m))
+  pub by-unit : (d : Decoder) (u m : ℕ) → u ≡ u16At s at → at + 2 ≤ length s → pointsFrom16 d (cut s at (2 + m)) ≡ onDecoded (decode16 d u) (λ n. pointsFrom16 n (cut s (at + 2) m))
   unfolding pointsFrom16 little
   by-unit d u m e h =
       let two : at + 1 + 1 ≡ at + 2 = omega arith in
