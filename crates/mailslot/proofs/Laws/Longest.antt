@@ -50,7 +50,7 @@ size-most size count e = go (eqb size 0) refl e
     go true q e = omega (arith, eqb-true size 0 q)
     go false q e = within-high 8 68 size (both-left (within 8 68 size) (eqb size (8 + 4 * count)) e)
 
-sid-most : (x : List ℕ) → isMessageSid x ≡ true → length x ≤ 68
+pub sid-most : (x : List ℕ) → isMessageSid x ≡ true → length x ≤ 68
 unfolding isMessageSid
 sid-most x e = size-most (length x) (getD x 1 0) e
 
