@@ -33,7 +33,7 @@ unfolding pointOctets littleOctets little
 two-units c h k =
     (highUnit c % 256, highUnit c / 256 % 256, lowUnit c % 256, lowUnit c / 256 % 256, rw (le-ltb c 0x10000 h), omega arith, omega arith)
 
-point-length : (c : ℕ) → length (pointOctets c) ≡ 2 * units c
+pub point-length : (c : ℕ) → length (pointOctets c) ≡ 2 * units c
 unfolding pointOctets littleOctets
 point-length c = go (ltb c 0x10000)
   where

@@ -1,0 +1,5 @@
+pub mod Ends
+pub mod Field
+pub mod Name
+pub mod Shape
+pub mod Sid

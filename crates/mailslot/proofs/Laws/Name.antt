@@ -1,0 +1,49 @@
+-- The name of a mailslot, octet by octet.
+use mathlib.Core.Path.{_≡_, refl, sym, ap, _∙_}
+use mathlib.Core.Bool.{Bool, true, false}
+use mathlib.Core.List.{List}
+use Prim.Native.Nat.{ℕ, suc, _+_, _-_, _≤_, _<_}
+use native.Mathlib.Omega.{arith}
+use lib.Dec.{eqb}
+use lib.ListN.{length, getD, take, drop, length-take, length-drop}
+use lib.Seq.{getD-take, getD-drop, take-length}
+use borrow.Author.Tests.{eqb-true, eqb-false}
+use Rattle.octets.specs.Lists.{all, cut}
+use Rattle.octets.proofs.Laws.Lists.{every-all, every-at, all-last, true-not-false}
+use Rattle.mailslot.specs.Internal.Runs.{ofName, NameRun}
+
+-- what holds of each element of a stretch holds of the one at an offset
+pub all-at : (p : ℕ → Bool) (s : List ℕ) (start n i : ℕ) → start ≤ i → i < start + n → i < length s → all p (cut s start n) ≡ true → p (getD s i 0) ≡ true
+all-at p s start n i h k l e =
+    let m : i - start < length (cut s start n) = simp (length-take, length-drop) (omega arith) in
+    let g : getD (cut s start n) (i - start) 0 ≡ getD s (start + (i - start)) 0 = getD-take n (drop start s) (i - start) 0 (omega arith) ∙ getD-drop start s (i - start) 0 in
+    let j : start + (i - start) ≡ i = omega arith in
+    sym (ap p (g ∙ ap (λ (x : ℕ). getD s x 0) j)) ∙ every-at (λ x. p x ≡ true) (cut s start n) (i - start) 0 (every-all p (λ x. p x ≡ true) (λ x q. q) (cut s start n) e) m
+
+pub name-starts : (s : List ℕ) (start : ℕ) → all ofName (cut s start (start - start)) ≡ true
+unfolding all
+name-starts s start = let e : start - start ≡ 0 = omega arith in rw e
+
+pub name-goes : (s : List ℕ) (start at : ℕ) → start ≤ at → at < length s → all ofName (cut s start (at - start)) ≡ true → ofName (getD s at 0) ≡ true
+    → all ofName (cut s start (at + 1 - start)) ≡ true
+name-goes s start at h k e q =
+    let n : at + 1 - start ≡ suc (at - start) = omega arith in
+    let j : start + (at - start) ≡ at = omega arith in
+    let r : ofName (getD s (start + (at - start)) 0) ≡ true = rw j q in
+    rw n (all-last ofName s start (at - start) 0 (omega arith) ∙ rw (e, r))
+
+-- octets that go on to the end are all of them
+pub name-whole : (s : List ℕ) (end : ℕ) → NameRun s 0 end → eqb end (length s) ≡ all ofName s
+name-whole s end run = go (eqb end (length s)) refl
+  where
+    none : (b : Bool) → end < length s → all ofName s ≡ b → b ≡ false
+    none true h e = let k : true ≡ false = sym (all-at ofName s 0 (length s) end (omega arith) (omega arith) h (rw (take-length s) e)) ∙ run .next h in absurd (true-not-false k)
+    none false h e = refl
+
+    go : (b : Bool) → eqb end (length s) ≡ b → b ≡ all ofName s
+    go true e =
+        let q : end - 0 ≡ length s = omega (arith, eqb-true end (length s) e) in
+        sym (rw (q, take-length s) at (run .octets))
+    go false e =
+        let h : end < length s = omega (arith, eqb-false end (length s) e, run .to) in
+        sym (none (all ofName s) h refl)

@@ -1,0 +1,60 @@
+// What the texts, the SID and the numbers of a message must be, for reader and writer.
+ghost use mathlib.Core.Path.{_≡_};
+ghost use Prim.Native.Nat.{_≤_};
+ghost use lib.ListN.{length};
+ghost use Rattle.mailslot.specs.Message.{isMailslotName, isMessageSid};
+ghost use Rattle.mailslot.specs.Internal.Runs.{NameRun};
+ghost use Rattle.mailslot.specs.Internal.Shape.{isSidSize};
+use octets::number::wide;
+use unicode::utf8::octet_at;
+
+const MAILSLOT_NAME_MOST: usize = 64;
+
+// The octets of a SID without its parts, and of one with the most of them.
+const SID_LEAST: u32 = 8;
+
+pub const SID_MOST: u32 = 68;
+
+// Where the octets from an offset on end that a mailslot's name may have.
+pub fn name_run(s: &[u8], start: usize) -> usize
+    requires { ⌜ start ≤ length (now s) ⌝ }
+    ensures { λ r. ⌜ NameRun (now (s .entry)) start r ⌝ }
+{
+    let mut at = start;
+    while at < s.len() {
+        if s[at] == 0 {
+            return at;
+        }
+        if 0x7F < s[at] {
+            return at;
+        }
+        at += 1;
+    }
+    at
+}
+
+pub fn is_mailslot_name(s: &[u8]) -> bool
+    ensures { λ r. ⌜ r ≡ isMailslotName (now (s .entry)) ⌝ }
+{
+    if MAILSLOT_NAME_MOST < s.len() {
+        return false;
+    }
+    name_run(s, 0) == s.len()
+}
+
+// Whether a SID of this count may have so many octets; none is no SID.
+pub fn is_sid_size(size: u32, count: u8) -> bool
+    ensures { λ r. ⌜ r ≡ isSidSize size count ⌝ }
+{
+    (size == 0)
+        | ((SID_LEAST <= size) & (size <= SID_MOST) & (size == SID_LEAST + 4 * wide(count)))
+}
+
+pub fn is_message_sid(s: &[u8]) -> bool
+    ensures { λ r. ⌜ r ≡ isMessageSid (now (s .entry)) ⌝ }
+{
+    if (SID_MOST as usize) < s.len() {
+        return false;
+    }
+    is_sid_size(s.len() as u32, octet_at(s, 1))
+}

@@ -1,0 +1,7 @@
+pub mod Utf8Back
+pub mod Utf16Octets
+pub mod Length
+pub mod Zeros
+pub mod Texts
+pub mod Point16
+pub mod Writing
