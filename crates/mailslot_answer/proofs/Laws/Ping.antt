@@ -10,8 +10,12 @@ use lib.ListN.{length, drop}
 use borrow.Author.Tests.{leb-true, eqb-true, not-false}
 use Rattle.answers.specs.Try.{Try, refused, good, _>>=_}
 use Rattle.answers.proofs.Laws.Try.{good-same, good-then, refusedIf-good}
+use Rattle.filter.specs.declared.request.Clause.{Clause}
+use Rattle.filter.specs.declared.request.Clause.the-variants.{Absent, Present}
 use Rattle.filter.specs.Request.{octetsOf}
-use Rattle.filter_read.specs.Value.{Ping}
+use Rattle.filter_read.specs.Internal.RawPing.{pingAt}
+use Rattle.lent.specs.Internal.OverAt.{overAt}
+use Rattle.lent.proofs.Laws.OverAt.{laid-over, laid-more, over-laid}
 use Rattle.octets.specs.{Buffer.over, Lists.cut, Lists.holds, NameRule.sized, NameRule.without, NameRule.userNameMost, Sid.sidLength}
 use Rattle.octets.proofs.Laws.Lists.{both-left, both-right, other-right, true-not-false, cut-after}
 use Rattle.octets.proofs.Laws.Text.{within-high}
@@ -19,8 +23,9 @@ use Rattle.reader.specs.Field.{stretchOf}
 use Rattle.unicode.specs.{UserName.isUserName, Utf8.isUtf8, Utf16.utf8From16}
 use Rattle.mailslot.specs.declared.message.Message.{Message}
 use Rattle.mailslot.specs.Message.{isComputerName, isMessageUser, isMailslotName, isMessageSid, goodMessage, readFields, asShape, messageIn}
+use Rattle.transcode.specs.Internal.Text8.{utf8Text}
 use Rattle.mailslot_answer.specs.Ping.{unlessEmpty, messagePing, mailslotPing}
-use Rattle.mailslot_answer.specs.Internal.Source.{sourceSize}
+use Rattle.mailslot_answer.specs.Internal.Source.{ClauseAt}
 
 -- what a good user is in UTF-8
 user-text : (s : List ℕ) → isMessageUser s ≡ true → (t : List ℕ) × (utf8From16 s ≡ some t) × (isUserName t ≡ true)
@@ -67,7 +72,7 @@ module _ (s : List ℕ) (m : Message) (e : messageIn s ≡ good m) where
   unfolding goodMessage
   to-sid = both-left (before && isMessageSid (stretchOf s (m .sid))) (ltb (m .version) 0x100000000) good-message
 
-  pub sid-fits : length (stretchOf s (m .sid)) ≤ 68
+  sid-fits : length (stretchOf s (m .sid)) ≤ 68
   sid-fits = sid-short (stretchOf s (m .sid)) (both-right before (isMessageSid (stretchOf s (m .sid))) to-sid)
 
   good-user : isMessageUser (stretchOf s (m .user)) ≡ true
@@ -89,8 +94,15 @@ module _ (s : List ℕ) (m : Message) (e : messageIn s ≡ good m) where
       let t = user-text (stretchOf s (m .user)) good-user in
       ap (λ (o : Option (List ℕ)). isUserName (Option·getD o [])) (t .1) ∙ t .2
 
-  pub user-fits : length userText ≤ 63
+  user-fits : length userText ≤ 63
   user-fits = user-short userText user-name
+
+  -- of octets that are the user's units, and of those that are the SID
+  pub user-room : (x : List ℕ) → x ≡ stretchOf s (m .user) → length (utf8Text x) ≤ 63
+  user-room x q = subst (λ (y : List ℕ). length (utf8Text y) ≤ 63) (sym q) user-fits
+
+  pub sid-room : (x : List ℕ) → x ≡ stretchOf s (m .sid) → length x ≤ 68
+  sid-room x q = subst (λ (y : List ℕ). length y ≤ 68) (sym q) sid-fits
 
   pub user-passes : holds (λ x. not (isUserName x)) (messagePing s m .user) ≡ false
   user-passes = go userText user-name
@@ -103,6 +115,16 @@ module _ (s : List ℕ) (m : Message) (e : messageIn s ≡ good m) where
   unfolding mailslotPing
   pinged = ap (λ (o : Try Message). o >>= λ (x : Message). good (messagePing s x)) e
 
+-- a clause by its length, as the code makes it
+module _ (start len : ℕ) where
+  pub absent-clause : len ≡ 0 → ClauseAt start len Absent
+  absent-clause e s [] q l = refl
+  absent-clause e s (y ∷ ys) q l = absurd (omega arith)
+
+  pub present-clause : (len ≡ 0 → ⊥) → ClauseAt start len (Present start len)
+  present-clause n s [] q l = absurd (n (sym l))
+  present-clause n s (y ∷ ys) q l = ap some q
+
 -- the user and the SID at the front of a source, each as its stretch
 module _ (t x d : List ℕ) (now : List ℕ) (e : now ≡ over (t ++ x) d) where
   laid-out : now ≡ t ++ (x ++ drop (length (t ++ x)) d)
@@ -114,3 +136,20 @@ module _ (t x d : List ℕ) (now : List ℕ) (e : now ≡ over (t ++ x) d) where
 
   pub back-cut : cut now (length t) (length x) ≡ x
   back-cut = ap (λ (y : List ℕ). cut y (length t) (length x)) laid-out ∙ cut-after t x (drop (length (t ++ x)) d)
+
+-- what was put makes the ping: the user as UTF-8, then the SID, by the stretches that hold them
+pub ping-made : (s : List ℕ) (m : Message) (units sid d now now' : List ℕ) (n n' : ℕ) (userClause sidClause : Clause)
+    → units ≡ stretchOf s (m .user) → sid ≡ stretchOf s (m .sid)
+    → n ≡ length (utf8Text units) → now ≡ over (utf8Text units) d → n' ≡ n + length sid → now' ≡ overAt n sid now
+    → ClauseAt 0 n userClause → ClauseAt n (n' - n) sidClause
+    → pingAt now' (record { «dns_domain» = Absent; «user» = userClause; «aac» = m .bits; «domain_sid» = sidClause; «domain_guid» = Absent; «version» = m .version }) ≡ messagePing s m
+ping-made s m units sid d now now' n n' userClause sidClause p q e f e' f' user-at sid-at =
+    let t : List ℕ = utf8Text units in
+    let l : now' ≡ over (t ++ sid) d = over-laid (laid-more sid (laid-over f e) e' f') in
+    let k : n' - n ≡ length sid = omega arith in
+    let a : octetsOf now' userClause ≡ unlessEmpty t = user-at now' t (ap (cut now' 0) e ∙ front-cut t sid d now' l) (sym e) in
+    let x : cut now' n (n' - n) ≡ sid = ap (cut now' n) k ∙ ap (λ (i : ℕ). cut now' i (length sid)) e ∙ back-cut t sid d now' l in
+    let b : octetsOf now' sidClause ≡ unlessEmpty sid = sid-at now' sid x (sym k) in
+    let user : octetsOf now' userClause ≡ unlessEmpty (utf8Text (stretchOf s (m .user))) = a ∙ ap (λ (y : List ℕ). unlessEmpty (utf8Text y)) p in
+    let domain : octetsOf now' sidClause ≡ unlessEmpty (stretchOf s (m .sid)) = b ∙ ap unlessEmpty q in
+    λ i. record { dnsDomain = none; user = user i; aac = m .bits; domainSid = domain i; domainGuid = none; version = m .version }
