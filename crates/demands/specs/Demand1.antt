@@ -1,4 +1,4 @@
--- Demand 1: whatever comes in, a call refuses by document 01's numbers, with no length, context, form or fields, and a refusal leaves every lent buffer as it was.
+-- Demand 1: whatever comes in, a call refuses by the documents' numbers, with no length, context, form or fields, and a refusal leaves every lent buffer as it was.
 -- One field for each public call, by its name; that every call ends is proved with its code.
 use Rattle.filter_read.specs.{Value.judgedNumber, Value.JudgeValuesPromise, Taken.takenNumber, Taken.TakeApartPromise, declared.read.Taken.Taken}
 use Rattle.filter_read.specs.declared.value.Judged.{Judged}
@@ -19,7 +19,7 @@ use Rattle.locator.specs.declared.Answer.{Answer}
 use Rattle.locator.specs.declared.Answer.the-variants as answer
 use Rattle.locator.specs.Answer.{answerNumber, answerLength, answerContext, answerForm}
 use Rattle.mailslot.specs.{declared.message.Message.Message, declared.message.MessageRead.MessageRead, Read.messageNumber, Read.messageGiven, Read.ReadMessagePromise}
-use Rattle.mailslot.specs.declared.message.MessageRead.the-variants as message
+use Rattle.mailslot.specs.declared.message.MessageRead.the-variants as messageRead
 use Rattle.octets.specs.{Lists.any, Text.within}
 use Rattle.reader_forms.specs.declared.reading.Reading.{Reading}
 use Rattle.reader_forms.specs.declared.reading.Reading.the-variants as reading
@@ -31,7 +31,7 @@ use Rattle.table.specs.declared.Caller.{Caller}
 use Rattle.table_whole.specs.declared.judge.Judgement.the-variants as judgement
 use Rattle.demands.specs.Calls.{WriteFilterPromise, WriteMessagePromise, AnswerPingPromise, AnswerMailslotPromise}
 
--- document 01's numbers of refusals: from a number to another, or one of some
+-- numbers of refusals: from a number to another, or one of some
 abbrev pub FromTo : ℕ → ℕ → ℕ → Type 0
 FromTo low high n = within low high n ≡ true
 
@@ -87,11 +87,11 @@ pub record Demand1 : Type 0 where
       → ForReply (readingNumber x) × (readingLength x ≡ 0) × (readingFields x ≡ none)
   pub «name_text» : (reply : List ℕ) (start : ℕ) (t : NameText) (r : Refusal) → NameTextPromise reply start t → t .len ≡ text.Refused r
       → ForName (textNumber (t .len)) × (textLength (t .len) ≡ 0) × (textGiven t ≡ [])
-  pub «read_message» : (message : List ℕ) (m : MessageRead) (r : Refusal) → ReadMessagePromise message m → m ≡ message.Refused r → ForMessage (messageNumber m) × (messageGiven m ≡ none)
+  pub «read_message» : (message : List ℕ) (m : MessageRead) (r : Refusal) → ReadMessagePromise message m → m ≡ messageRead.Refused r → ForMessage (messageNumber m) × (messageGiven m ≡ none)
   pub «write_message» : (source : List ℕ) (message : Message) (before after : List ℕ) (w : Written) (r : Refusal) → WriteMessagePromise source message before after w → w ≡ written.Refused r
       → ForMessageWriting (writtenNumber w) × (writtenLength w ≡ 0) × (after ≡ before)
   pub «answer_mailslot» : (image : List ℕ) (caller : Caller) (message before after : List ℕ) (a : Answer) (r : Refusal) → AnswerMailslotPromise image caller message before after a
       → a ≡ answer.Refused r
       → ForMailslot (answerNumber a) × (answerLength a ≡ 0) × (answerContext a ≡ 0) × (answerForm a ≡ none) × (after ≡ before)
-  -- it refuses nothing either, and gives each refusal a number of document 01
+  -- it refuses nothing either, and gives each refusal a number of the documents
   pub «number_of» : (r : Refusal) (n : ℕ) → NumberOfPromise r n → ForAny n

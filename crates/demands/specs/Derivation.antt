@@ -1,4 +1,4 @@
--- What an answer was made from, what its reply says, and of which answers the demands speak: of those over a table, of the whole's, and of the answering call's.
+-- What an answer was made from, what its reply says, and of which answers the demands speak: of those over a table, of the whole's, and of an answering call's.
 use mathlib.Core.Path.{_≡_}
 use mathlib.Core.Bool.{false, not}
 use mathlib.Core.List.{List}

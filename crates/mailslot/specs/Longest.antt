@@ -1,4 +1,4 @@
--- Document 02, #105: by its limits a message has at most 316 octets, one that reads and one that is written; so a longer one is 41 before anything of it is read.
+-- Document 02, #105: by its limits a message has at most 316 octets, one that reads and one that is written; so a longer one is 41.
 use mathlib.Core.Path.{_≡_}
 use mathlib.Core.Bool.{true}
 use mathlib.Core.List.{List}

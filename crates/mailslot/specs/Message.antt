@@ -113,7 +113,7 @@ messageHead source m =
     ++ u32 (m .bits)
     ++ u32 (length (stretchOf source (m .sid)))
 
--- the SID, behind padding of zeros from an offset on; nothing where it has no octets
+-- a SID that starts behind zeros, the padding at its offset; where it has no octets, neither
 abbrev pub paddedSid : ℕ → List ℕ → List ℕ
 paddedSid at [] = []
 paddedSid at (x ∷ xs) = replicate (padding at) 0 ++ x ∷ xs

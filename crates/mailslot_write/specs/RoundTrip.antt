@@ -11,7 +11,7 @@ use Rattle.mailslot.specs.declared.message.MessageRead.the-variants as read
 use Rattle.mailslot_write.specs.Write.{WriteMessageReturns, WriteMessageLeaves}
 use Rattle.reader.specs.Field.{stretchOf}
 
--- the same message: the same numbers, and the same octets of each text, the SID's none where it has none
+-- the same message: the same numbers, and the same octets of each text
 pub record SameMessage (s : List ℕ) (q : Message) (source : List ℕ) (m : Message) : Type 0 where
   pub repeat : q .repeat ≡ m .repeat
   pub computer : stretchOf s (q .computer) ≡ stretchOf source (m .computer)

@@ -1,4 +1,4 @@
--- Document 02, #105: what a UTF-16LE text as UTF-8 keeps of it, and that a UTF-8 text comes back from UTF-16LE.
+-- Document 02, #105: a UTF-16LE text and the same text as UTF-8: either comes back from the other.
 use mathlib.Core.Path.{_≡_}
 use mathlib.Core.Bool.{Bool, true}
 use mathlib.Core.List.{List}

@@ -1,5 +1,6 @@
 -- Demand 1 is proved: each definition names the reasons for which it refuses, and what follows it names its own.
 use mathlib.Core.Path.{_≡_, refl, sym, ap, _∙_, subst}
+use mathlib.Core.Bool.{not}
 use mathlib.Core.List.{List, [], _∷_}
 use mathlib.Core.Option.{Option, none, some}
 use Prim.Native.Nat.{ℕ, _<_}
@@ -32,8 +33,8 @@ use Rattle.locator.specs.declared.Answer.the-variants as answer
 use Rattle.locator.specs.Answer.{Outcome, replyTo, answerOver, answerBy, answerTo, answerAs, octetsWritten, answerLength, answerContext, answerForm, answerNumber}
 use Rattle.mailslot.specs.declared.message.Message.{Message}
 use Rattle.mailslot.specs.declared.message.MessageRead.{MessageRead}
-use Rattle.mailslot.specs.declared.message.MessageRead.the-variants as message
-use Rattle.mailslot.specs.Message.{asShape, readFields, messageIn, messageFor}
+use Rattle.mailslot.specs.declared.message.MessageRead.the-variants as messageRead
+use Rattle.mailslot.specs.Message.{goodMessage, asShape, readFields, messageIn, messageFor}
 use Rattle.mailslot.specs.Read.{messageAs, messageNumber, messageGiven}
 use Rattle.mailslot_answer.specs.Ping.{messagePing, mailslotPing}
 use Rattle.octets.specs.Buffer.{over}
@@ -93,30 +94,26 @@ module _ (P : Refusal → Type 0) where
 
   message-only : P MailslotShape → (s : List ℕ) → Only P Any (messageIn s)
   unfolding messageIn
-  message-only a s = only-then P Any (asShape (readFields s)) _ (shape-only a (readFields s)) (λ m. only-if P Any _ _ _ a tt)
+  message-only a s = only-then P Any (asShape (readFields s)) _ (shape-only a (readFields s)) (λ m. only-if P Any (not (goodMessage s m)) MailslotShape (good m) a tt)
 
   message-written-only : P MailslotShape → P NoRoom → (source : List ℕ) (m : Message) (room : ℕ) → Only P Any (messageFor source m room)
   unfolding messageFor
   message-written-only a b source m room = search (only-if P)
 
-  -- 15 to 17, for a ping that names no context
-  sid-only : P TableWhole → P SidShape → P SidNotHeld → P SidOfAnother
-      → (t : Table) (p : Ping) → p .domainGuid ≡ none → p .dnsDomain ≡ none → Only P Any (contextIn t p)
+  found-only : P TableWhole → (o : Option Context) → Only P Any (orWhole o)
+  found-only e none = e
+  found-only e (some c) = tt
+
+  -- 15 to 17: a message names no context
+  message-context-only : P TableWhole → P SidShape → P SidNotHeld → P SidOfAnother → (t : Table) (s : List ℕ) (m : Message) → Only P Any (contextIn t (messagePing s m))
   unfolding contextIn
-  sid-only e f g h t p u v = rw (u, v) (search (only-if P, only-then P, found (contextUsed t p)) depth 9)
-    where
-      found : (o : Option Context) → Only P Any (orWhole o)
-      found none = e
-      found (some c) = tt
+  message-context-only e f g h t s m =
+      only-then P Any (orWhole (contextUsed t (messagePing s m))) _ (found-only e (contextUsed t (messagePing s m))) (λ c. search (only-if P))
 
   context-only : P GuidLength → P GuidNotHeld → P DnsNameEmpty → P DnsNameNotHeld → P TableWhole → P SidShape → P SidNotHeld → P SidOfAnother
       → (t : Table) (p : Ping) → Only P Any (contextIn t p)
   unfolding contextIn
-  context-only a b c d e f g h t p = search (only-if P, only-then P, found (contextUsed t p)) depth 9
-    where
-      found : (o : Option Context) → Only P Any (orWhole o)
-      found none = e
-      found (some c) = tt
+  context-only a b c d e f g h t p = search (only-if P, only-then P, found-only e (contextUsed t p)) depth 9
 
   reply-only : P UserLabelEmpty → P NoRoom → (t : Table) (caller : Caller) (p : Ping) (room : ℕ) (c : Context) → Only P Any (replyTo t caller p room c)
   unfolding replyTo
@@ -138,7 +135,7 @@ mailslot-only image caller message room =
     by (refused r) t h = h
     by (good m) t h =
         let p : Ping = messagePing message m in
-        only-then (By ForMailslot) Any (contextIn t p) _ (sid-only (By ForMailslot) refl refl refl refl t p refl refl) (reply-only (By ForMailslot) refl refl t caller p room)
+        only-then (By ForMailslot) Any (contextIn t p) _ (message-context-only (By ForMailslot) refl refl refl refl t message m) (reply-only (By ForMailslot) refl refl t caller p room)
 
 -- ---- the calls
 
@@ -216,7 +213,7 @@ demand-1 =
           (subst (λ (x : TextLength). ForName (textNumber x)) (sym e) (o .0), ap textLength e, ap (λ (l : TextLength). take (textLength l) (t .octets)) e);
       «read_message» =
           λ message m r p e.
-          let o = only-returned messageAs message.Refused (λ q r h. cc) (λ a r h. cc) (By ForMessage) Any (messageIn message) (message-only (By ForMessage) refl message) m r (p .same) e in
+          let o = only-returned messageAs messageRead.Refused (λ q r h. cc) (λ a r h. cc) (By ForMessage) Any (messageIn message) (message-only (By ForMessage) refl message) m r (p .same) e in
           (subst (λ (x : MessageRead). ForMessage (messageNumber x)) (sym e) (o .0), ap messageGiven e);
       «write_message» =
           λ source message before after w r p e.

@@ -4,13 +4,15 @@ use mathlib.Core.Bool.{Bool, true, false}
 use mathlib.Core.List.{List}
 use Prim.Native.Nat.{ℕ, suc, _+_, _-_, _≤_, _<_}
 use native.Mathlib.Omega.{arith}
-use lib.Dec.{eqb}
+use lib.Dec.{eqb, leb, ltb}
 use lib.ListN.{length, getD, take, drop, length-take, length-drop}
 use lib.Seq.{getD-take, getD-drop, take-length}
-use borrow.Author.Tests.{eqb-true, eqb-false}
+use borrow.Author.Tests.{eqb-true, eqb-false, ltb-true, ltb-false, leb-true, le-leb}
 use Rattle.octets.specs.Lists.{all, cut}
-use Rattle.octets.proofs.Laws.Lists.{every-all, every-at, all-last, true-not-false}
+use Rattle.octets.proofs.Laws.Lists.{every-all, every-at, all-last, cut-length, both-left, both-right, true-not-false}
+use Rattle.mailslot.specs.Message.{isMailslotName}
 use Rattle.mailslot.specs.Internal.Runs.{ofName, NameRun}
+use Rattle.mailslot.specs.Internal.Shape.{EndsName}
 
 -- what holds of each element of a stretch holds of the one at an offset
 pub all-at : (p : ℕ → Bool) (s : List ℕ) (start n i : ℕ) → start ≤ i → i < start + n → i < length s → all p (cut s start n) ≡ true → p (getD s i 0) ≡ true
@@ -47,3 +49,38 @@ name-whole s end run = go (eqb end (length s)) refl
     go false e =
         let h : end < length s = omega (arith, eqb-false end (length s) e, run .to) in
         sym (none (all ofName s) h refl)
+
+-- ---- where a name ends
+
+module _ (s : List ℕ) (start : ℕ) where
+  pub name-octets : (end : ℕ) → EndsName s start end → all ofName (cut s start (end - start)) ≡ true
+  unfolding isMailslotName
+  name-octets end e = both-right (leb (length (cut s start (end - start))) 64) (all ofName (cut s start (end - start))) (e .name)
+
+  pub name-short : (end : ℕ) → EndsName s start end → end - start ≤ 64
+  unfolding isMailslotName
+  name-short end e =
+      let n : length (cut s start (end - start)) ≡ end - start = cut-length s start (end - start) (omega (arith, e .from, e .to)) in
+      omega (arith, leb-true (length (cut s start (end - start))) 64 (both-left (leb (length (cut s start (end - start))) 64) (all ofName (cut s start (end - start))) (e .name)))
+
+  -- it ends where its octets do
+  pub name-ends : (run : ℕ) → NameRun s start run → (end : ℕ) → EndsName s start end → end ≡ run
+  name-ends run r end e = go (ltb end run) (ltb run end) refl refl
+    where
+      go : (a b : Bool) → ltb end run ≡ a → ltb run end ≡ b → end ≡ run
+      go true b p q =
+          let h : end < run = ltb-true end run p in
+          let k : ofName (getD s end 0) ≡ true = all-at ofName s start (run - start) end (e .from) (omega (arith, r .from)) (omega (arith, e .to)) (r .octets) in
+          absurd (true-not-false (sym k ∙ ap ofName (e .zero)))
+      go false true p q =
+          let h : run < end = ltb-true run end q in
+          let k : ofName (getD s run 0) ≡ true = all-at ofName s start (end - start) run (r .from) (omega (arith, e .from)) (omega (arith, e .to)) (name-octets end e) in
+          absurd (true-not-false (sym k ∙ r .next (omega (arith, e .to))))
+      go false false p q = omega (arith, ltb-false end run p, ltb-false run end q)
+
+  pub name-found : (run : ℕ) → NameRun s start run → run < length s → getD s run 0 ≡ 0 → run - start ≤ 64 → EndsName s start run
+  unfolding isMailslotName
+  name-found run r h z n =
+      let m : length (cut s start (run - start)) ≡ run - start = cut-length s start (run - start) (omega (arith, r .from)) in
+      let k : length (cut s start (run - start)) ≤ 64 = omega arith in
+      record { from = r .from; to = omega arith; zero = z; name = rw (le-leb (length (cut s start (run - start))) 64 k, r .octets) }

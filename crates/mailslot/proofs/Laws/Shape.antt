@@ -1,6 +1,6 @@
 -- A message that reads has its shape, and one of the shape reads: its tests, in the order in which the code makes them.
 use mathlib.Core.Path.{_≡_, refl, sym, ap, _∙_, subst}
-use mathlib.Core.Bool.{Bool, true, false, not, _&&_}
+use mathlib.Core.Bool.{Bool, true, false, not, _&&_, and-true}
 use mathlib.Core.List.{List}
 use Prim.Native.Nat.{ℕ, _+_, _*_, _-_, _≤_, _<_}
 use native.Mathlib.Omega.{arith}
@@ -74,10 +74,19 @@ module _ (s : List ℕ) (m : Message) where
         sid = both-right bitted (isMessageSid (stretchOf s (m .sid))) d;
       }
 
-  pub parts-good : GoodParts s m → m .repeat < 0x10000 → m .bits < 0x100000000 → m .version < 0x100000000 → goodMessage s m ≡ true
+  pub not-good : (GoodParts s m → ⊥) → false ≡ goodMessage s m
+  not-good none = go (goodMessage s m) refl
+    where
+      go : (b : Bool) → goodMessage s m ≡ b → false ≡ b
+      go true e = absurd (none (good-parts e))
+      go false e = refl
+
+  -- where the others are good, the SID decides
+  pub good-by-sid : m .repeat < 0x10000 → isComputerName (stretchOf s (m .computer)) ≡ true → isMessageUser (stretchOf s (m .user)) ≡ true → isMailslotName (stretchOf s (m .mailslot)) ≡ true
+      → m .bits < 0x100000000 → m .version < 0x100000000 → isMessageSid (stretchOf s (m .sid)) ≡ goodMessage s m
   unfolding goodMessage
-  parts-good p r b v =
-      rw (lt-ltb (m .repeat) 0x10000 r, p .computer, p .user, p .mailslot, lt-ltb (m .bits) 0x100000000 b, p .sid, lt-ltb (m .version) 0x100000000 v)
+  good-by-sid r c u a b v =
+      rw (lt-ltb (m .repeat) 0x10000 r, c, u, a, lt-ltb (m .bits) 0x100000000 b, lt-ltb (m .version) 0x100000000 v) (sym (and-true (isMessageSid (stretchOf s (m .sid)))))
 
 -- ---- what reads has the shape
 
@@ -205,9 +214,8 @@ module _ (s : List ℕ) (computer user mailslot sid : ℕ) (o : Octets s) (t : T
       let l : 4 ≤ length s = omega (arith, t .computerEnds .from, t .computerEnds .to) in
       let e : sid + size + 8 ≡ length s = n .ends in
       let k : bits + 8 ≤ sid = omega (arith, n .sidStarts) in
-      parts-good s (messageAt s computer user mailslot sid)
-      (record { computer = t .computerEnds .text; user = t .userEnds .text; mailslot = t .mailslotEnds .name; sid = sid-judged s sid size (omega arith) ∙ n .sized })
-      (u16-fits s 2 o (omega arith)) (u32-fits s bits o (omega arith)) (u32-fits s (sid + size) o (omega arith))
+      sym (good-by-sid s (messageAt s computer user mailslot sid) (u16-fits s 2 o (omega arith)) (t .computerEnds .text) (t .userEnds .text) (t .mailslotEnds .name) (u32-fits s bits o (omega arith)) (u32-fits s (sid + size) o (omega arith)))
+      ∙ sid-judged s sid size (omega arith) ∙ n .sized
 
   pub shape-read : readText s 4 ≡ good (textField 4 computer) → readText s (computer + 2) ≡ good (textField (computer + 2) user) → messageIn s ≡ good (messageAt s computer user mailslot sid)
   unfolding messageIn

@@ -3,11 +3,11 @@ use mathlib.Core.Path.{_≡_, refl, sym, ap, _∙_, subst}
 use mathlib.Core.Bool.{Bool, true, false, not, _&&_, _||_}
 use mathlib.Core.List.{List, [], _∷_, _++_, append-assoc}
 use mathlib.Core.Option.{Option, none, some, Option·getD}
-use Prim.Native.Nat.{ℕ, _+_, _-_, _≤_}
+use Prim.Native.Nat.{ℕ, _+_, _-_, _≤_, _<_}
 use native.Mathlib.Omega.{arith}
 use lib.Dec.{eqb, leb, ltb}
 use lib.ListN.{length, drop}
-use borrow.Author.Tests.{leb-true, eqb-true, not-false}
+use borrow.Author.Tests.{leb-true, ltb-true, eqb-true, not-false}
 use Rattle.answers.specs.Try.{Try, refused, good, _>>=_}
 use Rattle.answers.proofs.Laws.Try.{good-same, good-then, refusedIf-good}
 use Rattle.filter.specs.declared.request.Clause.{Clause}
@@ -81,6 +81,16 @@ module _ (s : List ℕ) (m : Message) (e : messageIn s ≡ good m) where
       let n : Bool = isMailslotName (stretchOf s (m .mailslot)) in
       let b : Bool = ltb (m .bits) 0x100000000 in
       both-right front u (both-left (front && u) n (both-left (front && u && n) b (both-left before (isMessageSid (stretchOf s (m .sid))) to-sid)))
+
+  pub bits-fit : m .bits < 0x100000000
+  bits-fit =
+      let b : Bool = ltb (m .bits) 0x100000000 in
+      let n : Bool = front && isMessageUser (stretchOf s (m .user)) && isMailslotName (stretchOf s (m .mailslot)) in
+      ltb-true (m .bits) 0x100000000 (both-right n b (both-left before (isMessageSid (stretchOf s (m .sid))) to-sid))
+
+  pub version-fits : m .version < 0x100000000
+  unfolding goodMessage
+  version-fits = ltb-true (m .version) 0x100000000 (both-right (before && isMessageSid (stretchOf s (m .sid))) (ltb (m .version) 0x100000000) good-message)
 
   -- its octets in UTF-8
   abbrev pub userText : List ℕ

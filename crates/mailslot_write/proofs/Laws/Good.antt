@@ -14,13 +14,15 @@ use Rattle.reader.specs.Field.{stretchOf}
 use Rattle.mailslot.specs.declared.message.Message.{Message}
 use Rattle.mailslot.specs.Message.{isText16, isComputerName, isMessageUser, isMailslotName, isMessageSid, goodMessage}
 use Rattle.mailslot_write.specs.RoundTrip.{SameMessage}
-use Rattle.mailslot_write.proofs.Laws.Text16.{user-text}
+use Rattle.mailslot_write.proofs.Laws.Text16.{UserText, user-text}
 
 pub record Limits (source : List ℕ) (m : Message) : Type 0 where
   pub repeat : m .repeat < 0x10000
   pub computer : isText16 (stretchOf source (m .computer)) ≡ true
-  pub user : isText16 (stretchOf source (m .user)) ≡ true
+  pub computerShort : length (stretchOf source (m .computer)) ≤ 30
+  pub user : UserText (stretchOf source (m .user))
   pub mailslot : all (within 0x01 0x7F) (stretchOf source (m .mailslot)) ≡ true
+  pub mailslotShort : length (stretchOf source (m .mailslot)) ≤ 64
   pub bits : m .bits < 0x100000000
   pub sid : length (stretchOf source (m .sid)) ≤ 68
   pub version : m .version < 0x100000000
@@ -55,8 +57,10 @@ module _ (source : List ℕ) (m : Message) (e : goodMessage source m ≡ true) w
       record {
         repeat = ltb-true (m .repeat) 0x10000 (both-left a b e2);
         computer = both-left (isText16 text) (leb (length text) 30) (both-right a b e2);
+        computerShort = leb-true (length text) 30 (both-right (isText16 text) (leb (length text) 30) (both-right a b e2));
         user = user-text (stretchOf source (m .user)) (both-right (a && b) c e3);
         mailslot = both-right (leb (length name) 64) (all (within 0x01 0x7F) name) (both-right (a && b && c) d e4);
+        mailslotShort = leb-true (length name) 64 (both-left (leb (length name) 64) (all (within 0x01 0x7F) name) (both-right (a && b && c) d e4));
         bits = ltb-true (m .bits) 0x100000000 (both-right (a && b && c && d) f e5);
         sid = sid-short (stretchOf source (m .sid)) (both-right (a && b && c && d && f) g e6);
         version = ltb-true (m .version) 0x100000000 (both-right (a && b && c && d && f && g) h e);

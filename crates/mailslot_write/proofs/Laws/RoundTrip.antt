@@ -89,7 +89,7 @@ module _ (source : List ℕ) (m : Message) where
     computer-back = text-back computer afterComputer (keeps .computer) (number-after (computer ++ (u16 0 ++ afterComputer)) 2 (m .repeat) repeat-left)
 
     user-back : Back s (readText s (computer-back .next)) user afterUser
-    user-back = text-back user afterUser (keeps .user) (computer-back .left)
+    user-back = text-back user afterUser (keeps .user .text) (computer-back .left)
 
     mailslot-back : Back s (readZeroEnded s (user-back .next)) name afterName
     mailslot-back = name-back name afterName (keeps .mailslot) (user-back .left)

@@ -1,20 +1,23 @@
 -- A text in UTF-16LE that has code points, none of them zero, is read back whole where a zero unit ends it.
 use mathlib.Core.Path.{_≡_, refl, sym, ap, _∙_}
 use mathlib.Core.Bool.{Bool, true, false, cond, not, _&&_}
-use mathlib.Core.List.{List, [], _∷_, _++_, flatMap}
-use mathlib.Core.Option.{Option, none, some, Option·map}
+use mathlib.Core.List.{List, [], _∷_, _++_}
+use mathlib.Core.Option.{Option, none, some, Option·map, map-eq-some-iff}
 use Prim.Native.Nat.{ℕ, zero, suc, _+_, _-_, _*_, _%_, _<_, _≤_}
 use native.Mathlib.Omega.{arith}
 use lib.Dec.{eqb, leb}
 use lib.ListN.{length, length-append}
-use borrow.Author.Tests.{ne-eqb, not-true}
+use borrow.Author.Tests.{not-true}
 use Rattle.answers.specs.Try.{good}
-use Rattle.octets.specs.{Lists.all, Lists.holds, NameRule.without, Number.little, Number.littleOctets, Text.within}
-use Rattle.octets.proofs.Laws.Lists.{every-all, all-every, all-flat, both-left, both-right, true-not-false, none-not-some}
+use Rattle.octets.specs.{Lists.all, Lists.holds, NameRule.without, NameRule.userNameMost, Number.little, Number.littleOctets, Text.within}
+use Rattle.octets.proofs.Laws.Lists.{both-left, both-right, true-not-false, none-not-some}
 use Rattle.octets.proofs.Laws.Text.{within-low, within-high}
-use Rattle.unicode.specs.Utf8.{Partial, Decoded, bad, point, more, opens, Decoder, between, partway, onDecoded, utf8Of}
+use Rattle.unicode.specs.Utf8.{Partial, Decoded, bad, point, more, opens, Decoder, between, partway, onDecoded}
 use Rattle.unicode.specs.{Utf8.isUtf8, UserName.isUserName}
 use Rattle.unicode.specs.Utf16.{isHigh, isLow, lead16, follow16, decode16, pointsFrom16, pointsOf16, utf8From16}
+use Rattle.unicode.proofs.Laws.UserName.{user-name-short}
+use Rattle.transcode.proofs.Laws.Length.{one-a-unit}
+use Rattle.transcode.proofs.Laws.Zeros.{zeros-said}
 use Rattle.reader.specs.declared.text.Unit16.the-variants.{Ends, Plain, High, Low}
 use Rattle.reader.specs.declared.text.Turn.the-variants.{Go}
 use Rattle.reader.specs.Text.{unitOf, turn, readTextFrom, readText}
@@ -43,15 +46,13 @@ record Goes (d : Decoder) (u : ℕ) (rest : Decoder → Option (List ℕ)) : Typ
   pub nonzero : without 0 points ≡ true
 
 -- a code point before the others
-module _ (c : ℕ) (cs : List ℕ) where
-  first-point : (o : Option (List ℕ)) → Option·map (λ xs. c ∷ xs) o ≡ some cs → without 0 cs ≡ true
-      → (xs : List ℕ) × (o ≡ some xs) × (eqb c 0 ≡ false) × (without 0 xs ≡ true)
-  unfolding all
-  first-point none e z = absurd (none-not-some cs e)
-  first-point (some xs) e z =
-      let q : c ∷ xs ≡ cs = cc in
-      let w : without 0 (c ∷ xs) ≡ true = ap (without 0) q ∙ z in
-      (xs, refl, not-true (eqb c 0) (both-left (not (eqb c 0)) (without 0 xs) w), both-right (not (eqb c 0)) (without 0 xs) w)
+first-point : (c : ℕ) (cs : List ℕ) (o : Option (List ℕ)) → Option·map (λ xs. c ∷ xs) o ≡ some cs → without 0 cs ≡ true
+    → (xs : List ℕ) × (o ≡ some xs) × (eqb c 0 ≡ false) × (without 0 xs ≡ true)
+unfolding all
+first-point c cs o e z =
+    let r = map-eq-some-iff (λ xs. c ∷ xs) o .0 e in
+    let w : without 0 (c ∷ r .0) ≡ true = ap (without 0) (r .2) ∙ z in
+    (r .0, r .1, not-true (eqb c 0) (both-left (not (eqb c 0)) (without 0 (r .0)) w), both-right (not (eqb c 0)) (without 0 (r .0)) w)
 
 module _ (u : ℕ) (cs : List ℕ) (rest : Decoder → Option (List ℕ)) (z : without 0 cs ≡ true) where
   goes-between : onDecoded (lead16 u) rest ≡ some cs → Goes between u rest
@@ -128,20 +129,19 @@ text16-here {s} {at} t rest e l = go (pointsOf16 t) refl e
         units-here at t between cs (suc (length s)) at rest tt z q (omega arith) l
         ∙ ap (λ (x : ℕ). good (record { value = record { start = at; len = x }; next = at + length t + 2 })) y
 
--- ---- a user's name is such a text: the code point zero has the octet zero in UTF-8
+-- ---- a user's name
 
-nonzero-point : (c : ℕ) → without 0 (utf8Of c) ≡ true → not (eqb c 0) ≡ true
-unfolding utf8Of all
-nonzero-point zero e = absurd (true-not-false (sym e))
-nonzero-point (suc c) e = ap not (ne-eqb (suc c) 0 (λ q. omega arith))
+-- such a text, as a zero code point would be a zero octet of UTF-8, and at most two octets for each of those
+pub record UserText (t : List ℕ) : Type 0 where
+  pub text : isText16 t ≡ true
+  pub short : length t ≤ 2 * userNameMost
 
-pub user-text : (t : List ℕ) → isMessageUser t ≡ true → isText16 t ≡ true
-unfolding isMessageUser utf8From16 isUserName
-user-text t = go (pointsOf16 t)
+pub user-text : (t : List ℕ) → isMessageUser t ≡ true → UserText t
+unfolding isMessageUser isUserName
+user-text t = go (utf8From16 t) refl
   where
-    go : (o : Option (List ℕ)) → holds isUserName (Option·map (flatMap utf8Of) o) ≡ true → holds (without 0) o ≡ true
-    go none e = e
-    go (some cs) e =
-        let octets : List ℕ = flatMap utf8Of cs in
-        let z : without 0 octets ≡ true = both-right (leb (length octets) 63 && isUtf8 octets) (without 0 octets) e in
-        all-every (λ c. not (eqb c 0)) cs (every-all (λ c. without 0 (utf8Of c)) (λ c. not (eqb c 0) ≡ true) nonzero-point cs (sym (all-flat (λ x. not (eqb x 0)) utf8Of cs) ∙ z))
+    go : (o : Option (List ℕ)) → utf8From16 t ≡ o → holds isUserName o ≡ true → UserText t
+    go none q e = absurd (true-not-false (sym e))
+    go (some octets) q e =
+        let z : without 0 octets ≡ true = both-right (leb (length octets) userNameMost && isUtf8 octets) (without 0 octets) e in
+        record { text = sym (zeros-said t octets q) ∙ z; short = omega (arith, one-a-unit t octets q, user-name-short octets e) }
