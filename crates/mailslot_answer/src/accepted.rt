@@ -6,7 +6,7 @@ use crate::ping::put_ping;
 use locator::Answer;
 use locator::over::answer_over;
 use mailslot::message::MessageRead;
-use mailslot::read::read_message;
+use mailslot_read::read::read_message;
 use table::Caller;
 
 // What `answer_mailslot` promises, without judging the image again.

@@ -1,5 +1,5 @@
 pub mod Size
 pub mod Put
+pub mod Write
 pub mod Text16
-pub mod Good
 pub mod RoundTrip

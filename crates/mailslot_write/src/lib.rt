@@ -1,3 +1,4 @@
 // A mailslot message, written: document 02, #105.
-pub mod put;
-pub mod size;
+mod put;
+mod size;
+pub mod write;

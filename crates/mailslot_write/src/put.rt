@@ -8,13 +8,13 @@ ghost use Rattle.octets.specs.Buffer.{over};
 ghost use Rattle.reader.specs.Field.{stretchOf};
 ghost use Rattle.mailslot.specs.Longest.{messageMost};
 ghost use Rattle.mailslot.specs.Message.{messageHead, messageOctets, paddedSid};
-use crate::size::padding_before;
 use crate::size::stretch_octets;
 use answers::wire::LOGON_SAM_LOGON_REQUEST;
 use lent::put::put_octets_at;
 use lent::put::put_u16_at;
 use lent::put::put_u32_at;
 use mailslot::message::Message;
+use mailslot::padding::sid_padding;
 use octets::part::part;
 use reader::field::Stretch;
 use reply::fields::put_ending_at;
@@ -61,11 +61,11 @@ fn put_head(out: &mut [u8], source: &[u8], message: Message) -> usize
 
 // A SID behind its padding, from an offset on.
 fn put_sid_at(out: &mut [u8], at: usize, sid: &[u8]) -> usize
-    requires { ⌜ at + length (paddedSid at (now sid)) ≤ length (now out) ⌝ }
+    requires { ⌜ (length (now sid) ≤ messageMost) × (at + length (paddedSid at (now sid)) ≤ length (now out)) ⌝ }
     ensures { λ r. ⌜ r ≡ at + length (paddedSid at (now (sid .entry))) ⌝ }
     ensures { λ _. ⌜ now (out .exit) ≡ overAt at (paddedSid at (now (sid .entry))) (now (out .entry)) ⌝ }
 {
-    let at = put_zeros_at(out, at, padding_before(at, sid.len()));
+    let at = put_zeros_at(out, at, sid_padding(sid.len() as u32, at));
     put_octets_at(out, at, sid)
 }
 

@@ -5,12 +5,12 @@ ghost use lib.ListN.{length};
 ghost use Rattle.reader.specs.Field.{stretchOf};
 ghost use Rattle.mailslot.specs.Longest.{messageMost};
 ghost use Rattle.mailslot.specs.Message.{messageHead, messageOctets};
-ghost use Rattle.mailslot_write.specs.Internal.Size.{sidPadding};
 use mailslot::message::Message;
+use mailslot::padding::sid_padding;
 use octets::part::part;
 use reader::field::Stretch;
 
-// The octets before the texts, after them and between: opcode and repeat count, zeros that end the texts, account bits and the SID's size.
+// What stands in the head besides its texts: the opcode and the repeat count, the zeros that end the texts, the account bits and the SID's size.
 const HEAD_NUMBERS: usize = 2 + 2 + 2 + 2 + 1 + 4 + 4;
 
 // The version and the two tokens.
@@ -21,16 +21,6 @@ pub fn stretch_octets(source: &[u8], stretch: Stretch) -> &[u8]
     ensures { λ r. ⌜ now r ≡ stretchOf (now (source .entry)) stretch ⌝ }
 {
     part(source, stretch.start, stretch.len)
-}
-
-// What is missing at an offset to a multiple of four, before a SID of so many octets.
-pub fn padding_before(at: usize, size: usize) -> usize
-    ensures { λ r. ⌜ r ≡ sidPadding at size ⌝ }
-{
-    if size == 0 {
-        return 0;
-    }
-    (4 - at % 4) % 4
 }
 
 // How many octets stand before the SID and its padding.
@@ -55,5 +45,5 @@ pub fn message_size(source: &[u8], message: Message) -> usize
     let sid = message.sid;
     let size = stretch_octets(source, sid).len();
     let head = head_size(source, message);
-    head + padding_before(head, size) + size + ENDING
+    head + sid_padding(size as u32, head) + size + ENDING
 }

@@ -111,7 +111,7 @@ name-got s start f e =
       sym (good-same (z .2)) ∙ ap₂ (λ (x : Stretch) (y : ℕ). record { value = x; next = y }) v w,
     )
 
-name-before : (x rest : List ℕ) → all ofName x ≡ true → beforeZero (x ++ 0 ∷ rest) ≡ x
+pub name-before : (x rest : List ℕ) → all ofName x ≡ true → beforeZero (x ++ 0 ∷ rest) ≡ x
 unfolding beforeZero all
 name-before [] rest e = refl
 name-before (c ∷ x) rest e =

@@ -18,20 +18,17 @@ use Rattle.reply.specs.Reply.{ending}
 use Rattle.unicode.specs.{UserName.isUserName, Utf8.isUtf8, Utf16.pointsOf16, Utf16.utf8From16}
 use Rattle.transcode.proofs.Laws.Length.{one-a-unit}
 use Rattle.mailslot.specs.declared.message.Message.{Message}
-use Rattle.mailslot.specs.Message.{isText16, isComputerName, isMessageUser, isMailslotName, isMessageSid, padding, messageHead, paddedSid, messageOctets}
+use Rattle.mailslot.specs.Message.{isComputerName, isMessageUser, isMailslotName, isMessageSid, padding, messageHead, paddedSid, messageOctets}
 use Rattle.mailslot.specs.Longest.{LongestMessage}
 use Rattle.mailslot.specs.Internal.Runs.{ofName}
 use Rattle.mailslot.specs.Internal.Shape.{sidPadding, isSidSize, EndsText}
 use Rattle.mailslot.proofs.Laws.Name.{name-short}
+use Rattle.mailslot.proofs.Laws.User.{computer-most}
 use Rattle.mailslot.proofs.Laws.Shape.{Shape, message-shape, GoodParts, good-parts}
 
 -- ---- each part
 
 module _ (x : List ℕ) where
-  pub computer-most : isComputerName x ≡ true → length x ≤ 30
-  unfolding isComputerName
-  computer-most e = leb-true (length x) 30 (both-right (isText16 x) (leb (length x) 30) e)
-
   -- a unit takes an octet of UTF-8 at least
   pub user-most : isMessageUser x ≡ true → length x ≤ 126
   unfolding isMessageUser isUserName
@@ -47,7 +44,7 @@ module _ (x : List ℕ) where
   unfolding isMailslotName
   name-most e = leb-true (length x) 64 (both-left (leb (length x) 64) (all ofName x) e)
 
-size-most : (size count : ℕ) → isSidSize size count ≡ true → size ≤ 68
+pub size-most : (size count : ℕ) → isSidSize size count ≡ true → size ≤ 68
 size-most size count e = go (eqb size 0) refl e
   where
     go : (b : Bool) → eqb size 0 ≡ b → (b || (within 8 68 size && eqb size (8 + 4 * count))) ≡ true → size ≤ 68
@@ -71,12 +68,12 @@ sid-padding-most size at = go (eqb size 0)
 
 -- ---- one that reads
 
-text-most : {good : List ℕ → Bool} {s : List ℕ} {start end : ℕ} (n : ℕ) → ((x : List ℕ) → good x ≡ true → length x ≤ n) → EndsText good s start end → end ≤ start + n
+pub text-most : {good : List ℕ → Bool} {s : List ℕ} {start end : ℕ} (n : ℕ) → ((x : List ℕ) → good x ≡ true → length x ≤ n) → EndsText good s start end → end ≤ start + n
 text-most {good} {s} {start} {end} n most e =
     let m : length (cut s start (end - start)) ≡ end - start = cut-length s start (end - start) (omega (arith, e .from, e .to)) in
     omega (arith, most (cut s start (end - start)) (e .text), e .from)
 
-read-most : (s : List ℕ) → Shape s → length s ≤ 316
+pub read-most : (s : List ℕ) → Shape s → length s ≤ 316
 read-most s p =
     let c : p .computer ≤ 4 + 30 = text-most 30 computer-most (p .texts .computerEnds) in
     let u : p .user ≤ p .computer + 2 + 126 = text-most 126 user-most (p .texts .userEnds) in

@@ -6,7 +6,7 @@ use Prim.Native.Nat.{ℕ, _+_, _*_, _-_, _≤_, _<_}
 use native.Mathlib.Omega.{arith}
 use lib.Dec.{eqb, ltb}
 use lib.ListN.{length, getD}
-use borrow.Author.Tests.{lt-ltb, not-false}
+use borrow.Author.Tests.{ltb-true, lt-ltb, not-false}
 use Rattle.answers.specs.declared.Refusal.the-variants.{MailslotShape}
 use Rattle.answers.specs.Try.{Try, refused, good, refusedIf, _>>=_}
 use Rattle.answers.specs.Wire.{LOGON-SAM-LOGON-REQUEST, LmNtToken, Lm20Token}
@@ -23,6 +23,7 @@ use Rattle.mailslot.specs.Message.{isComputerName, isMessageUser, isMail
 use Rattle.mailslot.specs.Internal.Shape.{EndsText, EndsName, Texts, Numbers, sidPadding, messageAt}
 use Rattle.mailslot.proofs.Laws.Field.{Octets, then-known, octets-there, octets-read, number-there, number-read, constant-there, constant-read, tokens-there, tokens-read}
 use Rattle.mailslot.proofs.Laws.Ends.{textField, text-got, nameField, name-got, name-read}
+use Rattle.mailslot.proofs.Laws.User.{computer-read, user-read}
 use Rattle.mailslot.proofs.Laws.Sid.{sidField, sid-there, sid-read, sid-judged}
 
 -- a message of the shape, wherever its texts end
@@ -73,6 +74,15 @@ module _ (s : List ℕ) (m : Message) where
         mailslot = both-right used (isMailslotName (stretchOf s (m .mailslot))) b;
         sid = both-right bitted (isMessageSid (stretchOf s (m .sid))) d;
       }
+
+  pub good-numbers : goodMessage s m ≡ true → (m .repeat < 0x10000) × (m .bits < 0x100000000) × (m .version < 0x100000000)
+  unfolding goodMessage
+  good-numbers e =
+      let d : told ≡ true = both-left told (ltb (m .version) 0x100000000) e in
+      let b : bitted ≡ true = both-left bitted (isMessageSid (stretchOf s (m .sid))) d in
+      let u : used ≡ true = both-left used (isMailslotName (stretchOf s (m .mailslot))) (both-left slotted (ltb (m .bits) 0x100000000) b) in
+      let r : repeated ≡ true = both-left repeated (isComputerName (stretchOf s (m .computer))) (both-left named (isMessageUser (stretchOf s (m .user))) u) in
+      (ltb-true (m .repeat) 0x10000 r, ltb-true (m .bits) 0x100000000 (both-right slotted (ltb (m .bits) 0x100000000) b), ltb-true (m .version) 0x100000000 (both-right told (ltb (m .version) 0x100000000) e))
 
   pub not-good : (GoodParts s m → ⊥) → false ≡ goodMessage s m
   not-good none = go (goodMessage s m) refl
@@ -188,9 +198,9 @@ module _ (s : List ℕ) (computer user mailslot sid : ℕ) (o : Octets s) (t : T
       let eight : bits + 4 + 4 ≡ bits + 8 = omega arith in
       ap (λ (i : ℕ). i + sidPadding size i) eight ∙ sym (n .sidStarts)
 
-  fields-there : readText s 4 ≡ good (textField 4 computer) → readText s (computer + 2) ≡ good (textField (computer + 2) user) → readFields s ≡ good (messageAt s computer user mailslot sid)
+  fields-there : readFields s ≡ good (messageAt s computer user mailslot sid)
   unfolding readFields
-  fields-there c u =
+  fields-there =
       let k : behind ≡ sid = behind-sid in
       let e : behind + size + 8 ≡ length s = ap (λ (i : ℕ). i + size + 8) k ∙ n .ends in
       let first : u16At s (behind + size + 4) ≡ LmNtToken = ap (λ (i : ℕ). u16At s (i + size + 4)) k ∙ n .first in
@@ -200,8 +210,8 @@ module _ (s : List ℕ) (computer user mailslot sid : ℕ) (o : Octets s) (t : T
       (rw (
         constant-there s 0 LOGON-SAM-LOGON-REQUEST o (omega arith) (t .opcode),
         octets-there s 2 2 (omega arith),
-        c,
-        u,
+        computer-read s 4 computer o (t .computerEnds),
+        user-read s (computer + 2) user o (t .userEnds),
         name-read s (user + 2) mailslot (t .mailslotEnds),
         number-there s bits (omega arith),
         number-there s (bits + 4) (omega arith),
@@ -217,6 +227,6 @@ module _ (s : List ℕ) (computer user mailslot sid : ℕ) (o : Octets s) (t : T
       sym (good-by-sid s (messageAt s computer user mailslot sid) (u16-fits s 2 o (omega arith)) (t .computerEnds .text) (t .userEnds .text) (t .mailslotEnds .name) (u32-fits s bits o (omega arith)) (u32-fits s (sid + size) o (omega arith)))
       ∙ sid-judged s sid size (omega arith) ∙ n .sized
 
-  pub shape-read : readText s 4 ≡ good (textField 4 computer) → readText s (computer + 2) ≡ good (textField (computer + 2) user) → messageIn s ≡ good (messageAt s computer user mailslot sid)
+  pub shape-read : messageIn s ≡ good (messageAt s computer user mailslot sid)
   unfolding messageIn
-  shape-read c u = rw (fields-there c u, fields-good)
+  shape-read = rw (fields-there, fields-good)

@@ -70,6 +70,10 @@ module _ (x : List ℕ) where
   unfolding isComputerName
   computer-text e = both-left (isText16 x) (leb (length x) (2 * 15)) e
 
+  pub computer-most : isComputerName x ≡ true → length x ≤ 30
+  unfolding isComputerName
+  computer-most e = leb-true (length x) 30 (both-right (isText16 x) (leb (length x) 30) e)
+
   -- a computer's name is a user's of at most 15 units: each has three octets of UTF-8 at most
   pub computer-user : Octets x → length x ≤ 2 * 15 → isComputerName x ≡ isMessageUser x
   unfolding isComputerName
@@ -114,7 +118,7 @@ module _ (s : List ℕ) (start end : ℕ) (o : Octets s) (from : start ≤ end) 
         offset = length-take-le start s (omega arith);
       }
 
-  pub text-read : isText16 (cut s start (end - start)) ≡ true → readText s start ≡ good (textField start end)
+  text-read : isText16 (cut s start (end - start)) ≡ true → readText s start ≡ good (textField start end)
   text-read e =
       let n : ℕ = end - start in
       let p = text-points (cut s start n) (octets-cut s start n o) e in
@@ -122,3 +126,22 @@ module _ (s : List ℕ) (start end : ℕ) (o : Octets s) (from : start ≤ end) 
       let m : length (pointsOctets (p .0)) ≡ end - start = ap length (p .2) ∙ cut-length s start n (omega arith) in
       let k : start + (end - start) + 2 ≡ end + 2 = omega arith in
       text-here (p .0) (drop (end + 2) s) (p .1) l ∙ rw (m, k)
+
+module _ (s : List ℕ) (start end : ℕ) (o : Octets s) where
+  pub computer-read : EndsText isComputerName s start end → readText s start ≡ good (textField start end)
+  computer-read e = text-read s start end o (e .from) (e .to) (e .zero) (computer-text (cut s start (end - start)) (e .text))
+
+  pub user-read : EndsText isMessageUser s start end → readText s start ≡ good (textField start end)
+  user-read e = text-read s start end o (e .from) (e .to) (e .zero) (user-text (cut s start (end - start)) (e .text))
+
+  -- a computer's name is a user's
+  pub computer-as-user : EndsText isComputerName s start end → EndsText isMessageUser s start end
+  computer-as-user e =
+      let x : List ℕ = cut s start (end - start) in
+      record { from = e .from; to = e .to; zero = e .zero; text = sym (computer-user x (octets-cut s start (end - start) o) (computer-most x (e .text))) ∙ e .text }
+
+  pub user-as-computer : end ≤ start + 30 → EndsText isMessageUser s start end → EndsText isComputerName s start end
+  user-as-computer h e =
+      let x : List ℕ = cut s start (end - start) in
+      let n : length x ≡ end - start = cut-length s start (end - start) (omega (arith, e .from, e .to)) in
+      record { from = e .from; to = e .to; zero = e .zero; text = computer-user x (octets-cut s start (end - start) o) (omega arith) ∙ e .text }

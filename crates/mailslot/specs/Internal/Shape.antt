@@ -23,8 +23,9 @@ pub record EndsName (s : List ℕ) (start end : ℕ) : Type 0 where
   pub zero : getD s end 0 ≡ 0
   pub name : isMailslotName (cut s start (end - start)) ≡ true
 
--- the one offset where it ends; where there is none, one that is past the message
+-- the one offset where it ends; where there is none, the message's end
 pub record OneEnd (Ends : ℕ → Type 0) (length end : ℕ) : Type 0 where
+  pub to : end ≤ length
   pub found : end < length → Ends end
   pub only : (other : ℕ) → Ends other → other ≡ end
 

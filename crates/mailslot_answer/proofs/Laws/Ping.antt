@@ -5,9 +5,9 @@ use mathlib.Core.List.{List, [], _∷_, _++_, append-assoc}
 use mathlib.Core.Option.{Option, none, some, Option·getD}
 use Prim.Native.Nat.{ℕ, _+_, _-_, _≤_, _<_}
 use native.Mathlib.Omega.{arith}
-use lib.Dec.{eqb, leb, ltb}
+use lib.Dec.{eqb, leb}
 use lib.ListN.{length, drop}
-use borrow.Author.Tests.{leb-true, ltb-true, eqb-true, not-false}
+use borrow.Author.Tests.{leb-true, eqb-true, not-false}
 use Rattle.answers.specs.Try.{Try, refused, good, _>>=_}
 use Rattle.answers.proofs.Laws.Try.{good-same, good-then, refusedIf-good}
 use Rattle.filter.specs.declared.request.Clause.{Clause}
@@ -17,12 +17,13 @@ use Rattle.filter_read.specs.Internal.RawPing.{pingAt}
 use Rattle.lent.specs.Internal.OverAt.{overAt}
 use Rattle.lent.proofs.Laws.OverAt.{laid-over, laid-more, over-laid}
 use Rattle.octets.specs.{Buffer.over, Lists.cut, Lists.holds, NameRule.sized, NameRule.without, NameRule.userNameMost, Sid.sidLength}
-use Rattle.octets.proofs.Laws.Lists.{both-left, both-right, other-right, true-not-false, cut-after}
+use Rattle.octets.proofs.Laws.Lists.{both-left, other-right, true-not-false, cut-after}
 use Rattle.octets.proofs.Laws.Text.{within-high}
 use Rattle.reader.specs.Field.{stretchOf}
 use Rattle.unicode.specs.{UserName.isUserName, Utf8.isUtf8, Utf16.utf8From16}
 use Rattle.mailslot.specs.declared.message.Message.{Message}
-use Rattle.mailslot.specs.Message.{isComputerName, isMessageUser, isMailslotName, isMessageSid, goodMessage, readFields, asShape, messageIn}
+use Rattle.mailslot.specs.Message.{isMessageUser, isMessageSid, goodMessage, readFields, asShape, messageIn}
+use Rattle.mailslot.proofs.Laws.Shape.{good-parts, good-numbers}
 use Rattle.transcode.specs.Internal.Text8.{utf8Text}
 use Rattle.mailslot_answer.specs.Ping.{unlessEmpty, messagePing, mailslotPing}
 use Rattle.mailslot_answer.specs.Internal.Source.{ClauseAt}
@@ -56,41 +57,17 @@ module _ (s : List ℕ) (m : Message) (e : messageIn s ≡ good m) where
       let g = refusedIf-good (not (goodMessage s (f .0))) _ (good (f .0)) m (f .2) in
       subst (λ (x : Message). goodMessage s x ≡ true) (good-same (g .1)) (not-false (goodMessage s (f .0)) (g .0))
 
-  -- the tests before that of the SID
-  abbrev before : Bool
-  before =
-      ltb (m .repeat) 0x10000
-      && isComputerName (stretchOf s (m .computer))
-      && isMessageUser (stretchOf s (m .user))
-      && isMailslotName (stretchOf s (m .mailslot))
-      && ltb (m .bits) 0x100000000
-
-  abbrev front : Bool
-  front = ltb (m .repeat) 0x10000 && isComputerName (stretchOf s (m .computer))
-
-  to-sid : before && isMessageSid (stretchOf s (m .sid)) ≡ true
-  unfolding goodMessage
-  to-sid = both-left (before && isMessageSid (stretchOf s (m .sid))) (ltb (m .version) 0x100000000) good-message
+  good-user : isMessageUser (stretchOf s (m .user)) ≡ true
+  good-user = good-parts s m good-message .user
 
   sid-fits : length (stretchOf s (m .sid)) ≤ 68
-  sid-fits = sid-short (stretchOf s (m .sid)) (both-right before (isMessageSid (stretchOf s (m .sid))) to-sid)
-
-  good-user : isMessageUser (stretchOf s (m .user)) ≡ true
-  good-user =
-      let u : Bool = isMessageUser (stretchOf s (m .user)) in
-      let n : Bool = isMailslotName (stretchOf s (m .mailslot)) in
-      let b : Bool = ltb (m .bits) 0x100000000 in
-      both-right front u (both-left (front && u) n (both-left (front && u && n) b (both-left before (isMessageSid (stretchOf s (m .sid))) to-sid)))
+  sid-fits = sid-short (stretchOf s (m .sid)) (good-parts s m good-message .sid)
 
   pub bits-fit : m .bits < 0x100000000
-  bits-fit =
-      let b : Bool = ltb (m .bits) 0x100000000 in
-      let n : Bool = front && isMessageUser (stretchOf s (m .user)) && isMailslotName (stretchOf s (m .mailslot)) in
-      ltb-true (m .bits) 0x100000000 (both-right n b (both-left before (isMessageSid (stretchOf s (m .sid))) to-sid))
+  bits-fit = good-numbers s m good-message .1
 
   pub version-fits : m .version < 0x100000000
-  unfolding goodMessage
-  version-fits = ltb-true (m .version) 0x100000000 (both-right (before && isMessageSid (stretchOf s (m .sid))) (ltb (m .version) 0x100000000) good-message)
+  version-fits = good-numbers s m good-message .2
 
   -- its octets in UTF-8
   abbrev pub userText : List ℕ

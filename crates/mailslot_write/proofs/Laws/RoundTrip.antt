@@ -3,7 +3,7 @@ pub mod Fields
 use mathlib.Core.Path.{_≡_, refl, sym, ap, subst, _∙_}
 use mathlib.Core.Bool.{Bool, true, false, not}
 use mathlib.Core.List.{List, [], _∷_, _++_, append-assoc}
-use Prim.Native.Nat.{ℕ, _+_, _^_, _≤_, _<_}
+use Prim.Native.Nat.{ℕ, _+_, _^_, _<_}
 use native.Mathlib.Nat.{zero-add}
 use native.Mathlib.Omega.{arith}
 use lib.Dec.{eqb, ltb}
@@ -25,9 +25,18 @@ use Rattle.mailslot.specs.declared.message.Message.{Message}
 use Rattle.mailslot.specs.declared.message.MessageRead.the-variants as read
 use Rattle.mailslot.specs.Message.{goodMessage, readZeroEnded, readSid, readFields, messageIn, messageHead, paddedSid, messageOctets, messageFor}
 use Rattle.mailslot.specs.Read.{messageAs}
+use Rattle.mailslot.proofs.Laws.Longest.{longest-message}
+use Rattle.mailslot.proofs.Laws.Shape.{GoodParts, good-parts, good-numbers}
+use Rattle.mailslot.proofs.Laws.User.{computer-text, user-text}
 use Rattle.mailslot_write.specs.RoundTrip.{SameMessage, RoundTrip, CallsRoundTrip}
-use Rattle.mailslot_write.proofs.Laws.Good.{Limits, limits, good-same}
+use Rattle.mailslot_write.proofs.Laws.Size.{message-length}
 use Rattle.mailslot_write.proofs.Laws.RoundTrip.Fields.{Back, text-back, name-back, sid-back}
+
+-- a message is judged by its numbers and by the octets of its texts alone
+good-same : (s : List ℕ) (q : Message) (source : List ℕ) (m : Message) → SameMessage s q source m → goodMessage s q ≡ goodMessage source m
+unfolding goodMessage
+good-same s q source m e =
+    rw (goodMessage, e .repeat, e .computer, e .user, e .mailslot, e .bits, e .sid, e .version)
 
 module _ (source : List ℕ) (m : Message) where
   abbrev s : List ℕ
@@ -76,8 +85,8 @@ module _ (source : List ℕ) (m : Message) where
   head-left = subst (Left s 0) (simp append-assoc) (left-start s)
 
   module _ (g : goodMessage source m ≡ true) where
-    keeps : Limits source m
-    keeps = limits source m g
+    parts : GoodParts source m
+    parts = good-parts source m g
 
     opcode-left : Left s 0 (u16 LOGON-SAM-LOGON-REQUEST ++ afterOpcode)
     opcode-left = subst (Left s 0) (head-fields afterHead) head-left
@@ -86,13 +95,13 @@ module _ (source : List ℕ) (m : Message) where
     repeat-left = number-after afterOpcode 2 LOGON-SAM-LOGON-REQUEST opcode-left
 
     computer-back : Back s (readText s (0 + 2 + 2)) computer afterComputer
-    computer-back = text-back computer afterComputer (keeps .computer) (number-after (computer ++ (u16 0 ++ afterComputer)) 2 (m .repeat) repeat-left)
+    computer-back = text-back computer afterComputer (computer-text computer (parts .computer)) (number-after (computer ++ (u16 0 ++ afterComputer)) 2 (m .repeat) repeat-left)
 
     user-back : Back s (readText s (computer-back .next)) user afterUser
-    user-back = text-back user afterUser (keeps .user .text) (computer-back .left)
+    user-back = text-back user afterUser (user-text user (parts .user)) (computer-back .left)
 
     mailslot-back : Back s (readZeroEnded s (user-back .next)) name afterName
-    mailslot-back = name-back name afterName (keeps .mailslot) (user-back .left)
+    mailslot-back = name-back name afterName (parts .mailslot) (user-back .left)
 
     size-left : Left s (mailslot-back .next + 4) (u32 (length sid) ++ afterHead)
     size-left = number-after (u32 (length sid) ++ afterHead) 4 (m .bits) (mailslot-back .left)
@@ -129,10 +138,11 @@ module _ (source : List ℕ) (m : Message) where
     fields-back : readFields s ≡ good given
     unfolding readFields given at-sid
     fields-back =
-        let r : m .repeat < 256 ^ 2 = omega (arith, keeps .repeat) in
-        let b : m .bits < 256 ^ 4 = omega (arith, keeps .bits) in
-        let z : length sid < 256 ^ 4 = omega (arith, keeps .sid) in
-        let v : m .version < 256 ^ 4 = omega (arith, keeps .version) in
+        let fit = good-numbers source m g in
+        let r : m .repeat < 256 ^ 2 = omega (arith, fit .0) in
+        let b : m .bits < 256 ^ 4 = omega (arith, fit .1) in
+        let z : length sid < 256 ^ 4 = omega (arith, longest-message .written source m g, message-length source m) in
+        let v : m .version < 256 ^ 4 = omega (arith, fit .2) in
         rw (
           constant-here afterOpcode 2 LOGON-SAM-LOGON-REQUEST opcode-left,
           octets-here (u16 (m .repeat)) (computer ++ (u16 0 ++ afterComputer)) 2 (length-little 2 (m .repeat)) repeat-left,

@@ -1,32 +1,23 @@
 -- How many octets a message has, part by part.
 use mathlib.Core.Path.{_≡_, refl, ap, _∙_}
 use mathlib.Core.List.{List, [], _∷_, _++_}
-use Prim.Native.Nat.{ℕ, zero, suc, _+_, _-_, _%_, _≤_}
+use Prim.Native.Nat.{ℕ, _+_}
 use native.Mathlib.Omega.{arith}
 use lib.ListN.{length, replicate, length-append, length-replicate}
+use borrow.Author.Tests.{ne-eqb}
 use Rattle.octets.proofs.Laws.Number.{length-little}
 use Rattle.reader.specs.Field.{stretchOf}
 use Rattle.reply.proofs.Laws.Reply.{ending-length}
 use Rattle.mailslot.specs.declared.message.Message.{Message}
-use Rattle.mailslot.specs.Message.{padding, messageHead, paddedSid, messageOctets}
-use Rattle.mailslot_write.specs.Internal.Size.{sidPadding}
+use Rattle.mailslot.specs.Message.{messageHead, paddedSid, messageOctets}
+use Rattle.mailslot.specs.Internal.Shape.{sidPadding}
 
 -- the padding is known by the SID's size
-pub padded-sid : (at : ℕ) (sid : List ℕ) → paddedSid at sid ≡ replicate (sidPadding at (length sid)) 0 ++ sid
+pub padded-sid : (at : ℕ) (sid : List ℕ) → paddedSid at sid ≡ replicate (sidPadding (length sid) at) 0 ++ sid
 padded-sid at [] = refl
-padded-sid at (x ∷ xs) = refl
+padded-sid at (x ∷ xs) = rw (ne-eqb (length (x ∷ xs)) 0 (λ z. omega arith))
 
-pub padding-some : (at size : ℕ) → (size ≡ 0 → ⊥) → (4 - at % 4) % 4 ≡ sidPadding at size
-unfolding padding
-padding-some at zero n = absurd (n refl)
-padding-some at (suc k) n = refl
-
-pub padding-most : (at size : ℕ) → sidPadding at size ≤ 3
-unfolding padding
-padding-most at zero = omega arith
-padding-most at (suc k) = omega arith
-
-pub padded-length : (at : ℕ) (sid : List ℕ) → length (paddedSid at sid) ≡ sidPadding at (length sid) + length sid
+pub padded-length : (at : ℕ) (sid : List ℕ) → length (paddedSid at sid) ≡ sidPadding (length sid) at + length sid
 padded-length at sid = ap length (padded-sid at sid) ∙ simp (length-append, length-replicate)
 
 module _ (source : List ℕ) (m : Message) where
@@ -39,5 +30,5 @@ module _ (source : List ℕ) (m : Message) where
   message-parts = simp (length-append, ending-length)
 
   pub message-length : length (messageOctets source m)
-      ≡ length (messageHead source m) + sidPadding (length (messageHead source m)) (length (stretchOf source (m .sid))) + length (stretchOf source (m .sid)) + 8
+      ≡ length (messageHead source m) + sidPadding (length (stretchOf source (m .sid))) (length (messageHead source m)) + length (stretchOf source (m .sid)) + 8
   message-length = omega (arith, message-parts, padded-length (length (messageHead source m)) (stretchOf source (m .sid)))

@@ -1,29 +1,24 @@
 -- A text in UTF-16LE that has code points, none of them zero, is read back whole where a zero unit ends it.
 use mathlib.Core.Path.{_≡_, refl, sym, ap, _∙_}
-use mathlib.Core.Bool.{Bool, true, false, cond, not, _&&_}
+use mathlib.Core.Bool.{Bool, true, false, cond, not}
 use mathlib.Core.List.{List, [], _∷_, _++_}
 use mathlib.Core.Option.{Option, none, some, Option·map, map-eq-some-iff}
 use Prim.Native.Nat.{ℕ, zero, suc, _+_, _-_, _*_, _%_, _<_, _≤_}
 use native.Mathlib.Omega.{arith}
-use lib.Dec.{eqb, leb}
+use lib.Dec.{eqb}
 use lib.ListN.{length, length-append}
 use borrow.Author.Tests.{not-true}
 use Rattle.answers.specs.Try.{good}
-use Rattle.octets.specs.{Lists.all, Lists.holds, NameRule.without, NameRule.userNameMost, Number.little, Number.littleOctets, Text.within}
+use Rattle.octets.specs.{Lists.all, Lists.holds, NameRule.without, Number.little, Number.littleOctets, Text.within}
 use Rattle.octets.proofs.Laws.Lists.{both-left, both-right, true-not-false, none-not-some}
 use Rattle.octets.proofs.Laws.Text.{within-low, within-high}
-use Rattle.unicode.specs.Utf8.{Partial, Decoded, bad, point, more, opens, Decoder, between, partway, onDecoded}
-use Rattle.unicode.specs.{Utf8.isUtf8, UserName.isUserName}
-use Rattle.unicode.specs.Utf16.{isHigh, isLow, lead16, follow16, decode16, pointsFrom16, pointsOf16, utf8From16}
-use Rattle.unicode.proofs.Laws.UserName.{user-name-short}
-use Rattle.transcode.proofs.Laws.Length.{one-a-unit}
-use Rattle.transcode.proofs.Laws.Zeros.{zeros-said}
-use Rattle.reader.specs.declared.text.Unit16.the-variants.{Ends, Plain, High, Low}
+use Rattle.unicode.specs.Utf8.{Partial, bad, point, opens, Decoder, between, partway, onDecoded}
+use Rattle.unicode.specs.Utf16.{isHigh, isLow, lead16, follow16, decode16, pointsFrom16, pointsOf16}
 use Rattle.reader.specs.declared.text.Turn.the-variants.{Go}
 use Rattle.reader.specs.Text.{unitOf, turn, readTextFrom, readText}
 use Rattle.reader.proofs.Laws.Field.{Left, left-next, left-length}
 use Rattle.reader.proofs.Laws.Text.{Got, high-unit, low-unit, unit-step, zero-step}
-use Rattle.mailslot.specs.Message.{isText16, isMessageUser}
+use Rattle.mailslot.specs.Message.{isText16}
 
 -- ---- a unit, as the reader of a text and the decoder take it
 
@@ -128,20 +123,3 @@ text16-here {s} {at} t rest e l = go (pointsOf16 t) refl e
         let y : at + length t - at ≡ length t = omega arith in
         units-here at t between cs (suc (length s)) at rest tt z q (omega arith) l
         ∙ ap (λ (x : ℕ). good (record { value = record { start = at; len = x }; next = at + length t + 2 })) y
-
--- ---- a user's name
-
--- such a text, as a zero code point would be a zero octet of UTF-8, and at most two octets for each of those
-pub record UserText (t : List ℕ) : Type 0 where
-  pub text : isText16 t ≡ true
-  pub short : length t ≤ 2 * userNameMost
-
-pub user-text : (t : List ℕ) → isMessageUser t ≡ true → UserText t
-unfolding isMessageUser isUserName
-user-text t = go (utf8From16 t) refl
-  where
-    go : (o : Option (List ℕ)) → utf8From16 t ≡ o → holds isUserName o ≡ true → UserText t
-    go none q e = absurd (true-not-false (sym e))
-    go (some octets) q e =
-        let z : without 0 octets ≡ true = both-right (leb (length octets) userNameMost && isUtf8 octets) (without 0 octets) e in
-        record { text = sym (zeros-said t octets q) ∙ z; short = omega (arith, one-a-unit t octets q, user-name-short octets e) }

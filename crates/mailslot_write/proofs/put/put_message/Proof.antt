@@ -9,7 +9,7 @@ use Rattle.reader.specs.Field.{stretchOf}
 use Rattle.reply.specs.Reply.{ending}
 use Rattle.mailslot.specs.Message.{messageHead, messageOctets, paddedSid}
 use Rattle.mailslot_write.proofs.Laws.Put.{laid-as}
-use Rattle.mailslot_write.proofs.Laws.Size.{message-parts}
+use Rattle.mailslot_write.proofs.Laws.Size.{message-parts, message-length}
 use Rattle.mailslot_write.proofs.put.put_message.Statement.{statement}
 use Rattle.mailslot_write.proofs.put.put_message.Tie as tie
 
@@ -37,7 +37,12 @@ module _ (c : tie.After-stretch-octets) where
   padded-is = ap₂ paddedSid (c .before .before .before .before .put-head .ensures .0) (c .stretch-octets .ensures)
 
 put-sid-at-requires : tie.Need-put-sid-at-requires
-put-sid-at-requires c κs = omega (arith, room (c .before .before .before .before .before .before .before .before .before), c .before .before .before .before .put-head .ensures .0, ap length (padded-is c))
+put-sid-at-requires c κs =
+    let s = c .before .before .before .before .before .before .before .before .before in
+    let n = ap length (c .stretch-octets .ensures) in (
+      omega (arith, message-length (s .args .source .now) (s .args .message), s .pre .0),
+      omega (arith, room s, c .before .before .before .before .put-head .ensures .0, ap length (padded-is c)),
+    )
 
 put-ending-at-requires : tie.Need-put-ending-at-requires
 put-ending-at-requires c κs =

@@ -4,7 +4,6 @@ use Prim.Native.Nat.{ℕ, _+_, _≤_}
 use native.Mathlib.Omega.{arith}
 use lib.ListN.{length}
 use Rattle.reader.specs.Field.{stretchOf}
-use Rattle.mailslot.specs.declared.message.Message.{Message}
 use Rattle.mailslot_write.proofs.Laws.Size.{head-length, message-length}
 use Rattle.mailslot_write.proofs.size.head_size.Statement.{statement}
 use Rattle.mailslot_write.proofs.size.head_size.Tie as tie

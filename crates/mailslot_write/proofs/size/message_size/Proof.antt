@@ -1,10 +1,10 @@
 use borrow.Author.Needs.{needs}
-use mathlib.Core.Path.{_≡_, sym, ap, ap₂, _∙_}
-use Prim.Native.Nat.{ℕ, _+_}
+use mathlib.Core.Path.{_≡_, ap, ap₂, _∙_}
+use Prim.Native.Nat.{_+_}
 use native.Mathlib.Omega.{arith}
 use lib.ListN.{length}
 use Rattle.mailslot.specs.Message.{messageOctets}
-use Rattle.mailslot_write.specs.Internal.Size.{sidPadding}
+use Rattle.mailslot.specs.Internal.Shape.{sidPadding}
 use Rattle.mailslot_write.proofs.Laws.Size.{message-length}
 use Rattle.mailslot_write.proofs.size.message_size.Statement.{statement}
 use Rattle.mailslot_write.proofs.size.message_size.Tie as tie
@@ -15,17 +15,22 @@ stretch-octets-requires c κs = search needs
 head-size-requires : tie.Need-head-size-requires
 head-size-requires c κs = search needs
 
-padding-before-requires : tie.Need-padding-before-requires
-padding-before-requires c κs = search needs
+cast-sid-padding : tie.Need-cast-sid-padding
+cast-sid-padding c =
+    let s = c .before .before .before .before in
+    omega (arith, ap length (c .before .stretch-octets .ensures), message-length (s .args .source .now) (s .args .message), s .pre)
+
+sid-padding-requires : tie.Need-sid-padding-requires
+sid-padding-requires c κs = search needs
 
 -- the sum that is returned
-module _ (c : tie.After-padding-before) where
-  sum : c .before .head-size .result + c .padding-before .result + length (c .before .before .stretch-octets .result .now) + 8
+module _ (c : tie.After-sid-padding) where
+  sum : c .before .head-size .result + c .sid-padding .result + length (c .before .before .stretch-octets .result .now) + 8
       ≡ length (messageOctets (c .before .before .before .before .before .args .source .now) (c .before .before .before .before .before .args .message))
   sum =
       let a = c .before .before .before .before .before .args in
       let n = ap length (c .before .before .stretch-octets .ensures) in
-      let p = c .padding-before .ensures ∙ ap₂ sidPadding (c .before .head-size .ensures) n in
+      let p = c .sid-padding .ensures .0 ∙ ap₂ sidPadding n (c .before .head-size .ensures) in
       omega (arith, message-length (a .source .now) (a .message), c .before .head-size .ensures)
 
 add-result : tie.Need-add-result
@@ -46,7 +51,8 @@ message-size-spec =
     (tie.spec
     stretch-octets-requires
     head-size-requires
-    padding-before-requires
+    cast-sid-padding
+    sid-padding-requires
     add-result
     add-result-2
     add-result-3

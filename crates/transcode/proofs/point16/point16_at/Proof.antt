@@ -34,7 +34,7 @@ returns-4 : tie.Need-returns-4
 returns-4 c =
     let a = c .before .before .before .before .before .before .args in
     let u = c .before .before .u16-at in
-    low-unit (a .s .now) (a .at) (u .result) (u .ensures) (omega arith) (c .if4 .taken) (omega (arith, inside 0xD800 0xE000 (u .result) (c .before .if3 .left)))
+    low-unit (a .s .now) (a .at) (u .result) (u .ensures) (omega arith) (omega arith) (omega (arith, inside 0xD800 0xE000 (u .result) (c .before .if3 .left)))
 
 sub-if5 : tie.Need-sub-if5
 sub-if5 c = search needs

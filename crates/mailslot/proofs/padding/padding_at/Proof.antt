@@ -2,16 +2,12 @@ use mathlib.Core.Path.{refl}
 use native.Mathlib.Omega.{arith}
 use Rattle.mailslot.specs.Message.{padding}
 use borrow.Author.Needs.{needs}
-use Rattle.mailslot.proofs.read.padding_at.Statement.{statement}
-use Rattle.mailslot.proofs.read.padding_at.Tie as tie
-use Rattle.mailslot.proofs.read.padding_at.Reads as reads
-use Rattle.mailslot.proofs.read.padding_at.Lts as lts
+use Rattle.mailslot.proofs.padding.padding_at.Statement.{statement}
+use Rattle.mailslot.proofs.padding.padding_at.Tie as tie
 
--- src/read.rt:39:6
 sub-result : tie.Need-sub-result
 sub-result c = search needs
 
--- src/read.rt:36:1
 returns : tie.Need-returns
 unfolding padding
 returns c = (refl, omega arith)

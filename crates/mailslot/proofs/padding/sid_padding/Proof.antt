@@ -2,21 +2,15 @@ use mathlib.Core.Path.{_∙_}
 use native.Mathlib.Omega.{arith}
 use borrow.Author.Tests.{ne-eqb}
 use borrow.Author.Needs.{needs}
-use Rattle.mailslot.proofs.read.sid_padding.Statement.{statement}
-use Rattle.mailslot.proofs.read.sid_padding.Tie as tie
-use Rattle.mailslot.proofs.read.sid_padding.Reads as reads
-use Rattle.mailslot.proofs.read.sid_padding.Lts as lts
-use Rattle.mailslot.proofs.read.padding_at.Reads as padding-at-reads
+use Rattle.mailslot.proofs.padding.sid_padding.Statement.{statement}
+use Rattle.mailslot.proofs.padding.sid_padding.Tie as tie
 
--- src/read.rt:47:9
 returns : tie.Need-returns
 returns c = (rw (c .if1 .taken), omega arith)
 
--- src/read.rt:49:5
 padding-at-requires : tie.Need-padding-at-requires
 padding-at-requires c κs = search needs
 
--- src/read.rt:43:1
 returns-2 : tie.Need-returns-2
 returns-2 c = (c .padding-at .ensures .0 ∙ rw (ne-eqb (c .before .before .args .size) 0 (c .before .if1 .left)), c .padding-at .ensures .1)
 

@@ -1,0 +1,2 @@
+// A mailslot message, read.
+pub mod read;
