@@ -35,7 +35,7 @@ use filter_read::value::judged_number;
 use filter_read::value::judged_version;
 use filter_write::write::write_filter;
 use mailslot::message::message_number;
-use mailslot::read::read_message;
+use mailslot_read::read::read_message;
 use mailslot_write::write::write_message;
 use reader_forms::reading::reading_number;
 use reader_reply::read::read_reply;

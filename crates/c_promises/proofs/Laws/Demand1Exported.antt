@@ -41,7 +41,7 @@ use Rattle.mailslot.specs.declared.message.MessageRead.{MessageRead}
 use Rattle.mailslot.specs.declared.message.MessageRead.the-variants as message
 use Rattle.mailslot.specs.Message.{messageFor}
 use Rattle.mailslot.specs.Read.{messageNumber, ReadMessagePromise}
-use Rattle.mailslot.proofs.Laws.Read.{read-message-promised}
+use Rattle.mailslot_read.proofs.Laws.Refused.{promised}
 use Rattle.mailslot_answer.specs.Ping.{mailslotPing}
 use Rattle.octets.specs.Buffer.{over}
 use Rattle.octets.specs.Lists.{all}
@@ -90,10 +90,10 @@ module _ (way : List ℕ → Try Ping) (image client octets before after : List 
       → ((a : Answer) (x : Refusal) → AnswerPromise way image (callerAt client) octets before after a → a ≡ answer.Refused x
       → Number (answerNumber a) × (answerLength a ≡ 0) × (answerContext a ≡ 0) × (answerForm a ≡ none) × (after ≡ before))
       → (members : List ℕ) (r : ℕ) → ExportedAnswer way image client octets before after members r → DoneOr Number r ((members ≡ zeros 3) × (after ≡ before))
-  answered Number demand members r p = go (answeredBy way image client octets before) promised (p .0) (p .1)
+  answered Number demand members r p = go (answeredBy way image client octets before) kept (p .0) (p .1)
     where
-      promised : AnswerPromise way image (callerAt client) octets before after (answeredBy way image client octets before)
-      promised = record { returned = answer-promised (answerBy way image (callerAt client) octets (length before)) _ (refl, p .2) .0; left = p .2 }
+      kept : AnswerPromise way image (callerAt client) octets before after (answeredBy way image client octets before)
+      kept = record { returned = answer-promised (answerBy way image (callerAt client) octets (length before)) _ (refl, p .2) .0; left = p .2 }
 
       go : (a : Answer) → AnswerPromise way image (callerAt client) octets before after a → r ≡ answerNumber a → members ≡ answerMembers a → DoneOr Number r ((members ≡ zeros 3) × (after ≡ before))
       go (answer.Answered len context form) q e f = inl e
@@ -132,7 +132,7 @@ demand-1-exported =
           written-octets ForWriting (WriteFilterPromise source (requestGiven request) before after) before after (demand-1 .«write_filter» source (requestGiven request) before after)
           (filterWritten source request before) len r (record { returned = written-promised (filterFor source (requestGiven request) (length before)) _ (refl, p .2) .0; left = p .2 }) (p .0) (p .1);
       «vinegarjar_answer_ping» = λ image client filter before after. answered pingFrom image client filter before after ForPing (demand-1 .«answer_ping» image (callerAt client) filter before after);
-      «vinegarjar_read_mailslot» = λ octets members r p. read-message octets members (messageRead octets) r (read-message-promised octets _ refl) (p .0) (p .1);
+      «vinegarjar_read_mailslot» = λ octets members r p. read-message octets members (messageRead octets) r (promised octets _ refl) (p .0) (p .1);
       «vinegarjar_write_mailslot» = λ source members before after len r p.
           written-octets ForMessageWriting (WriteMessagePromise source (messageOf members) before after) before after (demand-1 .«write_message» source (messageOf members) before after)
           (messageWritten source members before) len r (record { returned = written-promised (messageFor source (messageOf members) (length before)) _ (refl, p .2) .0; left = p .2 }) (p .0) (p .1);
