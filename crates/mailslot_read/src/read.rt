@@ -19,6 +19,7 @@ use mailslot::judge::COMPUTER_NAME_MOST;
 use mailslot::judge::MAILSLOT_NAME_MOST;
 use mailslot::judge::is_sid_size;
 use mailslot::judge::name_run;
+use mailslot::message::MESSAGE_MOST;
 use mailslot::message::Message;
 use mailslot::message::MessageRead;
 use mailslot::padding::sid_padding;
@@ -28,9 +29,6 @@ use octets::number::u32_at;
 use reader::field::Stretch;
 use transcode::octet::first_octet;
 use unicode::utf8::octet_at;
-
-// By its limits no message is longer.
-pub const MESSAGE_MOST: usize = 316;
 
 // The texts stand behind the opcode and the repeat count.
 const TEXTS_AT: usize = 4;
@@ -145,6 +143,7 @@ pub fn read_message(message: &[u8]) -> MessageRead
     if u16_at(message, 0) != LOGON_SAM_LOGON_REQUEST {
         return MessageRead::Refused(Refusal::MailslotShape);
     }
+    // Compiled to nothing: it tells the proof that the message is of octets.
     let _octet = first_octet(message);
     let computer_end = text_end(message, TEXTS_AT);
     let user_end = text_end(message, computer_end + 2);

@@ -21,7 +21,10 @@ use Rattle.octets.proofs.Laws.Lists.{both-left, other-right, true-not-false, cu
 use Rattle.octets.proofs.Laws.Text.{within-high}
 use Rattle.reader.specs.Field.{stretchOf}
 use Rattle.unicode.specs.{UserName.isUserName, Utf8.isUtf8, Utf16.utf8From16}
+use Rattle.answers.specs.declared.Refusal.{Refusal}
 use Rattle.mailslot.specs.declared.message.Message.{Message}
+use Rattle.mailslot.specs.declared.message.MessageRead.the-variants as read
+use Rattle.mailslot.specs.Read.{messageAs}
 use Rattle.mailslot.specs.Message.{isMessageUser, isMessageSid, goodMessage, readFields, asShape, messageIn}
 use Rattle.mailslot.proofs.Laws.Shape.{good-parts, good-numbers}
 use Rattle.transcode.specs.Internal.Text8.{utf8Text}
@@ -101,6 +104,19 @@ module _ (s : List ℕ) (m : Message) (e : messageIn s ≡ good m) where
   pub pinged : mailslotPing s ≡ good (messagePing s m)
   unfolding mailslotPing
   pinged = ap (λ (o : Try Message). o >>= λ (x : Message). good (messagePing s x)) e
+
+-- what reading gave, by the enum
+pub read-good : (t : Try Message) (m : Message) → read.Read m ≡ messageAs t → t ≡ good m
+read-good (refused x) m e = let z : _≡_ {A = ℕ} 0 1 = cc in absurd (omega arith)
+read-good (good a) m e = let k : m ≡ a = cc in ap good (sym k)
+
+pub read-refused : (t : Try Message) (x : Refusal) → read.Refused x ≡ messageAs t → t ≡ refused x
+read-refused (refused y) x e = let k : x ≡ y = cc in ap refused (sym k)
+read-refused (good a) x e = let z : _≡_ {A = ℕ} 0 1 = cc in absurd (omega arith)
+
+pub not-pinged : (s : List ℕ) (x : Refusal) → messageIn s ≡ refused x → mailslotPing s ≡ refused x
+unfolding mailslotPing
+not-pinged s x e = ap (λ (o : Try Message). o >>= λ (m : Message). good (messagePing s m)) e
 
 -- a clause by its length, as the code makes it
 module _ (start len : ℕ) where
