@@ -172,4 +172,6 @@ module _ (s : List ℕ) (m : Message) (g : List ℕ) (r : Request) (o : areOctet
 pub as-filter : AsFilter
 unfolding answerBy
 as-filter s m g r o e alike = let same = asked-alike s m g r o e alike in (
-    same, λ image caller room. ap (λ (x : Try Ping). tableIn image >>= λ (t : Table). x >>= λ (p : Ping). answerOver t caller p room) same)
+  same,
+  λ image caller room. ap (λ (x : Try Ping). tableIn image >>= λ (t : Table). x >>= λ (p : Ping). answerOver t caller p room) same,
+)
