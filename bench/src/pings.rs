@@ -63,8 +63,7 @@ pub fn filter_of(clauses: &[(&[u8], &[u8])]) -> Vec<u8> {
 }
 
 /// The SID of a domain, of four parts after its first.
-pub const SID: [u8; 28] =
-    [1, 5, 0, 0, 0, 0, 0, 5, 21, 0, 0, 0, 1, 2, 3, 4, 5, 6, 7, 8, 9, 10, 11, 12, 13, 14, 15, 16];
+pub const SID: [u8; 28] = [1, 5, 0, 0, 0, 0, 0, 5, 21, 0, 0, 0, 1, 2, 3, 4, 5, 6, 7, 8, 9, 10, 11, 12, 13, 14, 15, 16];
 
 /// What a message asks, as the clauses of a filter.
 pub const MESSAGE_CLAUSES: [Clause; 4] =

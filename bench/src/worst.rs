@@ -183,7 +183,7 @@ fn written_messages() -> Worst {
     worst
 }
 
-/// Messages to tables of names that are told apart late, as pings have them. A message names no context and no client's site.
+/// Messages to tables of names that are told apart late, as pings have them; a message is answered in the default context.
 fn answered_messages() -> [Worst; 2] {
     let (mut judged, mut accepted) =
         (Worst::new("answer_mailslot"), Worst::new("answer_mailslot, table judged before"));

@@ -38,12 +38,7 @@ pub fn answer_message(
 }
 
 /// The same from a table that was read before.
-pub fn answer_over(
-    table: &Table,
-    client: ClientAddress,
-    message: &[u8],
-    buffer: &mut [u8],
-) -> Result<Answer, Refusal> {
+pub fn answer_over(table: &Table, client: ClientAddress, message: &[u8], buffer: &mut [u8]) -> Result<Answer, Refusal> {
     let message = read_message(message)?;
     // The reader judged the user, so that it has UTF-8 octets.
     let user = utf8_octets(message.user).ok_or(Refusal::MessageShape)?;
