@@ -17,7 +17,7 @@ abbrev pub writtenOctets : Try (List ℕ) → List ℕ
 writtenOctets (refused r) = []
 writtenOctets (good octets) = octets
 
--- document 01's number of it, and the length, 0 with a refusal
+-- its number, and the length, 0 with a refusal
 abbrev pub writtenNumber : Written → ℕ
 writtenNumber (written.Length n) = 0
 writtenNumber (written.Refused r) = number r

@@ -45,10 +45,8 @@ pub fn name_run(s: &[u8], start: usize) -> usize
 {
     let mut at = start;
     while at < s.len() {
-        if s[at] == 0 {
-            return at;
-        }
-        if 0x7F < s[at] {
+        let octet = s[at];
+        if (octet == 0) | (0x7F < octet) {
             return at;
         }
         at += 1;
@@ -65,7 +63,7 @@ pub fn is_mailslot_name(s: &[u8]) -> bool
     name_run(s, 0) == s.len()
 }
 
-// Whether a SID of this count may have so many octets; none is no SID.
+// Whether a SID of this count has so many octets; no octets are no SID.
 pub fn is_sid_size(size: u32, count: u8) -> bool
     ensures { λ r. ⌜ r ≡ isSidSize size count ⌝ }
 {
@@ -81,22 +79,17 @@ pub fn is_message_sid(s: &[u8]) -> bool
     is_sid_size(s.len() as u32, octet_at(s, 1))
 }
 
-// Every limit of a message whose texts stand in a source; each number has its field's width already.
+// Every limit of a message whose texts stand in a source; each number has its field's width already. No test waits for another: most
+// messages pass them all.
 pub fn is_good_message(source: &[u8], message: Message) -> bool
     ensures { λ r. ⌜ r ≡ goodMessage (now (source .entry)) message ⌝ }
 {
     let computer = message.computer;
-    if !is_computer_name(part(source, computer.start, computer.len)) {
-        return false;
-    }
     let user = message.user;
-    if !is_message_user(part(source, user.start, user.len)) {
-        return false;
-    }
     let mailslot = message.mailslot;
-    if !is_mailslot_name(part(source, mailslot.start, mailslot.len)) {
-        return false;
-    }
     let sid = message.sid;
-    is_message_sid(part(source, sid.start, sid.len))
+    is_computer_name(part(source, computer.start, computer.len))
+        & is_message_user(part(source, user.start, user.len))
+        & is_mailslot_name(part(source, mailslot.start, mailslot.len))
+        & is_message_sid(part(source, sid.start, sid.len))
 }

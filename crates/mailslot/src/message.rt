@@ -5,6 +5,9 @@ use answers::Refusal;
 use answers::number_of;
 use reader::field::Stretch;
 
+// By its limits no message has more octets.
+pub const MESSAGE_MOST: usize = 316;
+
 // The texts are stretches of the message, or of a source that one is written from: computer and user in UTF-16LE, without the zero unit
 // that ends them, the mailslot's name without its zero octet, and the SID, of no octets where there is none.
 pub struct Message {

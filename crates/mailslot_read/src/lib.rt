@@ -1,2 +1,3 @@
 // A mailslot message, read.
+pub mod part;
 pub mod read;

@@ -65,7 +65,8 @@ fn put_sid_at(out: &mut [u8], at: usize, sid: &[u8]) -> usize
     ensures { λ r. ⌜ r ≡ at + length (paddedSid at (now (sid .entry))) ⌝ }
     ensures { λ _. ⌜ now (out .exit) ≡ overAt at (paddedSid at (now (sid .entry))) (now (out .entry)) ⌝ }
 {
-    let at = put_zeros_at(out, at, sid_padding(sid.len() as u32, at));
+    let size = sid.len() as u32;
+    let at = put_zeros_at(out, at, sid_padding(size, at));
     put_octets_at(out, at, sid)
 }
 

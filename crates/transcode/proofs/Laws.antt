@@ -4,4 +4,3 @@ pub mod Length
 pub mod Zeros
 pub mod Texts
 pub mod Point16
-pub mod Writing

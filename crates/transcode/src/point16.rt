@@ -1,4 +1,5 @@
-// UTF-16LE, code point by code point. The offset after one is told with it: found from the code point, it would have to wait for it.
+// UTF-16LE, code point by code point. The offset after one is told with it: worked out from the code point, it would make each turn of
+// a loop wait for what the last one read.
 ghost use Rattle.transcode.specs.Internal.Point16.{PointRead16};
 use octets::number::u16_at;
 use unicode::utf8::PointAt;

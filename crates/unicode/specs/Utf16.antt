@@ -28,9 +28,8 @@ pointOctets c =
     (littleOctets 2 c)
     (littleOctets 2 (highUnit c) ++ littleOctets 2 (lowUnit c))
 
-unfoldable pub pointsOctets : List ℕ → List ℕ
-pointsOctets [] = []
-pointsOctets (c ∷ cs) = pointOctets c ++ pointsOctets cs
+abbrev pub pointsOctets : List ℕ → List ℕ
+pointsOctets = flatMap pointOctets
 
 -- a text that is UTF-8, in UTF-16LE
 unfoldable pub utf16 : List ℕ → List ℕ

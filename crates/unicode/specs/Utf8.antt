@@ -6,7 +6,7 @@ use Prim.Native.Nat.{ℕ, zero, suc, _+_, _*_, _/_, _%_}
 use lib.Dec.{eqb, ltb}
 use Rattle.octets.specs.{Lists.isSome, Text.within}
 
--- a character read in part: octets still to come, the range of the next one, and the code point's bits so far
+-- a character read in part: octets (in UTF-16LE units) still to come, the range of the next one, and the code point's bits so far
 pub record Partial : Type 0 where
   pub left : ℕ
   pub low : ℕ

@@ -10,7 +10,7 @@ use crate::choose::ClientAddress;
 use crate::filter::Clauses;
 use crate::octets::utf8_octets;
 use crate::reply::{answer_clauses, Answer};
-use crate::table::read_table;
+use crate::table::{read_table, Table};
 use reader::read_message;
 
 /// The fields of one message, its texts without what ends them. Computer and user are in UTF-16LE; of no SID there are
@@ -34,7 +34,11 @@ pub fn answer_message(
     message: &[u8],
     buffer: &mut [u8],
 ) -> Result<Answer, Refusal> {
-    let table = read_table(image)?;
+    answer_over(&read_table(image)?, client, message, buffer)
+}
+
+/// The same from a table that was read before.
+pub fn answer_over(table: &Table, client: ClientAddress, message: &[u8], buffer: &mut [u8]) -> Result<Answer, Refusal> {
     let message = read_message(message)?;
     // The reader judged the user, so that it has UTF-8 octets.
     let user = utf8_octets(message.user).ok_or(Refusal::MessageShape)?;
@@ -45,7 +49,7 @@ pub fn answer_message(
         domain_sid: unless_empty(message.sid),
         ..Clauses::default()
     };
-    answer_clauses(&table, client, &clauses, message.version, buffer)
+    answer_clauses(table, client, &clauses, message.version, buffer)
 }
 
 /// A field as a clause: an empty one is none, unlike in a filter.

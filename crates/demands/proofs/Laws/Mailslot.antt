@@ -1,7 +1,7 @@
 -- What holds of the answers to mailslot messages: from the ping that a message is, and the law of every reply.
 use mathlib.Core.Path.{_≡_, refl, sym, ap, _∙_, subst}
 use mathlib.Core.Bool.{Bool, true, false, not, _&&_}
-use mathlib.Core.List.{List, [], _∷_}
+use mathlib.Core.List.{List, [], _∷_, flatMap}
 use mathlib.Core.Option.{Option, none, some, Option·map, Option·getD}
 use Prim.Native.Nat.{ℕ, _+_, _<_}
 use native.Mathlib.Nat.{zero-add}
@@ -38,7 +38,7 @@ use Rattle.table_whole.specs.Judgement.{tableIn}
 use Rattle.transcode.specs.Transcode.{areOctets}
 use Rattle.transcode.proofs.Laws.Texts.{to-8}
 use Rattle.unicode.specs.Utf8.{pointsFrom, isUtf8}
-use Rattle.unicode.specs.Utf16.{pointsOctets, utf16}
+use Rattle.unicode.specs.Utf16.{utf16}
 use Rattle.unicode.proofs.Laws.OneText.{one-text}
 use Rattle.demands.specs.Derivation.{GivesGoodPings, GoodPing}
 use Rattle.demands.specs.Mailslot.{WaysIn, Says, SaidBy, AsksAlike, AsFilter, NoApplicationFlag, UserUnits, UserAsSent}
@@ -100,7 +100,7 @@ unfolding isUtf8 pointsFrom
 empty-utf8 = refl
 
 empty-units : utf16 [] ≡ []
-unfolding utf16 pointsFrom pointsOctets
+unfolding utf16 pointsFrom flatMap
 empty-units = refl
 
 -- the user's text, by the units that were sent
@@ -172,4 +172,6 @@ module _ (s : List ℕ) (m : Message) (g : List ℕ) (r : Request) (o : areOctet
 pub as-filter : AsFilter
 unfolding answerBy
 as-filter s m g r o e alike = let same = asked-alike s m g r o e alike in (
-    same, λ image caller room. ap (λ (x : Try Ping). tableIn image >>= λ (t : Table). x >>= λ (p : Ping). answerOver t caller p room) same)
+  same,
+  λ image caller room. ap (λ (x : Try Ping). tableIn image >>= λ (t : Table). x >>= λ (p : Ping). answerOver t caller p room) same,
+)

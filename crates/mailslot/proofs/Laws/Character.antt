@@ -5,8 +5,8 @@ use mathlib.Core.List.{List, [], _∷_, _++_, flatMap}
 use mathlib.Core.Option.{Option, none, some, Option·map}
 use Prim.Native.Nat.{ℕ, zero, suc, _+_, _*_, _-_, _%_, _≤_, _<_}
 use native.Mathlib.Omega.{arith}
-use lib.Dec.{eqb, leb, ltb}
-use lib.ListN.{length, getD, take, drop, length-append, length-take, length-drop}
+use lib.Dec.{leb, ltb}
+use lib.ListN.{length, getD, length-append, length-take, length-drop}
 use borrow.Author.Tests.{ne-eqb, lt-leb, lt-ltb, le-ltb, ltb-true, ltb-false}
 use Rattle.octets.specs.Lists.{all, cut, holds}
 use Rattle.octets.specs.NameRule.{without, userNameMost}
@@ -14,10 +14,10 @@ use Rattle.octets.specs.Number.{little, u16At}
 use Rattle.octets.proofs.Laws.Lists.{cut-cons, cond-has}
 use Rattle.octets.proofs.Laws.Number.{u16-octets}
 use Rattle.octets.proofs.Laws.Text.{within-range, without-range}
-use Rattle.unicode.specs.Utf8.{Partial, Decoded, bad, point, Decoder, between, partway, onDecoded, utf8Of}
+use Rattle.unicode.specs.Utf8.{Partial, Decoder, between, partway, onDecoded, utf8Of}
 use Rattle.unicode.specs.Utf16.{lead16, follow16, decode16, pointsFrom16, pointsOf16}
 use Rattle.unicode.proofs.Laws.OneText.{afterHigh, lead-plain, lead-high, follow-low}
-use Rattle.mailslot.specs.Internal.Runs.{userLeft, Stops, Character, CharacterSize, octetsFor}
+use Rattle.mailslot.specs.Internal.Runs.{userLeft, Stops, Character, CharacterSize}
 
 -- ---- by the code points that are left
 
@@ -80,7 +80,7 @@ alone i (x ∷ y ∷ l) k = absurd (omega arith)
 
 module _ (s : List ℕ) (at : ℕ) where
   -- a stretch from its first unit on
-  by-unit : (d : Decoder) (u m : ℕ) → u ≡ u16At s at → at + 2 ≤ length s → pointsFrom16 d (cut s at (2 + m)) ≡ onDecoded (decode16 d u) (λ n. pointsFrom16 n (cut s (at + 2) m))
+  pub by-unit : (d : Decoder) (u m : ℕ) → u ≡ u16At s at → at + 2 ≤ length s → pointsFrom16 d (cut s at (2 + m)) ≡ onDecoded (decode16 d u) (λ n. pointsFrom16 n (cut s (at + 2) m))
   unfolding pointsFrom16 little
   by-unit d u m e h =
       let two : at + 1 + 1 ≡ at + 2 = omega arith in
@@ -185,7 +185,7 @@ module _ (s : List ℕ) (at u : ℕ) (e : u ≡ u16At s at) (h : at + 4 ≤ leng
   pub pair-stands : 0xDC00 ≤ v → v ≤ 0xDFFF → CharacterSize s at 4
   pair-stands a b = record { most = omega arith; stands = λ q. stood a b; lacks = λ q. absurd (omega arith) }
 
-  pub high-lone : (0xDC00 ≤ v → 0xDFFF < v) → CharacterSize s at 0
+  pub high-lone : (0xDC00 ≤ v → 0xE000 ≤ v) → CharacterSize s at 0
   unfolding follow16
   high-lone l = lacking s at u e (omega arith) (λ size m q. go size m (ltb m 2) refl)
     where
@@ -193,4 +193,4 @@ module _ (s : List ℕ) (at u : ℕ) (e : u ≡ u16At s at) (h : at + 4 ≤ leng
       go size m true p = high-short s at u e (omega arith) k n size m (ltb-true m 2 p)
       go size m false p =
           let more : 2 + m ≡ 4 + (m - 2) = omega (arith, ltb-false m 2 p) in
-          rw more (left-both size (m - 2) ∙ rw (without-range 0xDC00 0xDFFF v l))
+          rw more (left-both size (m - 2) ∙ rw (without-range 0xDC00 0xDFFF v (λ k. omega (arith, l k))))

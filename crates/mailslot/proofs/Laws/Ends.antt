@@ -2,27 +2,31 @@
 use mathlib.Core.Path.{_≡_, refl, sym, ap, ap₂, _∙_, subst}
 use mathlib.Core.Bool.{Bool, true, false, cond}
 use mathlib.Core.List.{List, [], _∷_, _++_}
-use Prim.Native.Nat.{ℕ, zero, suc, _+_, _-_, _≤_, _<_}
+use mathlib.Core.Option.{Option, none, some, Option·map}
+use Prim.Native.Nat.{ℕ, zero, suc, _+_, _*_, _-_, _%_, _≤_, _<_}
 use native.Mathlib.Omega.{arith}
 use lib.Dec.{eqb, leb}
-use lib.ListN.{length, getD, take, drop, length-take, length-drop, take-append-drop, length-append}
+use lib.ListN.{length, getD, drop, length-drop, take-append-drop}
 use lib.Seq.{drop-drop, drop-cons, getD-drop}
-use borrow.Author.Tests.{eqb-true, ne-eqb}
+use borrow.Author.Tests.{eqb-true, eqb-false, ne-eqb}
 use Rattle.answers.specs.declared.Refusal.the-variants.{ReplyCut, ReplyText}
-use Rattle.answers.specs.Try.{Try, good}
+use Rattle.answers.specs.Try.{good}
 use Rattle.answers.proofs.Laws.Try.{good-then, refused-not-good, good-same}
-use Rattle.octets.specs.Lists.{all, cut}
+use Rattle.octets.specs.{Lists.all, Lists.cut, Lists.holds, NameRule.without}
 use Rattle.octets.specs.Number.{little, u16At}
 use Rattle.octets.proofs.Laws.Lists.{both-left, both-right, cut-length}
 use Rattle.octets.proofs.Laws.Text.{within-low}
-use Rattle.unicode.specs.Utf16.{isHigh, isLow}
-use Rattle.reader.specs.Field.{Read, readOctets, readStretch}
+use Rattle.unicode.specs.Utf8.{Decoder, between, partway, onDecoded}
+use Rattle.unicode.specs.Utf16.{isHigh, isLow, lead16, follow16, decode16, pointsFrom16}
+use Rattle.unicode.proofs.Laws.OneText.{afterHigh}
+use Rattle.reader.specs.Field.{Read, stretchOf, readOctets, readStretch}
 use Rattle.reader.specs.declared.field.Stretch.{Stretch}
 use Rattle.reader.specs.declared.text.Unit16.the-variants.{Ends, Plain, High, Low}
 use Rattle.reader.specs.Text.{unitOf, turn, onTurn, readTextFrom, readText}
-use Rattle.mailslot.specs.Message.{isMailslotName, beforeZero, readZeroEnded}
+use Rattle.mailslot.specs.Message.{isText16, isMailslotName, beforeZero, readZeroEnded}
 use Rattle.mailslot.specs.Internal.Runs.{ofName}
 use Rattle.mailslot.specs.Internal.Shape.{EndsName}
+use Rattle.mailslot.proofs.Laws.Character.{by-unit}
 use Rattle.mailslot.proofs.Laws.Field.{octets-there, octets-read, stretch-there, stretch-read}
 
 -- ---- a text of UTF-16LE
@@ -30,47 +34,96 @@ use Rattle.mailslot.proofs.Laws.Field.{octets-there, octets-read, stret
 abbrev pub textField : ℕ → ℕ → Read Stretch
 textField start end = record { value = record { start = start; len = end - start }; next = end + 2 }
 
--- a zero unit from `start` on
-pub record ZeroUnit (s : List ℕ) (start : ℕ) : Type 0 where
+-- a text from `at` on, read by a decoder: it ends at a zero unit, and has code points up to there, none of them zero
+pub record TextTo (s : List ℕ) (at : ℕ) (d : Decoder) : Type 0 where
   pub end : ℕ
-  pub from : start ≤ end
+  pub from : at ≤ end
   pub to : end + 2 ≤ length s
   pub zero : u16At s end ≡ 0
+  pub points : holds (without 0) (pointsFrom16 d (cut s at (end - at))) ≡ true
 
-abbrev pub TextGot : List ℕ → ℕ → Read Stretch → Type 0
-TextGot s start f = (z : ZeroUnit s start) × (f ≡ textField start (z .end))
+-- the decoder that stands where the reader does, after a high surrogate or not
+abbrev Stands : Bool → Decoder → Type 0
+Stands false between = Unit {0}
+Stands false (partway i) = ⊥
+Stands true between = ⊥
+Stands true (partway i) = (i .low ≡ 0xDC00) × (i .high ≡ 0xDFFF) × (1 ≤ i .bits)
 
-text-from : (k : ℕ) (s : List ℕ) (start at : ℕ) (h : Bool) (f : Read Stretch) → start ≤ at → readTextFrom k s start at h ≡ good f → TextGot s start f
-unfolding readTextFrom unitOf
-text-from zero s start at h f b e = absurd (refused-not-good ReplyCut f e)
-text-from (suc k) s start at h f b e =
-    let u = good-then (readOctets s at 2) _ f e in
-    let o = octets-read s at 2 (u .0) (u .1) in
-    let here = subst After (o .1) (u .2) in
-    by h (eqb (u16At s at) 0) (isHigh (u16At s at)) (isLow (u16At s at)) refl here (λ g q. text-from k s start (at + 2) g f (omega arith) q) (o .0)
-  where
-    After : Read (List ℕ) → Type 0
-    After x =
-        onTurn (turn h (unitOf (little (x .value)))) (good (record { value = record { start = start; len = at - start }; next = x .next })) (λ g. readTextFrom k s start (x .next) g)
-        ≡ good f
+some-point : (c : ℕ) (o : Option (List ℕ)) → 1 ≤ c → holds (without 0) (Option·map (λ cs. c ∷ cs) o) ≡ holds (without 0) o
+unfolding all
+some-point c none h = refl
+some-point c (some cs) h = rw (ne-eqb c 0 (λ z. omega arith))
 
-    by : (h end p q : Bool) → eqb (u16At s at) 0 ≡ end
-        → onTurn (turn h (cond end Ends (cond p High (cond q Low Plain)))) (good (textField start at)) (λ g. readTextFrom k s start (at + 2) g) ≡ good f
-        → ((g : Bool) → readTextFrom k s start (at + 2) g ≡ good f → TextGot s start f)
-        → at + 2 ≤ length s
-        → TextGot s start f
-    by false true p q z e deeper l = (record { end = at; from = b; to = l; zero = eqb-true (u16At s at) 0 z }, sym (good-same e))
-    by true true p q z e deeper l = absurd (refused-not-good ReplyText f e)
-    by false false true q z e deeper l = deeper true e
-    by true false true q z e deeper l = absurd (refused-not-good ReplyText f e)
-    by false false false true z e deeper l = absurd (refused-not-good ReplyText f e)
-    by true false false true z e deeper l = deeper false e
-    by false false false false z e deeper l = deeper false e
-    by true false false false z e deeper l = absurd (refused-not-good ReplyText f e)
+module _ (s : List ℕ) (start : ℕ) (f : Read Stretch) where
+  abbrev Got : ℕ → Decoder → Type 0
+  Got at d = (t : TextTo s at d) × (f ≡ textField start (t .end))
 
-pub text-got : (s : List ℕ) (start : ℕ) (f : Read Stretch) → readText s start ≡ good f → TextGot s start f
-unfolding readText
-text-got s start f e = text-from (suc (length s)) s start start false f (omega arith) e
+  -- one unit further
+  unit-further : (at : ℕ) (d n : Decoder) → at + 2 ≤ length s
+      → ((o : Decoder → Option (List ℕ)) → holds (without 0) (onDecoded (decode16 d (u16At s at)) o) ≡ holds (without 0) (o n))
+      → Got (at + 2) n → Got at d
+  unit-further at d n l led g =
+      let m : ℕ = g .0 .end - (at + 2) in
+      let k : g .0 .end - at ≡ 2 + m = omega (arith, g .0 .from) in (
+        record {
+          end = g .0 .end;
+          from = omega (arith, g .0 .from);
+          to = g .0 .to;
+          zero = g .0 .zero;
+          points = ap (λ (i : ℕ). holds (without 0) (pointsFrom16 d (cut s at i))) k
+              ∙ ap (holds (without 0)) (by-unit s at d (u16At s at) m refl l)
+              ∙ led (λ x. pointsFrom16 x (cut s (at + 2) m))
+              ∙ g .0 .points;
+        },
+        g .1,
+      )
+
+  text-from : (k at : ℕ) (h : Bool) (d : Decoder) → Stands h d → readTextFrom k s start at h ≡ good f → Got at d
+  unfolding readTextFrom unitOf pointsFrom16 all lead16 follow16
+  text-from zero at h d w e = absurd (refused-not-good ReplyCut f e)
+  text-from (suc k) at h d w e =
+      let o = good-then (readOctets s at 2) _ f e in
+      let g = octets-read s at 2 (o .0) (o .1) in
+      let here = subst After (g .1) (o .2) in
+      by h d (eqb u 0) (isHigh u) (isLow u) w refl refl refl here (λ h d w q. text-from k (at + 2) h d w q) (g .0)
+    where
+      u : ℕ
+      u = u16At s at
+
+      After : Read (List ℕ) → Type 0
+      After x =
+          onTurn (turn h (unitOf (little (x .value)))) (good (record { value = record { start = start; len = at - start }; next = x .next })) (λ g. readTextFrom k s start (x .next) g)
+          ≡ good f
+
+      by : (h : Bool) (d : Decoder) (end p q : Bool) → Stands h d → eqb u 0 ≡ end → isHigh u ≡ p → isLow u ≡ q
+          → onTurn (turn h (cond end Ends (cond p High (cond q Low Plain)))) (good (textField start at)) (λ g. readTextFrom k s start (at + 2) g) ≡ good f
+          → ((g : Bool) (n : Decoder) → Stands g n → readTextFrom k s start (at + 2) g ≡ good f → Got (at + 2) n)
+          → at + 2 ≤ length s
+          → Got at d
+      by false between true p q w z hi lo e deeper l =
+          let none : at - at ≡ 0 = omega arith in
+          (record { end = at; from = omega arith; to = l; zero = eqb-true u 0 z; points = ap (λ (i : ℕ). holds (without 0) (pointsFrom16 between (cut s at i))) none }, sym (good-same e))
+      by false between false true q w z hi lo e deeper l =
+          unit-further at between (partway (afterHigh u)) l (λ o. rw hi) (deeper true (partway (afterHigh u)) (refl, refl, omega arith) e)
+      by false between false false true w z hi lo e deeper l = absurd (refused-not-good ReplyText f e)
+      by false between false false false w z hi lo e deeper l =
+          unit-further at between between l (λ o. rw (hi, lo) (some-point u (o between) (omega (arith, eqb-false u 0 z)))) (deeper false between tt e)
+      by true (partway i) true p q w z hi lo e deeper l = absurd (refused-not-good ReplyText f e)
+      by true (partway i) false true q w z hi lo e deeper l = absurd (refused-not-good ReplyText f e)
+      by true (partway i) false false true w z hi lo e deeper l =
+          let c : ℕ = i .bits * 1024 + u % 1024 in
+          unit-further at (partway i) between l (λ o. rw (w .0, w .1, lo) (some-point c (o between) (omega (arith, w .2)))) (deeper false between tt e)
+      by true (partway i) false false false w z hi lo e deeper l = absurd (refused-not-good ReplyText f e)
+      by false (partway i) end p q w z hi lo e deeper l = absurd w
+      by true between end p q w z hi lo e deeper l = absurd w
+
+  pub text-got : readText s start ≡ good f → Got start between
+  unfolding readText
+  text-got e = text-from (suc (length s)) start false between tt e
+
+  -- where a text is read its octets have code points, and none is zero
+  pub text-is-text : readText s start ≡ good f → isText16 (stretchOf s (f .value)) ≡ true
+  text-is-text e = let g = text-got e in subst (λ (x : Read Stretch). isText16 (stretchOf s (x .value)) ≡ true) (sym (g .1)) (g .0 .points)
 
 -- ---- a text that a zero octet ends
 

@@ -1,6 +1,6 @@
 -- A field that was read: where it stands and what it is; and the other way round.
-use mathlib.Core.Path.{_≡_, refl, sym, ap, ap₂, _∙_, subst}
-use mathlib.Core.Bool.{Bool, true, false, not}
+use mathlib.Core.Path.{_≡_, sym, ap, ap₂, _∙_, subst}
+use mathlib.Core.Bool.{not}
 use mathlib.Core.List.{List, [], _∷_}
 use Prim.Native.Nat.{ℕ, _+_, _*_, _/_, _%_, _^_, _≤_, _<_}
 use native.Mathlib.Omega.{arith}
@@ -8,7 +8,7 @@ use lib.Dec.{eqb, ltb}
 use lib.ListN.{length, getD}
 use borrow.Author.Tests.{ltb-false, le-ltb, eqb-true, eq-eqb, not-false}
 use Rattle.answers.specs.declared.Refusal.the-variants.{ReplyCut, ReplyFixed, ReplyLeftOver}
-use Rattle.answers.specs.Try.{Try, good, refusedIf, _>>=_}
+use Rattle.answers.specs.Try.{Try, good, _>>=_}
 use Rattle.answers.specs.Wire.{LmNtToken, Lm20Token}
 use Rattle.answers.proofs.Laws.Try.{good-then, refusedIf-good, good-same}
 use Rattle.octets.specs.Lists.{cut}

@@ -1,24 +1,23 @@
 -- The longest message: limit by limit, in the order of its fields.
-use mathlib.Core.Path.{_≡_, refl, sym, ap, _∙_}
+use mathlib.Core.Path.{_≡_, refl, sym}
 use mathlib.Core.Bool.{Bool, true, false, cond, _&&_, _||_}
-use mathlib.Core.List.{List, [], _∷_, _++_}
+use mathlib.Core.List.{List, [], _∷_}
 use mathlib.Core.Option.{Option, none, some}
-use Prim.Native.Nat.{ℕ, _+_, _*_, _-_, _≤_, _<_}
+use Prim.Native.Nat.{ℕ, _+_, _*_, _-_, _≤_}
 use native.Mathlib.Omega.{arith}
 use lib.Dec.{eqb, leb}
 use lib.ListN.{length, getD, length-append, length-replicate}
 use borrow.Author.Tests.{leb-true, eqb-true}
 use Rattle.octets.specs.{Lists.all, Lists.cut, Lists.holds, NameRule.without, Text.within}
 use Rattle.octets.specs.Number.{u32At, littleOctets}
-use Rattle.octets.proofs.Laws.Lists.{both-left, both-right, cut-length, other-right, true-not-false}
-use Rattle.octets.proofs.Laws.Number.{length-little}
+use Rattle.octets.proofs.Laws.Lists.{both-left, cut-length, true-not-false}
 use Rattle.octets.proofs.Laws.Text.{within-high}
 use Rattle.reader.specs.Field.{stretchOf}
 use Rattle.reply.specs.Reply.{ending}
-use Rattle.unicode.specs.{UserName.isUserName, Utf8.isUtf8, Utf16.pointsOf16, Utf16.utf8From16}
+use Rattle.unicode.specs.{UserName.isUserName, Utf8.isUtf8, Utf16.utf8From16}
 use Rattle.transcode.proofs.Laws.Length.{one-a-unit}
 use Rattle.mailslot.specs.declared.message.Message.{Message}
-use Rattle.mailslot.specs.Message.{isComputerName, isMessageUser, isMailslotName, isMessageSid, padding, messageHead, paddedSid, messageOctets}
+use Rattle.mailslot.specs.Message.{isMessageUser, isMailslotName, isMessageSid, padding, messageHead, paddedSid, messageOctets}
 use Rattle.mailslot.specs.Longest.{LongestMessage}
 use Rattle.mailslot.specs.Internal.Runs.{ofName}
 use Rattle.mailslot.specs.Internal.Shape.{sidPadding, isSidSize, EndsText}
@@ -51,7 +50,7 @@ size-most size count e = go (eqb size 0) refl e
     go true q e = omega (arith, eqb-true size 0 q)
     go false q e = within-high 8 68 size (both-left (within 8 68 size) (eqb size (8 + 4 * count)) e)
 
-sid-most : (x : List ℕ) → isMessageSid x ≡ true → length x ≤ 68
+pub sid-most : (x : List ℕ) → isMessageSid x ≡ true → length x ≤ 68
 unfolding isMessageSid
 sid-most x e = size-most (length x) (getD x 1 0) e
 

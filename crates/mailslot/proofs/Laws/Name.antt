@@ -1,18 +1,30 @@
 -- The name of a mailslot, octet by octet.
 use mathlib.Core.Path.{_≡_, refl, sym, ap, _∙_}
-use mathlib.Core.Bool.{Bool, true, false}
+use mathlib.Core.Bool.{Bool, true, false, not, _||_}
 use mathlib.Core.List.{List}
 use Prim.Native.Nat.{ℕ, suc, _+_, _-_, _≤_, _<_}
 use native.Mathlib.Omega.{arith}
 use lib.Dec.{eqb, leb, ltb}
-use lib.ListN.{length, getD, take, drop, length-take, length-drop}
+use lib.ListN.{length, getD, drop, length-take, length-drop}
 use lib.Seq.{getD-take, getD-drop, take-length}
 use borrow.Author.Tests.{eqb-true, eqb-false, ltb-true, ltb-false, leb-true, le-leb}
 use Rattle.octets.specs.Lists.{all, cut}
 use Rattle.octets.proofs.Laws.Lists.{every-all, every-at, all-last, cut-length, both-left, both-right, true-not-false}
+use Rattle.octets.proofs.Laws.Text.{within-range, without-range}
 use Rattle.mailslot.specs.Message.{isMailslotName}
 use Rattle.mailslot.specs.Internal.Runs.{ofName, NameRun}
 use Rattle.mailslot.specs.Internal.Shape.{EndsName}
+
+-- an octet of a name, by the test that the code makes
+pub name-octet : (x : ℕ) → (eqb x 0 || ltb 0x7F x) ≡ not (ofName x)
+name-octet x = go (eqb x 0) (ltb 0x7F x) refl refl
+  where
+    go : (a b : Bool) → eqb x 0 ≡ a → ltb 0x7F x ≡ b → (a || b) ≡ not (ofName x)
+    go true b p q = let z : x ≡ 0 = eqb-true x 0 p in rw z
+    go false true p q = let h : 0x7F < x = ltb-true 0x7F x q in rw (without-range 1 0x7F x (λ k. h))
+    go false false p q =
+        let h : 1 ≤ x = omega (arith, eqb-false x 0 p) in
+        rw (within-range 1 0x7F x h (ltb-false 0x7F x q))
 
 -- what holds of each element of a stretch holds of the one at an offset
 pub all-at : (p : ℕ → Bool) (s : List ℕ) (start n i : ℕ) → start ≤ i → i < start + n → i < length s → all p (cut s start n) ≡ true → p (getD s i 0) ≡ true

@@ -5,7 +5,7 @@ use mathlib.Core.List.{List, flatMap}
 use Prim.Native.Nat.{ℕ, zero, suc, _+_, _-_, _≤_, _<_}
 use native.Mathlib.Nat.{add-zero}
 use native.Mathlib.Omega.{arith}
-use lib.Dec.{eqb, ltb, leb}
+use lib.Dec.{eqb, ltb}
 use lib.ListN.{length}
 use lib.Seq.{take-length}
 use borrow.Author.Tests.{eqb-true, eqb-false, ltb-true, ltb-false, le-leb}
@@ -16,17 +16,9 @@ use Rattle.octets.proofs.Laws.Lists.{true-not-false}
 use Rattle.transcode.specs.Transcode.{areOctets}
 use Rattle.unicode.specs.Utf16.{pointsFrom16}
 use Rattle.mailslot.specs.Message.{isMessageUser}
-use Rattle.mailslot.specs.Internal.Runs.{userLeft, Stops, Character, TextRun}
+use Rattle.mailslot.specs.Internal.Runs.{userLeft, Stops, Character, Running, TextRun}
 use Rattle.mailslot.specs.Internal.Shape.{EndsText}
-use Rattle.mailslot.proofs.Laws.Character.{one-octet, left-over}
-
--- a user from `start` to `at`, of `size` octets of UTF-8, goes on as what is left does
-pub record Running (s : List ℕ) (start at size : ℕ) : Type 0 where
-  pub from : start ≤ at
-  pub to : at ≤ length s
-  pub small : size ≤ userNameMost
-  pub left : (m : ℕ) → isMessageUser (cut s start (at - start + m)) ≡ userLeft size (cut s at m)
-  pub before : (other : ℕ) → EndsText isMessageUser s start other → at ≤ other
+use Rattle.mailslot.proofs.Laws.Character.{one-octet, left-over, plain-stands, octet-alone}
 
 module _ (s : List ℕ) (start : ℕ) where
   pub run-starts : start ≤ length s → ((m : ℕ) → isMessageUser (cut s start m) ≡ userLeft 0 (cut s start m)) → Running s start start 0
@@ -65,6 +57,10 @@ module _ (s : List ℕ) (start : ℕ) where
         past other e true false p q =
             let h : at ≡ other = omega (arith, ltb-false at other q, r .before other e) in
             absurd (c .some (ap (u16At s) h ∙ e .zero))
+
+    -- or one plain letter
+    pub plain-goes : (u : ℕ) → u ≡ u16At s at → at + 2 ≤ length s → 1 ≤ u → u ≤ 0x7F → size < userNameMost → Running s start (at + 2) (size + 1)
+    plain-goes u e h a b l = run-goes 2 1 (plain-stands s at u e h 1 a (λ q. omega arith) (octet-alone u (omega arith)) (omega arith) .stands (omega arith)) (omega arith)
 
     -- nothing goes on here
     pub run-stops : areOctets s ≡ true → Stops s at size → TextRun s start at

@@ -2,15 +2,15 @@
 use mathlib.Core.Path.{_≡_, refl, sym, ap, _∙_, subst}
 use mathlib.Core.Bool.{Bool, true, false, not, _&&_, and-true}
 use mathlib.Core.List.{List}
-use Prim.Native.Nat.{ℕ, _+_, _*_, _-_, _≤_, _<_}
+use Prim.Native.Nat.{ℕ, _+_, _-_, _≤_, _<_}
 use native.Mathlib.Omega.{arith}
 use lib.Dec.{eqb, ltb}
-use lib.ListN.{length, getD}
-use borrow.Author.Tests.{ltb-true, lt-ltb, not-false}
+use lib.ListN.{length}
+use borrow.Author.Tests.{lt-ltb, ltb-true, not-false}
 use Rattle.answers.specs.declared.Refusal.the-variants.{MailslotShape}
 use Rattle.answers.specs.Try.{Try, refused, good, refusedIf, _>>=_}
 use Rattle.answers.specs.Wire.{LOGON-SAM-LOGON-REQUEST, LmNtToken, Lm20Token}
-use Rattle.answers.proofs.Laws.Try.{good-then, refusedIf-good, refused-not-good, good-same}
+use Rattle.answers.proofs.Laws.Try.{good-then, refusedIf-good, refused-not-good}
 use Rattle.octets.specs.Lists.{cut}
 use Rattle.octets.specs.Number.{littleOctets, u16At, u32At}
 use Rattle.octets.proofs.Laws.Lists.{both-left, both-right, every-at}
@@ -20,7 +20,7 @@ use Rattle.reader.specs.Reader.{readConstant, readNumber}
 use Rattle.reader.specs.Text.{readText}
 use Rattle.mailslot.specs.declared.message.Message.{Message}
 use Rattle.mailslot.specs.Message.{isComputerName, isMessageUser, isMailslotName, isMessageSid, goodMessage, readZeroEnded, readSid, readFields, asShape, messageIn}
-use Rattle.mailslot.specs.Internal.Shape.{EndsText, EndsName, Texts, Numbers, sidPadding, messageAt}
+use Rattle.mailslot.specs.Internal.Shape.{Texts, Numbers, sidPadding, messageAt}
 use Rattle.mailslot.proofs.Laws.Field.{Octets, then-known, octets-there, octets-read, number-there, number-read, constant-there, constant-read, tokens-there, tokens-read}
 use Rattle.mailslot.proofs.Laws.Ends.{textField, text-got, nameField, name-got, name-read}
 use Rattle.mailslot.proofs.Laws.User.{computer-read, user-read}
@@ -84,19 +84,13 @@ module _ (s : List ℕ) (m : Message) where
       let r : repeated ≡ true = both-left repeated (isComputerName (stretchOf s (m .computer))) (both-left named (isMessageUser (stretchOf s (m .user))) u) in
       (ltb-true (m .repeat) 0x10000 r, ltb-true (m .bits) 0x100000000 (both-right slotted (ltb (m .bits) 0x100000000) b), ltb-true (m .version) 0x100000000 (both-right told (ltb (m .version) 0x100000000) e))
 
-  pub not-good : (GoodParts s m → ⊥) → false ≡ goodMessage s m
-  not-good none = go (goodMessage s m) refl
-    where
-      go : (b : Bool) → goodMessage s m ≡ b → false ≡ b
-      go true e = absurd (none (good-parts e))
-      go false e = refl
-
-  -- where the others are good, the SID decides
-  pub good-by-sid : m .repeat < 0x10000 → isComputerName (stretchOf s (m .computer)) ≡ true → isMessageUser (stretchOf s (m .user)) ≡ true → isMailslotName (stretchOf s (m .mailslot)) ≡ true
-      → m .bits < 0x100000000 → m .version < 0x100000000 → isMessageSid (stretchOf s (m .sid)) ≡ goodMessage s m
+  -- the numbers have the widths of their fields: the texts and the SID decide
+  pub good-by-parts : m .repeat < 0x10000 → m .bits < 0x100000000 → m .version < 0x100000000
+      → (isComputerName (stretchOf s (m .computer)) && isMessageUser (stretchOf s (m .user)) && isMailslotName (stretchOf s (m .mailslot)) && isMessageSid (stretchOf s (m .sid))) ≡ goodMessage s m
   unfolding goodMessage
-  good-by-sid r c u a b v =
-      rw (lt-ltb (m .repeat) 0x10000 r, c, u, a, lt-ltb (m .bits) 0x100000000 b, lt-ltb (m .version) 0x100000000 v) (sym (and-true (isMessageSid (stretchOf s (m .sid)))))
+  good-by-parts r b v =
+      let texts : Bool = isComputerName (stretchOf s (m .computer)) && isMessageUser (stretchOf s (m .user)) && isMailslotName (stretchOf s (m .mailslot)) in
+      rw (lt-ltb (m .repeat) 0x10000 r, lt-ltb (m .bits) 0x100000000 b, lt-ltb (m .version) 0x100000000 v, and-true texts, and-true (texts && isMessageSid (stretchOf s (m .sid))))
 
 -- ---- what reads has the shape
 
@@ -224,8 +218,9 @@ module _ (s : List ℕ) (computer user mailslot sid : ℕ) (o : Octets s) (t : T
       let l : 4 ≤ length s = omega (arith, t .computerEnds .from, t .computerEnds .to) in
       let e : sid + size + 8 ≡ length s = n .ends in
       let k : bits + 8 ≤ sid = omega (arith, n .sidStarts) in
-      sym (good-by-sid s (messageAt s computer user mailslot sid) (u16-fits s 2 o (omega arith)) (t .computerEnds .text) (t .userEnds .text) (t .mailslotEnds .name) (u32-fits s bits o (omega arith)) (u32-fits s (sid + size) o (omega arith)))
-      ∙ sid-judged s sid size (omega arith) ∙ n .sized
+      let told : isMessageSid (cut s sid size) ≡ true = sid-judged s sid size (omega arith) ∙ n .sized in
+      sym (good-by-parts s (messageAt s computer user mailslot sid) (u16-fits s 2 o (omega arith)) (u32-fits s bits o (omega arith)) (u32-fits s (sid + size) o (omega arith)))
+      ∙ rw (t .computerEnds .text, t .userEnds .text, t .mailslotEnds .name, told)
 
   pub shape-read : messageIn s ≡ good (messageAt s computer user mailslot sid)
   unfolding messageIn

@@ -1,5 +1,5 @@
 -- The SID of a message: its size, its padding, and how it is read.
-use mathlib.Core.Path.{_≡_, refl, sym, ap, ap₂, _∙_, subst}
+use mathlib.Core.Path.{_≡_, refl, ap, _∙_}
 use mathlib.Core.Bool.{Bool, true, false, cond}
 use mathlib.Core.List.{List}
 use Prim.Native.Nat.{ℕ, _+_, _≤_, _<_}
@@ -8,12 +8,12 @@ use native.Mathlib.Omega.{arith}
 use lib.Dec.{eqb, ltb}
 use lib.ListN.{length, getD, drop}
 use lib.Seq.{getD-take, getD-drop}
-use borrow.Author.Tests.{ne-eqb, eq-eqb, eqb-true, eqb-false, ltb-true, ltb-false}
+use borrow.Author.Tests.{ne-eqb, eqb-true, ltb-true, ltb-false}
 use Rattle.answers.specs.Try.{good}
 use Rattle.octets.specs.Lists.{cut}
 use Rattle.octets.proofs.Laws.Lists.{cut-length}
 use Rattle.octets.proofs.Laws.Text.{without-range}
-use Rattle.reader.specs.Field.{Read, readOctets, readStretch}
+use Rattle.reader.specs.Field.{Read, readOctets}
 use Rattle.reader.specs.declared.field.Stretch.{Stretch}
 use Rattle.mailslot.specs.Message.{isMessageSid, padding, readSid}
 use Rattle.mailslot.specs.Internal.Shape.{sidPadding, isSidSize}

@@ -1,17 +1,17 @@
 -- A text of UTF-16LE: a user by its octets of UTF-8, a computer by its units; and one that its zero unit ends is read as its stretch.
-use mathlib.Core.Path.{_≡_, refl, sym, ap, ap₂, _∙_, subst}
-use mathlib.Core.Bool.{Bool, true, false, not, _&&_, and-true, and-false}
+use mathlib.Core.Path.{_≡_, refl, sym, ap, ap₂, _∙_}
+use mathlib.Core.Bool.{true, not, _&&_, and-true}
 use mathlib.Core.List.{List, [], _∷_, _++_, flatMap}
 use mathlib.Core.Option.{Option, none, some, Option·map}
 use Prim.Native.Nat.{ℕ, zero, suc, _+_, _*_, _-_, _≤_, _<_}
 use native.Mathlib.Nat.{zero-add}
 use native.Mathlib.Omega.{arith}
 use lib.Dec.{eqb, leb, ltb}
-use lib.ListN.{length, getD, take, drop, take-append-drop}
+use lib.ListN.{length, take, drop, take-append-drop}
 use lib.Seq.{drop-drop, length-take-le}
 use borrow.Author.Tests.{leb-true, le-leb, ltb-true, eqb-false, not-true}
 use Rattle.answers.specs.Try.{good}
-use Rattle.octets.specs.{Lists.all, Lists.cut, Lists.holds, Lists.isSome, NameRule.without, NameRule.userNameMost}
+use Rattle.octets.specs.{Lists.all, Lists.cut, Lists.holds, NameRule.without, NameRule.userNameMost}
 use Rattle.octets.specs.Number.{littleOctets, u16At}
 use Rattle.octets.proofs.Laws.Lists.{Every, every-all, every-take, cut-length, both-left, both-right, true-not-false}
 use Rattle.reader.specs.Text.{readText}

@@ -51,6 +51,14 @@ pub record CharacterSize (s : List ℕ) (at w : ℕ) : Type 0 where
   pub stands : 1 ≤ w → Character s at (octetsFor w) w
   pub lacks : w ≡ 0 → (size : ℕ) → Stops s at size
 
+-- a user from `start` to `at`, of `size` octets of UTF-8, goes on as what is left does
+pub record Running (s : List ℕ) (start at size : ℕ) : Type 0 where
+  pub from : start ≤ at
+  pub to : at ≤ length s
+  pub small : size ≤ userNameMost
+  pub left : (m : ℕ) → isMessageUser (cut s start (at - start + m)) ≡ userLeft size (cut s at m)
+  pub before : (other : ℕ) → EndsText isMessageUser s start other → at ≤ other
+
 -- the longest user from `start` on, with no zero unit before its end; and that s is of octets, as whoever read one knows
 pub record TextRun (s : List ℕ) (start end : ℕ) : Type 0 where
   pub octets : areOctets s ≡ true

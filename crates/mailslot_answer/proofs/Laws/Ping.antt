@@ -1,13 +1,13 @@
 -- The ping of a message that reads: its clauses as the code lays them out, and that 9 lets its user pass.
 use mathlib.Core.Path.{_≡_, refl, sym, ap, _∙_, subst}
-use mathlib.Core.Bool.{Bool, true, false, not, _&&_, _||_}
+use mathlib.Core.Bool.{Bool, true, false, not, _&&_}
 use mathlib.Core.List.{List, [], _∷_, _++_, append-assoc}
 use mathlib.Core.Option.{Option, none, some, Option·getD}
 use Prim.Native.Nat.{ℕ, _+_, _-_, _≤_, _<_}
 use native.Mathlib.Omega.{arith}
-use lib.Dec.{eqb, leb}
+use lib.Dec.{leb}
 use lib.ListN.{length, drop}
-use borrow.Author.Tests.{leb-true, eqb-true, not-false}
+use borrow.Author.Tests.{leb-true, not-false}
 use Rattle.answers.specs.Try.{Try, refused, good, _>>=_}
 use Rattle.answers.proofs.Laws.Try.{good-same, good-then, refusedIf-good}
 use Rattle.filter.specs.declared.request.Clause.{Clause}
@@ -16,16 +16,16 @@ use Rattle.filter.specs.Request.{octetsOf}
 use Rattle.filter_read.specs.Internal.RawPing.{pingAt}
 use Rattle.lent.specs.Internal.OverAt.{overAt}
 use Rattle.lent.proofs.Laws.OverAt.{laid-over, laid-more, over-laid}
-use Rattle.octets.specs.{Buffer.over, Lists.cut, Lists.holds, NameRule.sized, NameRule.without, NameRule.userNameMost, Sid.sidLength}
-use Rattle.octets.proofs.Laws.Lists.{both-left, other-right, true-not-false, cut-after}
-use Rattle.octets.proofs.Laws.Text.{within-high}
+use Rattle.octets.specs.{Buffer.over, Lists.cut, Lists.holds, NameRule.without, NameRule.userNameMost}
+use Rattle.octets.proofs.Laws.Lists.{both-left, true-not-false, cut-after}
 use Rattle.reader.specs.Field.{stretchOf}
 use Rattle.unicode.specs.{UserName.isUserName, Utf8.isUtf8, Utf16.utf8From16}
 use Rattle.answers.specs.declared.Refusal.{Refusal}
 use Rattle.mailslot.specs.declared.message.Message.{Message}
 use Rattle.mailslot.specs.declared.message.MessageRead.the-variants as read
 use Rattle.mailslot.specs.Read.{messageAs}
-use Rattle.mailslot.specs.Message.{isMessageUser, isMessageSid, goodMessage, readFields, asShape, messageIn}
+use Rattle.mailslot.specs.Message.{isMessageUser, goodMessage, readFields, asShape, messageIn}
+use Rattle.mailslot.proofs.Laws.Longest.{sid-most}
 use Rattle.mailslot.proofs.Laws.Shape.{good-parts, good-numbers}
 use Rattle.transcode.specs.Internal.Text8.{utf8Text}
 use Rattle.mailslot_answer.specs.Ping.{unlessEmpty, messagePing, mailslotPing}
@@ -44,14 +44,6 @@ user-short : (t : List ℕ) → isUserName t ≡ true → length t ≤ userNameM
 unfolding isUserName
 user-short t e = leb-true (length t) userNameMost (both-left (leb (length t) userNameMost) (isUtf8 t) (both-left (leb (length t) userNameMost && isUtf8 t) (without 0 t) e))
 
-sid-short : (s : List ℕ) → isMessageSid s ≡ true → length s ≤ 68
-unfolding isMessageSid
-sid-short s e = go (eqb (length s) 0) refl
-  where
-    go : (b : Bool) → eqb (length s) 0 ≡ b → length s ≤ 68
-    go true z = omega (arith, eqb-true (length s) 0 z)
-    go false z = within-high 8 68 (length s) (both-left (sized 8 68 s) (eqb (length s) (sidLength s)) (other-right (eqb (length s) 0) (sized 8 68 s && eqb (length s) (sidLength s)) e z))
-
 module _ (s : List ℕ) (m : Message) (e : messageIn s ≡ good m) where
   good-message : goodMessage s m ≡ true
   unfolding messageIn
@@ -64,7 +56,7 @@ module _ (s : List ℕ) (m : Message) (e : messageIn s ≡ good m) where
   good-user = good-parts s m good-message .user
 
   sid-fits : length (stretchOf s (m .sid)) ≤ 68
-  sid-fits = sid-short (stretchOf s (m .sid)) (good-parts s m good-message .sid)
+  sid-fits = sid-most (stretchOf s (m .sid)) (good-parts s m good-message .sid)
 
   pub bits-fit : m .bits < 0x100000000
   bits-fit = good-numbers s m good-message .1

@@ -18,7 +18,7 @@ use Rattle.reader.specs.declared.field.Stretch.{Stretch}
 use Rattle.mailslot.specs.declared.message.Message.{Message}
 use Rattle.mailslot.specs.declared.message.MessageRead.{MessageRead}
 use Rattle.mailslot.specs.declared.message.MessageRead.the-variants as read
-use Rattle.mailslot.specs.Message.{isComputerName, isMessageUser, messageIn}
+use Rattle.mailslot.specs.Message.{isMessageUser, messageIn}
 use Rattle.mailslot.specs.Read.{messageAs, messageNumber, messageGiven, ReadMessagePromise}
 use Rattle.mailslot.specs.Internal.Shape.{EndsText, EndsName, OneEnd, Texts, Numbers, sidPadding, isSidSize}
 use Rattle.mailslot.proofs.Laws.Ends.{textField, nameField, name-read}

@@ -1,7 +1,7 @@
 -- A text of UTF-16 units that ends in a zero unit is read as its stretch.
 use mathlib.Core.Path.{_≡_, refl, sym, ap, _∙_}
 use mathlib.Core.Bool.{Bool, true, false, cond}
-use mathlib.Core.List.{List, [], _∷_, _++_, append-assoc}
+use mathlib.Core.List.{List, [], _∷_, _++_, append-assoc, flatMap}
 use Prim.Native.Nat.{ℕ, zero, suc, _+_, _-_, _<_, _≤_}
 use native.Mathlib.Omega.{arith}
 use lib.Dec.{eqb, ltb}
@@ -79,7 +79,7 @@ module _ {s : List ℕ} (start : ℕ) where
 
   units-read : (cs : List ℕ) (k at : ℕ) (rest : List ℕ) → length (pointsOctets cs) < k → Every Scalar cs → Left s at (pointsOctets cs ++ (littleOctets 2 0 ++ rest))
       → readTextFrom k s start at false ≡ Got start at (length (pointsOctets cs))
-  unfolding pointsOctets
+  unfolding flatMap
   units-read [] zero at rest f ok l = absurd (omega arith)
   units-read [] (suc k) at rest f ok l = zero-step k at rest l
   units-read (c ∷ cs) zero at rest f ok l = absurd (omega arith)

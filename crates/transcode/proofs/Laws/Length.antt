@@ -34,7 +34,7 @@ pub three-a-unit : (c : ℕ) → 2 * length (utf8Of c) ≤ 3 * length (pointOcte
 three-a-unit c = omega (arith, sizes c .2, point-length c)
 
 pub three-each : (cs : List ℕ) → 2 * length (flatMap utf8Of cs) ≤ 3 * length (pointsOctets cs)
-unfolding flatMap pointsOctets
+unfolding flatMap
 three-each [] = omega arith
 three-each (c ∷ cs) = simp length-append (omega (arith, three-a-unit c, three-each cs))
 

@@ -1,5 +1,5 @@
 -- Octets that lead to code points as UTF-16LE are those of these code points.
-use mathlib.Core.Path.{_≡_, refl, sym, ap, ap₂, _∙_, subst}
+use mathlib.Core.Path.{_≡_, refl, sym, ap₂, _∙_, subst}
 use mathlib.Core.Bool.{false}
 use mathlib.Core.List.{List, [], _∷_, _++_, append-assoc, flatMap}
 use mathlib.Core.Option.{some}
@@ -13,11 +13,6 @@ use Rattle.unicode.specs.Utf8.{Partial, Decoded, opens, Decoder, between, partw
 use Rattle.unicode.specs.Utf16.{isHigh, isLow, highUnit, lowUnit, pointOctets, pointsOctets, lead16, follow16, decode16, pointsFrom16, pointsOf16}
 use Rattle.unicode.proofs.Laws.Codec.{Code, Comes, Before, After, turn-comes}
 use Rattle.unicode.proofs.Laws.Utf16.{one-unit-octets, two-units-octets}
-
-points-octets-flat : (cs : List ℕ) → pointsOctets cs ≡ flatMap pointOctets cs
-unfolding pointsOctets flatMap
-points-octets-flat [] = refl
-points-octets-flat (c ∷ cs) = ap (λ (x : List ℕ). pointOctets c ++ x) (points-octets-flat cs)
 
 past-range : (low high n : ℕ) → within low high n ≡ false → low ≤ n → high < n
 past-range low high n e h = leb-false n high (rw (le-leb low n h) at e)
@@ -84,4 +79,4 @@ comes-from (x ∷ y ∷ xs) d p cs z b e =
     (r .0, r .1 ∙ append-assoc p (x ∷ y ∷ []) xs)
 
 pub points16-comes : (s cs : List ℕ) → Every (λ x. x < 256) s → pointsOf16 s ≡ some cs → Every Code cs × (pointsOctets cs ≡ s)
-points16-comes s cs z e = let r : Comes pointOctets s cs = comes-from s between [] cs z refl e in (r .0, points-octets-flat cs ∙ r .1)
+points16-comes s cs z e = comes-from s between [] cs z refl e

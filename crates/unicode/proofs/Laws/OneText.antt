@@ -1,7 +1,7 @@
 -- UTF-16LE loses nothing: a code point's octets lead back to it, whatever comes after.
 use mathlib.Core.Path.{_≡_, refl, sym, ap, _∙_}
 use mathlib.Core.Bool.{Bool, true, false}
-use mathlib.Core.List.{List, [], _∷_, _++_}
+use mathlib.Core.List.{List, _∷_, _++_}
 use mathlib.Core.Option.{Option, none, some, Option·map}
 use Prim.Native.Nat.{ℕ, _+_, _*_, _%_, _≤_, _<_}
 use native.Mathlib.Omega.{arith}
@@ -12,7 +12,7 @@ use Rattle.octets.proofs.Laws.Lists.{Every, true-not-false}
 use Rattle.octets.proofs.Laws.Text.{within-range, without-range}
 use Rattle.unicode.specs.Utf8.{Partial, point, more, points, isUtf8}
 use Rattle.unicode.specs.Utf16.{highUnit, lowUnit, pointOctets, pointsOctets, utf16, lead16, follow16, pointsFrom16, pointsOf16, utf8From16, OneText}
-use Rattle.unicode.proofs.Laws.Codec.{Code}
+use Rattle.unicode.proofs.Laws.Codec.{Code, back-all}
 use Rattle.unicode.proofs.Laws.Utf8.{points-comes}
 use Rattle.unicode.proofs.Laws.Utf16.{one-unit, two-units}
 
@@ -64,9 +64,8 @@ module _ (c : ℕ) (rest : List ℕ) (h : Code c) where
       go false e = pair-back (ltb-false c 0x10000 e)
 
 points-back : (cs : List ℕ) → Every Code cs → pointsOf16 (pointsOctets cs) ≡ some cs
-unfolding pointsFrom16 pointsOctets
-points-back [] h = refl
-points-back (c ∷ cs) h = led-back c (pointsOctets cs) (h .0) ∙ ap (Option·map (λ ds. c ∷ ds)) (points-back cs (h .1))
+unfolding pointsFrom16
+points-back cs h = back-all pointOctets pointsOf16 refl led-back cs h
 
 -- a text that is UTF-8 comes back by its code points
 pub text-back : (t : List ℕ) → isUtf8 t ≡ true → utf8From16 (utf16 t) ≡ some t

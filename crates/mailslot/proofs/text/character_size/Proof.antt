@@ -1,4 +1,5 @@
 use native.Mathlib.Omega.{arith}
+use Rattle.transcode.proofs.Laws.Point16.{outside, inside}
 use Rattle.mailslot.proofs.Laws.Character.{zero-lacks, plain-stands, octet-alone, two-octets, three-octets}
 use borrow.Author.Needs.{needs}
 use Rattle.mailslot.proofs.text.character_size.Statement.{statement}
@@ -29,19 +30,17 @@ returns-4 : tie.Need-returns-4
 returns-4 c =
     let a = c .before .before .before .before .before .before .args in
     let u = c .before .before .before .before .u16-at in
-    plain-stands (a .s .now) (a .at) (u .result) (u .ensures) (omega arith) 3 (omega arith) (λ h. omega arith) (three-octets (u .result) (omega arith) (omega arith)) (omega arith)
-
-returns-5 : tie.Need-returns-5
-returns-5 c =
-    let a = c .before .before .before .before .before .before .before .args in
-    let u = c .before .before .before .before .before .u16-at in
-    plain-stands (a .s .now) (a .at) (u .result) (u .ensures) (omega arith) 3 (omega arith) (λ h. omega arith) (three-octets (u .result) (omega arith) (omega arith)) (omega arith)
+    let o = outside 0xD800 0xE000 (u .result) (c .if4 .taken) in
+    plain-stands (a .s .now) (a .at) (u .result) (u .ensures) (omega arith) 3 (omega arith) o (three-octets (u .result) (omega arith) (omega arith)) (omega arith)
 
 pair-size-requires : tie.Need-pair-size-requires
-pair-size-requires c κs = search needs
+pair-size-requires c κs =
+    let u = c .before .before .before .before .u16-at in
+    let surrogate = inside 0xD800 0xE000 (u .result) (c .if4 .left) in
+    (omega arith, u .ensures, surrogate .0, surrogate .1)
 
-returns-6 : tie.Need-returns-6
-returns-6 c = search needs
+returns-5 : tie.Need-returns-5
+returns-5 c = search needs
 
 pub character-size-spec : {M : Type 1} → statement M
 character-size-spec =
@@ -52,6 +51,5 @@ character-size-spec =
     returns-2
     returns-3
     returns-4
-    returns-5
     pair-size-requires
-    returns-6)
+    returns-5)

@@ -1,4 +1,5 @@
 use native.Mathlib.Omega.{arith}
+use Rattle.transcode.proofs.Laws.Point16.{outside, inside}
 use Rattle.mailslot.proofs.Laws.Character.{low-lacks, high-alone, high-lone, pair-stands}
 use borrow.Author.Needs.{needs}
 use Rattle.mailslot.proofs.text.pair_size.Statement.{statement}
@@ -26,19 +27,16 @@ u16-at-requires c κs = search needs
 returns-3 : tie.Need-returns-3
 returns-3 c =
     let a = c .before .before .before .before .before .args in
-    high-lone (a .s .now) (a .at) (a .unit) (c .before .before .before .before .before .pre .1) (omega arith) (omega arith) (omega arith) (c .before .u16-at .result) (c .before .u16-at .ensures) (λ h. absurd (omega arith))
+    let v = c .before .u16-at in
+    high-lone (a .s .now) (a .at) (a .unit) (c .before .before .before .before .before .pre .1) (omega arith) (omega arith) (omega arith) (v .result) (v .ensures) (λ h. outside 0xDC00 0xE000 (v .result) (c .if3 .taken) h)
 
 returns-4 : tie.Need-returns-4
 returns-4 c =
-    let a = c .before .before .before .before .before .before .args in
-    high-lone (a .s .now) (a .at) (a .unit) (c .before .before .before .before .before .before .pre .1) (omega arith) (omega arith) (omega arith) (c .before .before .u16-at .result) (c .before .before .u16-at .ensures) (λ h. c .if4 .taken)
-
-returns-5 : tie.Need-returns-5
-returns-5 c =
-    let a = c .before .before .before .before .before .before .args in
-    pair-stands (a .s .now) (a .at) (a .unit) (c .before .before .before .before .before .before .pre .1) (omega arith) (omega arith) (omega arith) (c .before .before .u16-at .result) (c .before .before .u16-at .ensures) (omega arith) (omega arith)
+    let a = c .before .before .before .before .before .args in
+    let v = c .before .u16-at in
+    let low = inside 0xDC00 0xE000 (v .result) (c .if3 .left) in
+    pair-stands (a .s .now) (a .at) (a .unit) (c .before .before .before .before .before .pre .1) (omega arith) (omega arith) (omega arith) (v .result) (v .ensures) (low .0) (omega arith)
 
 pub pair-size-spec : {M : Type 1} → statement M
 pair-size-spec =
-    tie.close
-    (tie.spec returns sub-if2 returns-2 add-u16-at u16-at-requires returns-3 returns-4 returns-5)
+    tie.close (tie.spec returns sub-if2 returns-2 add-u16-at u16-at-requires returns-3 returns-4)

@@ -22,8 +22,8 @@ module _ (c : tie.Start) where
   room : c .args .at + gap + length sid ≤ length (c .args .out .now)
   room = omega (arith, padded-length (c .args .at) sid, c .pre .1)
 
-cast-sid-padding : tie.Need-cast-sid-padding
-cast-sid-padding c = search needs
+cast-size : tie.Need-cast-size
+cast-size c = search needs
 
 sid-padding-requires : tie.Need-sid-padding-requires
 sid-padding-requires c κs = search needs
@@ -54,7 +54,7 @@ pub put-sid-at-spec : {M : Type 1} → statement M
 put-sid-at-spec =
     tie.close
     (tie.spec
-    cast-sid-padding
+    cast-size
     sid-padding-requires
     put-zeros-at-requires
     put-octets-at-requires

@@ -1,6 +1,7 @@
 use borrow.Author.Needs.{needs}
 use mathlib.Core.Path.{_≡_, refl, sym, ap, _∙_, subst}
 use mathlib.Core.List.{List, [], _++_}
+use mathlib.Core.Option.{Option, some, Option·getD}
 use Prim.Native.Nat.{ℕ, _+_, _-_, _≤_}
 use native.Mathlib.Omega.{arith}
 use lib.ListN.{length, drop, length-take, length-drop, length-append}
@@ -10,7 +11,7 @@ use Rattle.unicode.specs.declared.utf8.PointAt.the-variants.{Point}
 use Rattle.unicode.specs.{Utf8.utf8Of, Utf16.pointsOf16, Utf16.utf8From16}
 use Rattle.transcode.specs.Internal.{Point16.PointRead16, Text8.utf8Text, Text8.SizeTold}
 use Rattle.transcode.proofs.Laws.Point16.{end-points}
-use Rattle.transcode.proofs.Laws.Writing.{octetsLeft, left-end, written-all, written-enough, written-next, written-fits, told-none, told-length}
+use Rattle.unicode.proofs.Laws.Writing.{octetsLeft, left-end, written-all, written-enough, written-next, written-fits, length-told}
 use Rattle.transcode.proofs.to8.put_utf8.Statement.{statement}
 use Rattle.transcode.proofs.to8.put_utf8.Tie as tie
 
@@ -30,7 +31,7 @@ enum-told c = search needs
 returns : tie.Need-returns Inv-loop μ-loop
 returns c =
     let a = c .before .before .before .before .before .args in
-    let e : utf8Text (a .s .now) ≡ [] = told-none (utf8From16 (a .s .now)) (subst (SizeTold (a .s .now)) (c .enum-told .given .1) (c .before .before .utf8-size .ensures)) in
+    let e : utf8Text (a .s .now) ≡ [] = ap (λ (x : Option (List ℕ)). Option·getD x []) (subst (SizeTold (a .s .now)) (c .enum-told .given .1) (c .before .before .utf8-size .ensures)) in
     (sym (ap length e), sym (ap (λ (x : List ℕ). over x (a .out .now)) e ∙ over-none (a .out .now)))
 
 enum-known-told : tie.Need-enum-known-told Inv-loop μ-loop
@@ -41,7 +42,7 @@ unfolding utf8From16
 loop-holds c =
     let a = c .before .before .before .before .before .before .args in
     let p = subst (SizeTold (a .s .now)) (c .before .told .given .1) (c .before .before .before .utf8-size .ensures) in
-    ([], omega arith, refl, refl, refl, sym (over-none (a .out .now)), told-length (c .before .told .given .0 .0) (utf8From16 (a .s .now)) (p .0))
+    ([], omega arith, refl, refl, refl, sym (over-none (a .out .now)), sym (length-told (utf8From16 (a .s .now)) (some (c .before .told .given .0 .0)) (p .0)))
 
 point16-at-requires : tie.Need-point16-at-requires Inv-loop μ-loop
 point16-at-requires c κs = search needs

@@ -8,7 +8,7 @@ use Rattle.unicode.specs.{Utf8.utf8Of, Utf16.pointsOf16, Utf16.utf8From16}
 use Rattle.transcode.specs.Internal.Point16.{PointRead16}
 use Rattle.transcode.proofs.Laws.Point16.{end-points}
 use Rattle.transcode.proofs.Laws.Length.{three-a-unit}
-use Rattle.transcode.proofs.Laws.Writing.{sizeLeft, size-start, size-next, size-end}
+use Rattle.unicode.proofs.Laws.Writing.{sizeLeft, size-start, size-next, size-end}
 use Rattle.transcode.proofs.to8.utf8_size.Statement.{statement}
 use Rattle.transcode.proofs.to8.utf8_size.Tie as tie
 

@@ -7,24 +7,29 @@ use std::{env, fs, process};
 
 use vinegarjar::*;
 
+mod mailslot;
+
 const CLIENT: Ipv4Addr = Ipv4Addr::new(192, 0, 2, 1);
 
 /// What fills a buffer before a call, so that octets left alone can be told.
 const UNTOUCHED: u8 = 0xEE;
 
-/// The image of data/base.table.txt, as tables/make writes it.
+/// The image of a table of data/, as tables/make writes it.
+fn made(table: &str) -> Vec<u8> {
+    let root = concat!(env!("CARGO_MANIFEST_DIR"), "/../..");
+    let path = env::temp_dir().join(format!("vinegarjar-{table}-{}.image", process::id()));
+    let make =
+        Command::new(format!("{root}/tables/make")).arg(format!("{root}/data/{table}.table.txt")).arg(&path).status();
+    assert!(make.expect("tables/make runs").success());
+    let image = fs::read(&path).expect("tables/make wrote it");
+    fs::remove_file(&path).expect("it is ours");
+    image
+}
+
+/// The image of data/base.table.txt.
 fn image() -> &'static [u8] {
     static IMAGE: OnceLock<Vec<u8>> = OnceLock::new();
-    IMAGE.get_or_init(|| {
-        let root = concat!(env!("CARGO_MANIFEST_DIR"), "/../..");
-        let path = env::temp_dir().join(format!("vinegarjar-{}.image", process::id()));
-        let make =
-            Command::new(format!("{root}/tables/make")).arg(format!("{root}/data/base.table.txt")).arg(&path).status();
-        assert!(make.expect("tables/make runs").success());
-        let image = fs::read(&path).expect("tables/make wrote it");
-        fs::remove_file(&path).expect("it is ours");
-        image
-    })
+    IMAGE.get_or_init(|| made("base"))
 }
 
 /// A source of octets with the clauses that are stretches of it.

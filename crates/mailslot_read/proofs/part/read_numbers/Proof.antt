@@ -6,8 +6,8 @@ use Rattle.mailslot.specs.Internal.Shape.{isSidSize}
 use Rattle.mailslot.proofs.Laws.User.{octets-known}
 use Rattle.mailslot_read.proofs.Laws.Refused.{numberless, tailless, tail-read}
 use borrow.Author.Needs.{needs}
-use Rattle.mailslot_read.proofs.read.read_numbers.Statement.{statement}
-use Rattle.mailslot_read.proofs.read.read_numbers.Tie as tie
+use Rattle.mailslot_read.proofs.part.read_numbers.Statement.{statement}
+use Rattle.mailslot_read.proofs.part.read_numbers.Tie as tie
 
 add-bits-at : tie.Need-add-bits-at
 add-bits-at c = search needs

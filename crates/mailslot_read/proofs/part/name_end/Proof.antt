@@ -5,8 +5,8 @@ use Rattle.mailslot.specs.Internal.Shape.{EndsName}
 use Rattle.mailslot.proofs.Laws.Name.{name-ends, name-short, name-found}
 use Rattle.mailslot_read.proofs.Laws.Refused.{endless}
 use borrow.Author.Needs.{needs}
-use Rattle.mailslot_read.proofs.read.name_end.Statement.{statement}
-use Rattle.mailslot_read.proofs.read.name_end.Tie as tie
+use Rattle.mailslot_read.proofs.part.name_end.Statement.{statement}
+use Rattle.mailslot_read.proofs.part.name_end.Tie as tie
 
 returns : tie.Need-returns
 returns c =

@@ -1,6 +1,6 @@
 use borrow.Author.Needs.{needs}
-use Rattle.mailslot_read.proofs.read.has_tokens.Statement.{statement}
-use Rattle.mailslot_read.proofs.read.has_tokens.Tie as tie
+use Rattle.mailslot_read.proofs.part.has_tokens.Statement.{statement}
+use Rattle.mailslot_read.proofs.part.has_tokens.Tie as tie
 
 u16-at-requires : tie.Need-u16-at-requires
 u16-at-requires c κs = search needs

@@ -7,8 +7,8 @@ use Rattle.mailslot.specs.Internal.Shape.{EndsText}
 use Rattle.mailslot.proofs.Laws.Run.{text-ends}
 use Rattle.mailslot_read.proofs.Laws.Refused.{endless}
 use borrow.Author.Needs.{needs}
-use Rattle.mailslot_read.proofs.read.text_end.Statement.{statement}
-use Rattle.mailslot_read.proofs.read.text_end.Tie as tie
+use Rattle.mailslot_read.proofs.part.text_end.Statement.{statement}
+use Rattle.mailslot_read.proofs.part.text_end.Tie as tie
 
 returns : tie.Need-returns
 returns c =
