@@ -1,6 +1,6 @@
 /*
- * locator.h - answers Netlogon pings from a table image, reads replies, reads and writes filters. Who answers more than one
- * ping from an image takes locator_table.h too.
+ * locator.h - answers Netlogon pings, filters and mailslot messages, from a table image, reads replies, reads and writes
+ * filters and messages. Who answers more than one ping from an image takes locator_table.h too.
  *
  * For C11 and C++11. Link with target/staticlib/libvinegarjar.a (`rt staticlib vinegarjar`), on x86-64. The code is proved;
  * these declarations are held to it by hand and by the programs in examples/.
@@ -10,11 +10,12 @@
  * octets, and may be NULL where that is 0; no other pointer may be. const ones are only read. What a call writes must overlap
  * nothing else that is lent to the same call.
  *
- * Octets. Any octets may be passed as image, filter, source or reply, of any length; each call ends and answers by number.
+ * Octets. Any octets may be passed as image, filter, message, source or reply, of any length; each call ends and answers by
+ * number.
  * Starts and lengths in structs are counted in octets from the first octet of the buffer that they speak of.
  *
  * Numbers. A call that returns uint8_t returns 0 (done) or why it refused, one of enum locator_number. On a refusal every
- * struct, number and text lent for results is all zeros, and a buffer lent for a reply or a filter is as it was.
+ * struct, number and text lent for results is all zeros, and a buffer lent for a reply, a filter or a message is as it was.
  */
 #ifndef LOCATOR_H
 #define LOCATOR_H
@@ -29,7 +30,10 @@ extern "C" {
 #define LOCATOR_ASSERT(claim) _Static_assert(claim, #claim)
 #endif
 
-/* What a call returns. locator_answer_ping judges by 1 to 9, then 11 to 19, in this order. */
+/*
+ * What a call returns. locator_answer_ping judges by 1 to 9, then 11 to 19, in this order, locator_answer_mailslot by 1 to 4,
+ * then 41, then 15 to 19.
+ */
 enum locator_number {
     LOCATOR_DONE = 0,
 
@@ -64,7 +68,10 @@ enum locator_number {
     LOCATOR_REPLY_OPCODE = 32,   /* an opcode of another form */
     LOCATOR_REPLY_TEXT = 33,     /* a broken UTF-16 text, or a broken, overlong or winding name */
     LOCATOR_REPLY_FIXED = 34,    /* a fixed field has another value */
-    LOCATOR_REPLY_LEFT_OVER = 35 /* octets after its end */
+    LOCATOR_REPLY_LEFT_OVER = 35, /* octets after its end */
+
+    /* the mailslot message */
+    LOCATOR_MAILSLOT_SHAPE = 41 /* not a message, or one that breaks a limit */
 };
 
 /* The form of a reply. */
@@ -76,9 +83,10 @@ enum locator_form {
 };
 
 enum {
-    LOCATOR_FILTER_MOST = 2048, /* octets of the longest filter */
-    LOCATOR_REPLY_MOST = 1108,  /* octets of the longest reply that is written */
-    LOCATOR_TEXT_MOST = 253,    /* octets of the longest name, labels joined by dots */
+    LOCATOR_FILTER_MOST = 2048,  /* octets of the longest filter */
+    LOCATOR_MAILSLOT_MOST = 316, /* octets of the longest mailslot message */
+    LOCATOR_REPLY_MOST = 1108,   /* octets of the longest reply that is written */
+    LOCATOR_TEXT_MOST = 253,     /* octets of the longest name, labels joined by dots */
     LOCATOR_GUID_SIZE = 16,
     LOCATOR_ADDRESS_SIZE = 4
 };
@@ -102,6 +110,21 @@ struct locator_request {
     struct locator_stretch nt_ver;
 };
 LOCATOR_ASSERT(sizeof(struct locator_request) == 24 * sizeof(size_t));
+
+/*
+ * What a mailslot message says, its texts as stretches of the message or of a source. A message that was read has computer,
+ * user and mailslot present, and the SID where its size is not 0; to the writer one that is not present has no octets.
+ */
+struct locator_mailslot {
+    size_t repeat;                   /* the repeat count, 16 bits; not used by an answer */
+    size_t bits;                     /* the account bits, 32 bits */
+    size_t version;                  /* the version bits, 32 bits */
+    struct locator_stretch computer; /* at most 15 units of UTF-16LE, without the zero unit; not used by an answer */
+    struct locator_stretch user;     /* UTF-16LE without the zero unit, at most 63 octets as UTF-8; of no octets it is none */
+    struct locator_stretch mailslot; /* at most 64 octets of 01h to 7Fh, without the zero octet; not used by an answer */
+    struct locator_stretch sid;      /* 8 to 68 octets, as many as its own count says */
+};
+LOCATOR_ASSERT(sizeof(struct locator_mailslot) == 15 * sizeof(size_t));
 
 /* The two sums of a block's check. */
 struct locator_check {
@@ -171,6 +194,12 @@ uint8_t vinegarjar_write_filter(const uint8_t *source, size_t source_length, con
                                 uint8_t *out, size_t out_room, size_t *length);
 uint8_t vinegarjar_answer_ping(const uint8_t *image, size_t image_length, const uint8_t client[4], const uint8_t *filter,
                                size_t filter_length, uint8_t *reply, size_t reply_room, struct locator_answer *answer);
+uint8_t vinegarjar_read_mailslot(const uint8_t *message, size_t message_length, struct locator_mailslot *members);
+uint8_t vinegarjar_write_mailslot(const uint8_t *source, size_t source_length, const struct locator_mailslot *members,
+                                  uint8_t *out, size_t out_room, size_t *length);
+uint8_t vinegarjar_answer_mailslot(const uint8_t *image, size_t image_length, const uint8_t client[4],
+                                   const uint8_t *message, size_t message_length, uint8_t *reply, size_t reply_room,
+                                   struct locator_answer *answer);
 uint8_t vinegarjar_read_nt40(const uint8_t *reply, size_t reply_length, struct locator_reading *reading);
 uint8_t vinegarjar_read_response(const uint8_t *reply, size_t reply_length, struct locator_reading *reading);
 uint8_t vinegarjar_read_ex(const uint8_t *reply, size_t reply_length, uint32_t version, struct locator_reading *reading);
@@ -241,6 +270,38 @@ static inline uint8_t locator_answer_ping(const uint8_t *image, size_t image_len
 {
     return vinegarjar_answer_ping(locator_octets(image), image_length, client, locator_octets(filter), filter_length,
                                   locator_buffer(reply), reply_room, answer);
+}
+
+/* Reads a mailslot message: 0, or 41. members must not overlap the message. */
+static inline uint8_t locator_read_mailslot(const uint8_t *message, size_t message_length,
+                                            struct locator_mailslot *members)
+{
+    return vinegarjar_read_mailslot(locator_octets(message), message_length, members);
+}
+
+/*
+ * Writes a mailslot message, whose texts lie in the source; what lies outside it is not there. 0, or 41 where a text or a
+ * number breaks its limit, or 19 by out_room. *length is how many octets of out were written; the rest stays as it was.
+ * LOCATOR_MAILSLOT_MOST octets are room for every message. out and length must overlap neither each other nor source and
+ * members.
+ */
+static inline uint8_t locator_write_mailslot(const uint8_t *source, size_t source_length,
+                                             const struct locator_mailslot *members, uint8_t *out, size_t out_room,
+                                             size_t *length)
+{
+    return vinegarjar_write_mailslot(locator_octets(source), source_length, members, locator_buffer(out), out_room, length);
+}
+
+/*
+ * Answers a client's mailslot message from a table image as locator_answer_ping answers a filter, by the message's user, bits,
+ * SID and version: 0, or 1 to 4, 41 or 15 to 19. reply and answer must overlap neither each other nor image, client and message.
+ */
+static inline uint8_t locator_answer_mailslot(const uint8_t *image, size_t image_length, const uint8_t client[4],
+                                              const uint8_t *message, size_t message_length, uint8_t *reply,
+                                              size_t reply_room, struct locator_answer *answer)
+{
+    return vinegarjar_answer_mailslot(locator_octets(image), image_length, client, locator_octets(message), message_length,
+                                      locator_buffer(reply), reply_room, answer);
 }
 
 /*

@@ -31,10 +31,13 @@ struct locator_table {
     uint8_t image[LOCATOR_IMAGE_MOST];
 };
 
-/* What libvinegarjar_table.a exports, for locator_table_answer alone: the image must be one that was accepted. */
+/* What libvinegarjar_table.a exports, for the functions after these alone: the image must be one that was accepted. */
 uint8_t vinegarjar_answer_ping_on_accepted_image(const uint8_t *image, size_t image_length, const uint8_t client[4],
                                                  const uint8_t *filter, size_t filter_length, uint8_t *reply,
                                                  size_t reply_room, struct locator_answer *answer);
+uint8_t vinegarjar_answer_mailslot_on_accepted_image(const uint8_t *image, size_t image_length, const uint8_t client[4],
+                                                     const uint8_t *message, size_t message_length, uint8_t *reply,
+                                                     size_t reply_room, struct locator_answer *answer);
 
 /*
  * Fills a table with a copy of an image and judges it: 0, or 1 to 4, and then the table is empty, whatever it held. The image is
@@ -66,6 +69,20 @@ static inline uint8_t locator_table_answer(const struct locator_table *table, co
         return locator_answer_ping(NULL, 0, client, filter, filter_length, reply, reply_room, answer);
     return vinegarjar_answer_ping_on_accepted_image(table->image, table->length, client, locator_octets(filter),
                                                     filter_length, locator_buffer(reply), reply_room, answer);
+}
+
+/*
+ * Answers a client's mailslot message from a table as locator_answer_mailslot does from its image, which is not judged again:
+ * 0, or 41 or 15 to 19; from an empty table 1. reply and answer must overlap neither each other nor table, client and message.
+ */
+static inline uint8_t locator_table_answer_mailslot(const struct locator_table *table, const uint8_t client[4],
+                                                    const uint8_t *message, size_t message_length, uint8_t *reply,
+                                                    size_t reply_room, struct locator_answer *answer)
+{
+    if (table->length == 0)
+        return locator_answer_mailslot(NULL, 0, client, message, message_length, reply, reply_room, answer);
+    return vinegarjar_answer_mailslot_on_accepted_image(table->image, table->length, client, locator_octets(message),
+                                                        message_length, locator_buffer(reply), reply_room, answer);
 }
 
 #ifdef __cplusplus

@@ -43,6 +43,11 @@ class Answered(NamedTuple):
     def has_address(self):
         return self.form == "ex" and self.asked & WITH_ADDRESS != 0
 
+    def shown(self):
+        head = f"this ping, asked with {self.asked:08x} and answered in the form {self.form}:"
+        lines = [head, self.table, self.ping, "the reply:", self.reply.hex(), "our reading:", str(self.reading)]
+        return "\n".join(lines)
+
 
 def answers(program, lines):
     """A program's answer lines to request lines that each have one."""

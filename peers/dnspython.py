@@ -7,6 +7,7 @@ import dns.wire
 from verdict import Verdict
 
 NAME = "dnspython names"
+READS = "replies"
 KNOWN = {}
 
 

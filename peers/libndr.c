@@ -1,6 +1,7 @@
-/* Reads replies by Samba's libndr and writes them anew. Each line that comes in is a reply in hex; a line `FORM FIELDS
-   PUSHED` goes out for it, or `refused:NUMBER` with libndr's error. FIELDS are those of a `read` answer, but names have
-   no pointer count, texts are UTF-8 and addresses dotted. PUSHED is what libndr writes from the fields. */
+/* Reads replies and mailslot messages by Samba's libndr and writes them anew. Each line that comes in is `reply` or
+   `mailslot` and octets in hex; a line `FORM FIELDS PUSHED` goes out for it, or `refused:NUMBER` with libndr's error.
+   FIELDS are those of a `read` answer, but names have no pointer count, texts are UTF-8 and addresses dotted; of a
+   message they are all that libndr keeps. PUSHED is what libndr writes from the fields. */
 #include <stdint.h>
 #include <stdio.h>
 #include <stdlib.h>
@@ -13,6 +14,8 @@
 #include <ndr/ndr_nbt.h>
 
 #define EVERYTHING (NDR_SCALARS | NDR_BUFFERS)
+#define MESSAGE "mailslot "
+#define REPLY "reply "
 
 static DATA_BLOB octets_of(TALLOC_CTX *room, const char *digits)
 {
@@ -96,10 +99,30 @@ static void print_fields(TALLOC_CTX *room, const struct netlogon_samlogon_respon
 	}
 }
 
-static void print_pushed(TALLOC_CTX *room, const struct netlogon_samlogon_response *reply)
+/* Revision, authority and parts. No SID is one of zeros to libndr, but of size 0. */
+static void print_sid(uint32_t size, const struct dom_sid *sid)
 {
-	struct ndr_push *ndr = ndr_push_init_ctx(room);
-	enum ndr_err_code error = ndr_push_netlogon_samlogon_response(ndr, EVERYTHING, reply);
+	printf(" %u %u-", size, sid->sid_rev_num);
+	print_octets(sid->id_auth, sizeof sid->id_auth);
+	for (int place = 0; place < sid->num_auths; place++) {
+		printf("-%u", sid->sub_auths[place]);
+	}
+}
+
+static void print_message(const struct NETLOGON_SAM_LOGON_REQUEST *message)
+{
+	printf(" %u", message->request_count);
+	print_text(message->computer_name);
+	print_text(message->user_name);
+	print_text(message->mailslot_name);
+	printf(" %08x =", message->acct_control);
+	print_octets(message->_pad.data, message->_pad.length);
+	print_sid(message->sid_size, &message->sid);
+	printf(" %08x %04x %04x", message->nt_version, message->lmnt_token, message->lm20_token);
+}
+
+static void print_pushed(const struct ndr_push *ndr, enum ndr_err_code error)
+{
 	if (error == NDR_ERR_SUCCESS) {
 		printf(" ");
 		print_octets(ndr->data, ndr->offset);
@@ -108,18 +131,42 @@ static void print_pushed(TALLOC_CTX *room, const struct netlogon_samlogon_respon
 	}
 }
 
-static void answer(TALLOC_CTX *room, DATA_BLOB octets)
+static enum ndr_err_code answer_reply(TALLOC_CTX *room, DATA_BLOB octets)
 {
 	struct netlogon_samlogon_response reply = {0};
-	struct ndr_pull *ndr = ndr_pull_init_blob(&octets, room);
-	enum ndr_err_code error = ndr_pull_netlogon_samlogon_response(ndr, EVERYTHING, &reply);
+	struct ndr_pull *pull = ndr_pull_init_blob(&octets, room);
+	struct ndr_push *push = ndr_push_init_ctx(room);
+	enum ndr_err_code error = ndr_pull_netlogon_samlogon_response(pull, EVERYTHING, &reply);
 	if (error == NDR_ERR_SUCCESS) {
 		print_fields(room, &reply);
-		print_pushed(room, &reply);
-	} else {
-		printf("refused:%u", error);
+		print_pushed(push, ndr_push_netlogon_samlogon_response(push, EVERYTHING, &reply));
 	}
-	printf("\n");
+	return error;
+}
+
+/* By its opcode it may be another message, of which nothing is shown but that. */
+static enum ndr_err_code answer_message(TALLOC_CTX *room, DATA_BLOB octets)
+{
+	struct nbt_netlogon_packet message = {0};
+	struct ndr_pull *pull = ndr_pull_init_blob(&octets, room);
+	struct ndr_push *push = ndr_push_init_ctx(room);
+	enum ndr_err_code error = ndr_pull_nbt_netlogon_packet(pull, EVERYTHING, &message);
+	if (error == NDR_ERR_SUCCESS) {
+		printf("mailslot %u", message.command);
+		if (message.command == LOGON_SAM_LOGON_REQUEST) {
+			print_message(&message.req.logon);
+		}
+		print_pushed(push, ndr_push_nbt_netlogon_packet(push, EVERYTHING, &message));
+	}
+	return error;
+}
+
+static enum ndr_err_code answer(TALLOC_CTX *room, const char *line)
+{
+	if (strncmp(line, MESSAGE, strlen(MESSAGE)) == 0) {
+		return answer_message(room, octets_of(room, line + strlen(MESSAGE)));
+	}
+	return answer_reply(room, octets_of(room, line + strlen(REPLY)));
 }
 
 int main(void)
@@ -129,7 +176,11 @@ int main(void)
 	while (getline(&line, &size, stdin) > 0) {
 		TALLOC_CTX *room = talloc_new(NULL);
 		line[strcspn(line, "\n")] = '\0';
-		answer(room, octets_of(room, line));
+		enum ndr_err_code error = answer(room, line);
+		if (error != NDR_ERR_SUCCESS) {
+			printf("refused:%u", error);
+		}
+		printf("\n");
 		talloc_free(room);
 	}
 	free(line);

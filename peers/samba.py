@@ -1,4 +1,4 @@
-"""Samba's libndr, by the program made from libndr.c: it reads each reply, and writes it anew."""
+"""Samba's libndr on replies, by the program made from libndr.c: it reads each, and writes it anew."""
 
 import os
 
@@ -6,6 +6,7 @@ from answered import WITH_ADDRESS, answers
 from verdict import Verdict
 
 NAME = "Samba libndr"
+READS = "replies"
 KNOWN = {
     "address": "libndr looks for an EX reply's address only where the version in the reply has bit 8, and ours is 5 or"
     " 15h; with that bit put into a copy, all fields and octets agree",
@@ -72,8 +73,9 @@ def judge_one(ping, alone, seen):
 
 def judge(pings, replies, folder):
     program = os.path.join(folder, "libndr")
-    alone = answers(program, [reply.hex() for reply in replies])
-    seen = answers(program, [with_version_bit(ping, reply).hex() for ping, reply in zip(pings, replies)])
+    copies = [with_version_bit(ping, reply) for ping, reply in zip(pings, replies)]
+    alone = answers(program, [f"reply {reply.hex()}" for reply in replies])
+    seen = answers(program, [f"reply {copy.hex()}" for copy in copies])
     return [judge_one(ping, one.split(" "), other.split(" ")) for ping, one, other in zip(pings, alone, seen)]
 
 

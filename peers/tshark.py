@@ -10,6 +10,7 @@ from capture import capture
 from verdict import Verdict
 
 NAME = "tshark"
+READS = "replies"
 KNOWN = {
     "opcode": "tshark takes apart only replies of the opcodes 19 and 23, not those of paused and unknown; in a copy"
     " with that opcode all fields agree",

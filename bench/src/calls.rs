@@ -4,6 +4,7 @@
 extern "C" {
     fn bench_checks(image: *const u8, length: usize) -> bool;
     fn bench_read(filter: *const u8, length: usize) -> u8;
+    fn bench_read_message(message: *const u8, length: usize) -> u8;
     fn bench_names(source: *const u8, length: usize, lengths: *const [u8; 8], out: *mut u8, room: usize) -> usize;
 }
 
@@ -15,6 +16,11 @@ pub fn checks(image: &[u8]) -> bool {
 /// The number that reading a filter gives: taken apart and its values judged in one call, as a ping has it.
 pub fn read(filter: &[u8]) -> u8 {
     unsafe { bench_read(filter.as_ptr(), filter.len()) }
+}
+
+/// The number that reading a mailslot message gives.
+pub fn read_message(message: &[u8]) -> u8 {
+    unsafe { bench_read_message(message.as_ptr(), message.len()) }
 }
 
 /// How far apart the texts of names lie in their source.

@@ -3,10 +3,16 @@ use crate::calls;
 use crate::image::{ordinary_user, Image, BLOCK, CHECKED, USERS};
 use crate::measure::{instructions, medians, run_counted, Call};
 use crate::peers::{self, Equalities, Peer};
-use crate::pings::{filter_of, Clause, CLIENT, FIVE_CLAUSES, ONE_CLAUSE, P1_REPLY, P1_REPLY_VERSION, P1_VERSION};
+use crate::pings::{
+    filter_of, logger_message, Clause, CLIENT, FIVE_CLAUSES, MESSAGE_CLAUSES, ONE_CLAUSE, P1_REPLY, P1_REPLY_VERSION,
+    P1_VERSION, SID,
+};
 use second::choose::{ClientAddress, Form};
 use std::ffi::CStr;
 use std::hint::black_box;
+
+/// The most that one datagram of UDP over IPv4 carries.
+const LONGEST_DATAGRAM: usize = 65_507;
 
 const RUNS: u32 = 5;
 const ROUNDS: u32 = 21;
@@ -167,6 +173,52 @@ fn table_rows() -> Vec<Row> {
     rows
 }
 
+/// A message read, answered from a judged table, and refused for its length, beside the filter that asks the same.
+fn message_rows() -> [Row; 3] {
+    let message: &'static [u8] = logger_message("ann", &SID, P1_VERSION).leak();
+    let filter: &'static [u8] = filter_of(&MESSAGE_CLAUSES).leak();
+    assert_eq!([calls::read_message(message), calls::read(filter)], [0, 0]);
+    let read = Row::new("message read", move || {
+        black_box(&calls::read_message(black_box(message)));
+    })
+    .against(Peer::Second, move || {
+        black_box(&second::mailslot::reader::read_message(black_box(message)));
+    })
+    .against(Peer::FilterRead, move || {
+        black_box(&calls::read(black_box(filter)));
+    });
+    let long: &'static [u8] = [message, &[0; LONGEST_DATAGRAM]].concat()[..LONGEST_DATAGRAM].to_vec().leak();
+    assert_eq!(calls::read_message(long), 41);
+    let refused = Row::new("65,507 octets refused", move || {
+        black_box(&calls::read_message(black_box(long)));
+    })
+    .against(Peer::MessageRead, move || {
+        black_box(&calls::read_message(black_box(message)));
+    });
+    [read, message_answered_row(message, filter), refused]
+}
+
+fn message_answered_row(message: &'static [u8], filter: &'static [u8]) -> Row {
+    let image: &'static [u8] = Image::with_sid(&SID).octets().to_vec().leak();
+    let table = vinegarjar::Table::new(image).expect("a good table");
+    let read = second::table::read_table(image).expect("a good table");
+    let client = || ClientAddress::from_octets(CLIENT);
+    let [mut reply, mut second_reply, mut filter_reply] = [[0; 2048]; 3];
+    let length = table.answer_mailslot(CLIENT.into(), message, &mut reply).expect("an answer").length;
+    let other = second::mailslot::answer_over(&read, client(), message, &mut second_reply).expect("an answer");
+    let asked = table.answer(CLIENT.into(), filter, &mut filter_reply).expect("an answer");
+    assert_eq!([&reply[..length]; 2], [&second_reply[..other.length], &filter_reply[..asked.length]]);
+    Row::new("message answered, 5 blocks", move || {
+        black_box(&table.answer_mailslot(CLIENT.into(), black_box(message), &mut reply));
+    })
+    .against(Peer::Second, move || {
+        black_box(&second::mailslot::answer_over(&read, client(), black_box(message), &mut second_reply));
+    })
+    .against(Peer::FilterAnswered, move || {
+        black_box(&table.answer(CLIENT.into(), black_box(filter), &mut filter_reply));
+    })
+}
+
 /// P1's reply read, its fields alone and with the texts of its eight names.
 fn reading_rows() -> [Row; 2] {
     let read = || vinegarjar::read_reply(black_box(&P1_REPLY), vinegarjar::Form::Ex, P1_VERSION);
@@ -268,6 +320,7 @@ fn rows() -> Vec<Row> {
     rows.extend(filter_rows("1 clause", &ONE_CLAUSE));
     rows.extend(filter_rows("5 clauses", &FIVE_CLAUSES));
     rows.extend(table_rows());
+    rows.extend(message_rows());
     rows.extend(reading_rows());
     rows.extend(name_rows());
     rows.extend(check_rows());

@@ -28,11 +28,15 @@ pub struct Image {
 impl Image {
     /// Document 01's base table without its account: server, forest, one context and one site, the least that is accepted.
     pub fn smallest() -> Image {
+        Image::of_context(None)
+    }
+
+    fn of_context(sid: Option<&[u8]>) -> Image {
         let mut image = Image { octets: Vec::new() };
         image.add(1, &server(0, 1, b"DC1", b"dc1.corp.example"));
         image.add(2, &text(b"example"));
         let guid: Vec<u8> = (1..=16).collect();
-        image.add(3, &context(1, &guid, None, b"CORP", b"corp.example"));
+        image.add(3, &context(1, &guid, sid, b"CORP", b"corp.example"));
         image.add(5, &site(1, b"HQ", 0));
         image
     }
@@ -40,6 +44,13 @@ impl Image {
     /// Document 01's base table.
     pub fn five_blocks() -> Image {
         let mut image = Image::smallest();
+        image.add(4, &account(1, b"ann"));
+        image
+    }
+
+    /// The base table with a SID of its context.
+    pub fn with_sid(sid: &[u8]) -> Image {
+        let mut image = Image::of_context(Some(sid));
         image.add(4, &account(1, b"ann"));
         image
     }

@@ -1,4 +1,4 @@
-//! What the proved library is measured against, as safe functions over bench/shims and zlib. A peer that is not installed is not
+//! What the proved library is measured against, as safe functions over bench/shims and zlib; the last three are proved calls. A peer that is not installed is not
 //! linked: the first line of each of its functions ends it then, so that the compiler leaves the call out.
 use std::ffi::{c_char, CStr};
 
@@ -9,14 +9,26 @@ pub enum Peer {
     Resolv,
     Samba,
     Zlib,
+    FilterRead,
+    FilterAnswered,
+    MessageRead,
 }
 
 impl Peer {
-    pub const ALL: [Peer; 5] = [Peer::Second, Peer::Lber, Peer::Resolv, Peer::Samba, Peer::Zlib];
+    pub const ALL: [Peer; 8] = [
+        Peer::Second,
+        Peer::Lber,
+        Peer::Resolv,
+        Peer::Samba,
+        Peer::Zlib,
+        Peer::FilterRead,
+        Peer::FilterAnswered,
+        Peer::MessageRead,
+    ];
 
     pub const fn is_installed(self) -> bool {
         match self {
-            Peer::Second => true,
+            Peer::Second | Peer::FilterRead | Peer::FilterAnswered | Peer::MessageRead => true,
             Peer::Lber => cfg!(lber),
             Peer::Resolv => cfg!(resolv),
             Peer::Samba => cfg!(ndr),
@@ -31,13 +43,16 @@ impl Peer {
             Peer::Resolv => "(c) libresolv",
             Peer::Samba => "(d) libndr-nbt",
             Peer::Zlib => "(e) zlib",
+            Peer::FilterRead => "(f) its filter read",
+            Peer::FilterAnswered => "(g) its filter answered",
+            Peer::MessageRead => "(h) a message read",
         }
     }
 
     /// The Debian package that has its headers.
     pub fn package(self) -> &'static str {
         match self {
-            Peer::Second => "none",
+            Peer::Second | Peer::FilterRead | Peer::FilterAnswered | Peer::MessageRead => "none",
             Peer::Lber => "libldap-dev",
             Peer::Resolv => "libc6-dev",
             Peer::Samba => "samba-dev",
@@ -48,8 +63,8 @@ impl Peer {
     /// The most that the proved call may take, as a ratio to the peer's.
     pub fn target(self) -> f64 {
         match self {
-            Peer::Second | Peer::Zlib => 1.0,
-            Peer::Lber => 0.5,
+            Peer::Second | Peer::Zlib | Peer::FilterAnswered | Peer::MessageRead => 1.0,
+            Peer::Lber | Peer::FilterRead => 0.5,
             Peer::Resolv => 0.75,
             Peer::Samba => 0.25,
         }

@@ -62,6 +62,37 @@ pub fn filter_of(clauses: &[(&[u8], &[u8])]) -> Vec<u8> {
     element(0xA0, &equalities.concat())
 }
 
+/// The SID of a domain, of four parts after its first.
+pub const SID: [u8; 28] = [1, 5, 0, 0, 0, 0, 0, 5, 21, 0, 0, 0, 1, 2, 3, 4, 5, 6, 7, 8, 9, 10, 11, 12, 13, 14, 15, 16];
+
+/// What a message asks, as the clauses of a filter.
+pub const MESSAGE_CLAUSES: [Clause; 4] =
+    [(b"User", b"ann"), (b"AAC", &[0x10, 0, 0, 0]), (b"DomainSid", &SID), (b"NtVer", &[6, 0, 0, 0])];
+
+/// UTF-16LE, and the zero unit.
+fn units(text: &str) -> Vec<u8> {
+    text.encode_utf16().chain([0]).flat_map(u16::to_le_bytes).collect()
+}
+
+/// A mailslot message of these texts, with the bits of an ordinary account.
+pub fn message_of(computer: &str, user: &str, mailslot: &str, sid: &[u8], version: u32) -> Vec<u8> {
+    let mut message = [&[18, 0, 0, 0][..], &units(computer), &units(user), mailslot.as_bytes(), &[0]].concat();
+    message.extend(0x10u32.to_le_bytes());
+    message.extend((sid.len() as u32).to_le_bytes());
+    if !sid.is_empty() {
+        message.resize(message.len().next_multiple_of(4), 0);
+    }
+    message.extend(sid);
+    message.extend(version.to_le_bytes());
+    message.extend([0xFF; 4]);
+    message
+}
+
+/// What an old logger sends for a user.
+pub fn logger_message(user: &str, sid: &[u8], version: u32) -> Vec<u8> {
+    message_of("LOGGER07", user, r"\MAILSLOT\NET\GETDC0", sid, version)
+}
+
 /// A filter of all eight clauses, for the last context and the last user of a table.
 pub fn worst_filter(table: &Laden, version: u32) -> Vec<u8> {
     let asked = long_dns_name(b'a' + table.contexts as u8).to_ascii_uppercase();

@@ -1,9 +1,9 @@
 //! What each public call costs at worst: of several inputs that could be its worst, the one of the most instructions, with its time
 //! and the most stack that any of them takes.
-use crate::image::{Image, Laden, Order, USERS};
+use crate::image::{long_sid, Image, Laden, Order, USERS};
 use crate::judge::{falling, late_names, mixed, scattered, Names};
 use crate::measure::{instructions, medians_of, run_counted, stack, Call};
-use crate::pings::{element, equality, filter_of, worst_filter, CLIENT, EX_VERSION};
+use crate::pings::{element, equality, filter_of, message_of, worst_filter, CLIENT, EX_VERSION};
 use crate::replies::{longest, with_text, worst_ex, Name, LABELS_MOST, LETTER, LONG, PAIR};
 use std::hint::black_box;
 use vinegarjar::{Form, Request, Stretch, Table};
@@ -148,6 +148,64 @@ fn written_filters() -> Worst {
     worst
 }
 
+/// Messages of as many octets as they may have, whose users are of characters of each length, 63 octets as UTF-8.
+fn messages() -> Vec<(String, Vec<u8>)> {
+    let longest = |character: &str, version| {
+        let user = format!("{}{}", character.repeat(63 / character.len()), "a".repeat(63 % character.len()));
+        message_of(&"C".repeat(15), &user, &"m".repeat(64), &long_sid(1), version)
+    };
+    [(1, "a"), (2, "\u{F8}"), (3, "\u{20AC}"), (4, "\u{1F600}")]
+        .map(|(octets, character)| (format!("a user of 63 octets, {octets} each"), longest(character, EX_VERSION)))
+        .into()
+}
+
+fn read_messages() -> Worst {
+    let mut worst = Worst::new("read_message");
+    for (input, message) in messages() {
+        assert!(vinegarjar::read_message(&message).is_ok(), "{input}");
+        worst.add(input, move || {
+            black_box(&vinegarjar::read_message(black_box(&message)));
+        });
+    }
+    worst
+}
+
+fn written_messages() -> Worst {
+    let mut worst = Worst::new("write_message");
+    for (input, source) in messages() {
+        let message = vinegarjar::read_message(&source).expect("a good message");
+        let mut out = vec![0; vinegarjar::MESSAGE_MOST];
+        assert_eq!(vinegarjar::write_message(&source, &message, &mut out), Ok(source.len()), "{input}");
+        worst.add(input, move || {
+            black_box(&vinegarjar::write_message(black_box(&source), &message, &mut out));
+        });
+    }
+    worst
+}
+
+/// Messages to tables of names that are told apart late, as pings have them; a message is answered in the default context.
+fn answered_messages() -> [Worst; 2] {
+    let (mut judged, mut accepted) =
+        (Worst::new("answer_mailslot"), Worst::new("answer_mailslot, table judged before"));
+    for (input, name) in late_names() {
+        let user = text(name(scattered(USERS - 1))).to_uppercase();
+        let message = message_of(&"C".repeat(15), &user, &"m".repeat(64), &[], 0);
+        let image = Image::of_users(|k| text(name(scattered(k))).to_lowercase().into_bytes());
+        let image: &'static [u8] = image.octets().to_vec().leak();
+        let table = Table::new(image).expect("a good table");
+        let (again, [mut reply, mut reply_again]) = (message.clone(), [[0; vinegarjar::REPLY_MOST]; 2]);
+        assert!(table.answer_mailslot(CLIENT.into(), &message, &mut reply).is_ok(), "{input}");
+        let input = format!("738 {input}, NT40, the last asked for in capitals");
+        judged.add(input.clone(), move || {
+            black_box(&vinegarjar::answer_mailslot(black_box(image), CLIENT.into(), &message, &mut reply));
+        });
+        accepted.add(input, move || {
+            black_box(&table.answer_mailslot(CLIENT.into(), black_box(&again), &mut reply_again));
+        });
+    }
+    [judged, accepted]
+}
+
 fn text(name: Vec<u8>) -> String {
     String::from_utf8(name).expect("a name is UTF-8")
 }
@@ -237,6 +295,8 @@ fn texts() -> Worst {
 fn all() -> Vec<Worst> {
     let mut all = vec![checks(), judgements(), taking_apart(), values(), written_filters()];
     all.extend(answers());
+    all.extend([read_messages(), written_messages()]);
+    all.extend(answered_messages());
     all.extend(readings());
     all.push(texts());
     all

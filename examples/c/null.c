@@ -17,6 +17,7 @@ static void nothing(void)
 {
     struct locator_check check;
     struct locator_request request;
+    struct locator_mailslot mailslot;
     struct locator_reading reading;
     struct locator_answer answer;
     uint8_t text[LOCATOR_TEXT_MOST];
@@ -31,13 +32,16 @@ static void nothing(void)
     expect("judge_values", locator_judge_values(NULL, 0, &request, &version), LOCATOR_DONE);
     expect("write_filter", locator_write_filter(NULL, 0, &request, NULL, 0, &length), LOCATOR_FILTER_SHAPE);
     expect("answer_ping", locator_answer_ping(NULL, 0, CLIENT, NULL, 0, NULL, 0, &answer), LOCATOR_IMAGE_LENGTH);
+    expect("read_mailslot", locator_read_mailslot(NULL, 0, &mailslot), LOCATOR_MAILSLOT_SHAPE);
+    expect("write_mailslot", locator_write_mailslot(NULL, 0, &mailslot, NULL, 0, &length), LOCATOR_NO_ROOM);
+    expect("answer_mailslot", locator_answer_mailslot(NULL, 0, CLIENT, NULL, 0, NULL, 0, &answer), LOCATOR_IMAGE_LENGTH);
     expect("read_nt40", locator_read_nt40(NULL, 0, &reading), LOCATOR_REPLY_CUT);
     expect("read_response", locator_read_response(NULL, 0, &reading), LOCATOR_REPLY_CUT);
     expect("read_ex", locator_read_ex(NULL, 0, 6, &reading), LOCATOR_REPLY_CUT);
     expect("name_text", locator_name_text(NULL, 0, 0, text, &length), LOCATOR_REPLY_CUT);
 }
 
-/* A good table, first without a filter, which is P3, then without room for a reply. */
+/* A good table, first without a filter, which is P3, then without room for a reply; and without a message. */
 static void pings(const uint8_t *image, size_t image_length)
 {
     static struct locator_table table;
@@ -53,6 +57,11 @@ static void pings(const uint8_t *image, size_t image_length)
            locator_answer_ping(image, image_length, CLIENT, FILTER, sizeof FILTER, NULL, 0, &answer), LOCATOR_NO_ROOM);
     expect("P1, table_answer", locator_table_answer(&table, CLIENT, FILTER, sizeof FILTER, NULL, 0, &answer),
            LOCATOR_NO_ROOM);
+    expect("answer_mailslot",
+           locator_answer_mailslot(image, image_length, CLIENT, NULL, 0, reply, sizeof reply, &answer),
+           LOCATOR_MAILSLOT_SHAPE);
+    expect("table_answer_mailslot",
+           locator_table_answer_mailslot(&table, CLIENT, NULL, 0, reply, sizeof reply, &answer), LOCATOR_MAILSLOT_SHAPE);
 }
 
 int main(int count, char **words)

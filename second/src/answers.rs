@@ -1,4 +1,4 @@
-//! The answer numbers of document 01, "Answer numbers", but for the one that #101 retired.
+//! The answer numbers of document 01, "Answer numbers", but for the one that #101 retired, and those of landed requests.
 
 /// Why a call refused, by the order in which the cases are judged.
 #[derive(Clone, Copy, Debug, PartialEq, Eq)]
@@ -7,6 +7,8 @@ pub enum Refusal {
     BlockCheck,
     BlockLayout,
     TableAsAWhole,
+    /// In the place of 5 to 9 where a mailslot message is read or written (#105).
+    MessageShape,
     FilterTooLong,
     FilterShape,
     UnknownClause,
@@ -24,13 +26,14 @@ pub enum Refusal {
 }
 
 impl Refusal {
-    /// Document 01's number for this case.
+    /// The documents' number for this case.
     pub fn number(self) -> u8 {
         match self {
             Refusal::ImageLength => 1,
             Refusal::BlockCheck => 2,
             Refusal::BlockLayout => 3,
             Refusal::TableAsAWhole => 4,
+            Refusal::MessageShape => 41,
             Refusal::FilterTooLong => 5,
             Refusal::FilterShape => 6,
             Refusal::UnknownClause => 7,

@@ -32,7 +32,8 @@ pub fn compare(requests: impl BufRead, answers: impl BufRead) -> io::Result<Resu
         let Some(second) = answerer.answer(&request) else { continue };
         let other = answers.next().transpose()?;
         if other.as_deref() != Some(second.as_bytes()) {
-            let table = table.filter(|_| request.starts_with(b"ping "));
+            let is_ping = request.starts_with(b"ping ") || request.starts_with(b"mailping ");
+            let table = table.filter(|_| is_ping);
             return Ok(Err(Difference { line: Some(place + 1), request, table, second: Some(second), other }));
         }
         let kind = second.split(' ').next().unwrap_or_default();
@@ -109,6 +110,16 @@ mod tests {
         let difference = compared(&requests(), |answers| answers.replace("ping 6", "ping 7")).unwrap_err();
         assert_eq!(difference.line, Some(7));
         assert_eq!(difference.table.as_deref(), requests().lines().nth(3).map(str::as_bytes));
+    }
+
+    #[test]
+    fn a_ping_that_is_a_message_is_shown_with_its_table_too() {
+        let requests = requests() + "\nmailping 00000000 - 1\nmailslot -";
+        let difference = compared(&requests, |answers| answers.replace("mailping 41", "mailping 6")).unwrap_err();
+        assert_eq!(difference.line, Some(11));
+        assert_eq!(difference.table.as_deref(), requests.lines().nth(3).map(str::as_bytes));
+        let difference = compared(&requests, |answers| answers.replace("mailslot 41", "mailslot 0")).unwrap_err();
+        assert_eq!((difference.line, difference.table), (Some(12), None));
     }
 
     #[test]

@@ -11,6 +11,7 @@ pub mod generate;
 pub mod image;
 pub mod lines;
 pub mod long;
+pub mod mailslot;
 pub mod octets;
 pub mod reader;
 pub mod reply;

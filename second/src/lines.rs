@@ -5,6 +5,9 @@ use std::io::{BufRead, Write};
 use crate::answers::{number_of, Refusal, ANSWERED};
 use crate::choose::{ClientAddress, Form};
 use crate::filter::{judge_values, take_apart, write_filter, ClauseName, Clauses};
+use crate::mailslot::reader::read_message;
+use crate::mailslot::writer::write_message;
+use crate::mailslot::{answer_message, Message};
 use crate::reader::{read_reply, Fields, Name, Reply};
 use crate::reply::{answer_ping, Answer};
 use crate::table::{block_check, read_table, CHECKED_LENGTH};
@@ -17,7 +20,7 @@ const MOST_DIGITS: usize = 10;
 /// What every octet of a lent buffer holds before the call.
 const UNWRITTEN: u8 = 0xA5;
 
-/// Answers lines one after the other; the latest image stands for the pings after it.
+/// Answers lines one after the other; the latest image stands for the pings of either kind after it.
 #[derive(Default)]
 pub struct Answerer {
     image: Vec<u8>,
@@ -48,6 +51,9 @@ impl Answerer {
             ["write", room, clauses @ ..] => answer_write(room, clauses),
             ["read", form, version, octets] => answer_read(form, version, octets),
             ["walk", offset, octets] => answer_walk(offset, octets),
+            ["mailslot", octets] => answer_mailslot(octets),
+            ["mailwrite", room, fields @ ..] => answer_mailwrite(room, fields),
+            ["mailping", client, message, room] => self.answer_mailping(client, message, room),
             _ => None,
         }
     }
@@ -58,18 +64,19 @@ impl Answerer {
     }
 
     fn answer_ping(&self, client: &str, filter: &str, room: &str) -> Option<String> {
-        let client = ClientAddress::from_octets(octets_of_word(client)?.try_into().ok()?);
+        let client = client_of_word(client)?;
         let filter = octets_of_word(filter)?;
         let mut buffer = buffer_of_room(room)?;
         let result = answer_ping(&self.image, client, &filter, &mut buffer);
-        let number = number_of(&result);
-        let buffer = word_of_octets(&buffer);
-        Some(match result {
-            Ok(Answer { length, context, form }) => {
-                format!("ping {number} {length} {} {} {buffer}", context.0, word_of_form(form))
-            }
-            Err(_) => format!("ping {number} 0 0 none {buffer}"),
-        })
+        Some(format!("ping {}", words_of_answer(&result, &buffer)))
+    }
+
+    fn answer_mailping(&self, client: &str, message: &str, room: &str) -> Option<String> {
+        let client = client_of_word(client)?;
+        let message = octets_of_word(message)?;
+        let mut buffer = buffer_of_room(room)?;
+        let result = answer_message(&self.image, client, &message, &mut buffer);
+        Some(format!("mailping {}", words_of_answer(&result, &buffer)))
     }
 }
 
@@ -139,6 +146,56 @@ fn answer_walk(offset: &str, octets: &str) -> Option<String> {
     Some(line)
 }
 
+fn answer_mailslot(octets: &str) -> Option<String> {
+    let octets = octets_of_word(octets)?;
+    Some(match read_message(&octets) {
+        Ok(message) => format!("mailslot {ANSWERED} {}", words_of_message(&message)),
+        Err(refusal) => format!("mailslot {}", refusal.number()),
+    })
+}
+
+fn answer_mailwrite(room: &str, fields: &[&str]) -> Option<String> {
+    let [repeat, computer, user, mailslot, account_bits, sid, version] = fields else { return None };
+    let message = Message {
+        repeat: u16::try_from(number_of_word(repeat)?).ok()?,
+        computer: &text_of_word(computer)?,
+        user: &text_of_word(user)?,
+        mailslot: &text_of_word(mailslot)?,
+        account_bits: bits_of_word(account_bits)?,
+        sid: &text_of_word(sid)?,
+        version: bits_of_word(version)?,
+    };
+    let mut buffer = buffer_of_room(room)?;
+    let result: Result<usize, Refusal> = write_message(&message, &mut buffer);
+    let number = number_of(&result);
+    Some(format!("mailwrite {number} {} {}", result.unwrap_or(0), word_of_octets(&buffer)))
+}
+
+fn words_of_message(message: &Message) -> String {
+    let words = [
+        message.repeat.to_string(),
+        word_of_text(message.computer),
+        word_of_text(message.user),
+        word_of_text(message.mailslot),
+        word_of_bits(message.account_bits),
+        word_of_text(message.sid),
+        word_of_bits(message.version),
+    ];
+    words.join(" ")
+}
+
+/// What the answering calls return, and the whole lent buffer after them.
+fn words_of_answer(result: &Result<Answer, Refusal>, buffer: &[u8]) -> String {
+    let number = number_of(result);
+    let buffer = word_of_octets(buffer);
+    match result {
+        Ok(Answer { length, context, form }) => {
+            format!("{number} {length} {} {} {buffer}", context.0, word_of_form(*form))
+        }
+        Err(_) => format!("{number} 0 0 none {buffer}"),
+    }
+}
+
 fn words_of_reply(reply: &Reply) -> String {
     let mut words = vec![reply.opcode.to_string()];
     match &reply.fields {
@@ -192,7 +249,7 @@ pub fn word_of_clause(clause: Option<&[u8]>) -> String {
     clause.map_or(".".to_string(), word_of_text)
 }
 
-fn word_of_text(text: &[u8]) -> String {
+pub fn word_of_text(text: &[u8]) -> String {
     format!("={}", hex(text))
 }
 
@@ -230,10 +287,19 @@ pub fn octets_of_word(word: &str) -> Option<Vec<u8>> {
 }
 
 fn clause_of_word(word: &str) -> Option<Option<Vec<u8>>> {
-    match word.strip_prefix('=') {
-        Some(digits) => octets_of_hex(digits).map(Some),
-        None => (word == ".").then_some(None),
+    match word {
+        "." => Some(None),
+        _ => text_of_word(word).map(Some),
     }
+}
+
+/// A text that cannot be absent.
+pub fn text_of_word(word: &str) -> Option<Vec<u8>> {
+    octets_of_hex(word.strip_prefix('=')?)
+}
+
+fn client_of_word(word: &str) -> Option<ClientAddress> {
+    Some(ClientAddress::from_octets(octets_of_word(word)?.try_into().ok()?))
 }
 
 /// A decimal number: digits alone, zeros in front allowed.
@@ -370,6 +436,25 @@ mod tests {
         assert_eq!(answers(b"walk 9999999999 -"), "walk none\n");
         assert_eq!(answers(b"read nt40 00000000 1300"), "read 31 0\n");
         assert_eq!(answers(b"read nt40 00000000 1300410000000000000001000000ffffffff"), "read 0 18 19 =4100 = = 1\n");
+    }
+
+    #[test]
+    fn messages_are_read_and_written() {
+        let message = "12000201410000006100000000100000000000000006000000ffffffff";
+        let fields = "258 =4100 =6100 = 00000010 = 00000006";
+        assert_eq!(answers(format!("mailslot {message}").as_bytes()), format!("mailslot 0 {fields}\n"));
+        assert_eq!(answers(b"mailslot -"), "mailslot 41\n");
+        assert_eq!(answers(format!("mailwrite 30 {fields}").as_bytes()), format!("mailwrite 0 29 {message}a5\n"));
+        assert_eq!(answers(b"mailwrite 2 0 = = = 00000010 = 00000006"), "mailwrite 19 0 a5a5\n");
+        assert_eq!(answers(b"mailwrite 0 0000065535 =00 = = 00000010 = 00000006"), "mailwrite 41 0 -\n");
+        assert_eq!(answers(b"mailping 00000000 - 2"), "mailping 1 0 0 none a5a5\n");
+        for other in ["mailslot", "mailslot .", "mailslot =", "mailping 00000000 -", "mailping 000000 - 1"] {
+            assert_eq!(answers(other.as_bytes()), "?\n");
+        }
+        for (from, to) in [("=4100", "."), ("=6100", "6100"), ("=6100", "=-"), ("258", "65536"), ("00000010", "10")] {
+            let other = format!("mailwrite 30 {fields}").replace(from, to);
+            assert_eq!(answers(other.as_bytes()), "?\n", "{other}");
+        }
     }
 
     #[test]

@@ -113,6 +113,36 @@ fn push_unit(octets: &mut Vec<u8>, unit: u32) {
     octets.extend_from_slice(&[unit as u8, (unit >> 8) as u8]);
 }
 
+/// A UTF-16LE text as UTF-8 octets; none where half a unit or half a pair of surrogates stands alone.
+pub fn utf8_octets(text: &[u8]) -> Option<Vec<u8>> {
+    let (units, half_a_unit) = text.as_chunks::<2>();
+    let mut units = units.iter().map(|unit| u32::from(u16::from_le_bytes(*unit)));
+    let mut octets = Vec::new();
+    while let Some(unit) = units.next() {
+        let point = match unit {
+            0xD800..=0xDBFF => 0x1_0000 + ((unit & 0x3FF) << 10 | bits_of_low_surrogate(units.next()?)?),
+            0xDC00..=0xDFFF => return None,
+            _ => unit,
+        };
+        push_code_point(&mut octets, point);
+    }
+    half_a_unit.is_empty().then_some(octets)
+}
+
+fn bits_of_low_surrogate(unit: u32) -> Option<u32> {
+    (0xDC00..=0xDFFF).contains(&unit).then_some(unit & 0x3FF)
+}
+
+fn push_code_point(octets: &mut Vec<u8>, point: u32) {
+    let tail = |shift: u32| 0x80 | (point >> shift & 0x3F) as u8;
+    match point {
+        0..=0x7F => octets.push(point as u8),
+        0x80..=0x7FF => octets.extend([0xC0 | (point >> 6) as u8, tail(0)]),
+        0x800..=0xFFFF => octets.extend([0xE0 | (point >> 12) as u8, tail(6), tail(0)]),
+        _ => octets.extend([0xF0 | (point >> 18) as u8, tail(12), tail(6), tail(0)]),
+    }
+}
+
 fn is_printable(octet: u8) -> bool {
     (0x21..=0x7E).contains(&octet)
 }
@@ -209,6 +239,31 @@ mod tests {
         let expected: Vec<u8> = text.encode_utf16().flat_map(u16::to_le_bytes).collect();
         assert_eq!(utf16_octets(text.as_bytes()), Some(expected));
         assert_eq!(utf16_octets(&[0xED, 0xA0, 0x80]), None);
+    }
+
+    #[test]
+    fn utf16_is_made_into_the_utf8_of_the_standard_library() {
+        for character in '\0'..=char::MAX {
+            let mut units = [0; 2];
+            let units: Vec<u8> =
+                character.encode_utf16(&mut units).iter().flat_map(|unit| unit.to_le_bytes()).collect();
+            assert_eq!(utf8_octets(&units), Some(character.to_string().into_bytes()));
+        }
+        assert_eq!(utf8_octets(&[0x61, 0, 0xD8, 0, 0, 0xD8, 0, 0xDC]), Some("a\u{D8}\u{10000}".into()));
+    }
+
+    #[test]
+    fn half_a_unit_or_half_a_pair_alone_has_no_utf8() {
+        let edges = [0x0061, 0xD7FF, 0xD800, 0xDBFF, 0xDC00, 0xDFFF, 0xE000, 0xFFFF];
+        for [one, two, three] in
+            edges.iter().flat_map(|one| edges.map(|two| edges.map(|three| [*one, two, three]))).flatten()
+        {
+            let units = [one, two, three];
+            let octets: Vec<u8> = units.iter().flat_map(|unit: &u16| unit.to_le_bytes()).collect();
+            assert_eq!(utf8_octets(&octets), String::from_utf16(&units).ok().map(String::into_bytes), "{units:04x?}");
+            assert_eq!(utf8_octets(&octets[..5]), None);
+        }
+        assert_eq!((utf8_octets(&[]), utf8_octets(&[0x61])), (Some(Vec::new()), None));
     }
 
     #[test]

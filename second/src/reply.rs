@@ -2,7 +2,7 @@
 
 use crate::answers::Refusal;
 use crate::choose::{choose, Choice, ClientAddress, Form};
-use crate::filter::{judge_values, take_apart};
+use crate::filter::{judge_values, take_apart, Clauses};
 use crate::octets::utf16_octets;
 use crate::table::{read_table, ContextNumber, Table};
 
@@ -35,7 +35,18 @@ pub fn answer_ping(image: &[u8], client: ClientAddress, filter: &[u8], buffer: &
 pub fn answer_over(table: &Table, client: ClientAddress, filter: &[u8], buffer: &mut [u8]) -> Result<Answer, Refusal> {
     let clauses = take_apart(filter)?;
     let version = judge_values(&clauses)?;
-    let choice = choose(table, client, &clauses, version)?;
+    answer_clauses(table, client, &clauses, version, buffer)
+}
+
+/// Answers clauses whose values were judged, be they of a filter or of a mailslot message.
+pub fn answer_clauses(
+    table: &Table,
+    client: ClientAddress,
+    clauses: &Clauses,
+    version: u32,
+    buffer: &mut [u8],
+) -> Result<Answer, Refusal> {
+    let choice = choose(table, client, clauses, version)?;
     let reply = reply_octets(table, &choice);
     // The length is known before the first octet goes into the buffer, so that 19 writes nothing.
     let place = buffer.get_mut(..reply.len()).ok_or(Refusal::BufferTooShort)?;

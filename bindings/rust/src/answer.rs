@@ -70,6 +70,11 @@ impl<'image> Table<'image> {
     pub fn answer(&self, client: Ipv4Addr, filter: &[u8], reply: &mut [u8]) -> Result<Answer, Refusal> {
         Answer::of(self.image.answer_ping(client.octets(), filter, reply))
     }
+
+    /// Answers a client's mailslot message, or refuses it by 41 or 15 to 19. The image is not judged again.
+    pub fn answer_mailslot(&self, client: Ipv4Addr, message: &[u8], reply: &mut [u8]) -> Result<Answer, Refusal> {
+        Answer::of(self.image.answer_mailslot(client.octets(), message, reply))
+    }
 }
 
 /// The refusal of an image that was not accepted.
@@ -86,6 +91,12 @@ pub fn judge(image: &[u8]) -> Result<(), Refusal> {
 /// Who answers more than one ping from an image makes a [`Table`] of it.
 pub fn answer_ping(image: &[u8], client: Ipv4Addr, filter: &[u8], reply: &mut [u8]) -> Result<Answer, Refusal> {
     Answer::of(ffi::answer_ping(image, client.octets(), filter, reply))
+}
+
+/// Answers a client's mailslot message from a table image of any octets, as [`answer_ping`] answers a filter, by its user, bits,
+/// SID and version; or refuses it by 1 to 4, 41 or 15 to 19.
+pub fn answer_mailslot(image: &[u8], client: Ipv4Addr, message: &[u8], reply: &mut [u8]) -> Result<Answer, Refusal> {
+    Answer::of(ffi::answer_mailslot(image, client.octets(), message, reply))
 }
 
 /// The two sums of a block's check.

@@ -19,6 +19,19 @@ pub struct Request {
     pub clauses: [Stretch; 8],
 }
 
+/// `struct locator_mailslot`
+#[repr(C)]
+#[derive(Default)]
+pub struct Mailslot {
+    pub repeat: usize,
+    pub bits: usize,
+    pub version: usize,
+    pub computer: Stretch,
+    pub user: Stretch,
+    pub mailslot: Stretch,
+    pub sid: Stretch,
+}
+
 /// `struct locator_answer`
 #[repr(C)]
 #[derive(Default)]
@@ -89,6 +102,25 @@ extern "C" {
         reply_room: usize,
         answer: *mut Answer,
     ) -> u8;
+    fn vinegarjar_read_mailslot(message: *const u8, message_length: usize, members: *mut Mailslot) -> u8;
+    fn vinegarjar_write_mailslot(
+        source: *const u8,
+        source_length: usize,
+        members: *const Mailslot,
+        out: *mut u8,
+        out_room: usize,
+        length: *mut usize,
+    ) -> u8;
+    fn vinegarjar_answer_mailslot(
+        image: *const u8,
+        image_length: usize,
+        client: *const [u8; 4],
+        message: *const u8,
+        message_length: usize,
+        reply: *mut u8,
+        reply_room: usize,
+        answer: *mut Answer,
+    ) -> u8;
     fn vinegarjar_read_nt40(reply: *const u8, reply_length: usize, reading: *mut Reading) -> u8;
     fn vinegarjar_read_response(reply: *const u8, reply_length: usize, reading: *mut Reading) -> u8;
     fn vinegarjar_read_ex(reply: *const u8, reply_length: usize, version: u32, reading: *mut Reading) -> u8;
@@ -103,13 +135,23 @@ extern "C" {
 
 #[link(name = "vinegarjar_table", kind = "static")]
 extern "C" {
-    // The image must be one that was accepted: `Accepted` alone calls it.
+    // The image must be one that was accepted: `Accepted` alone calls them.
     fn vinegarjar_answer_ping_on_accepted_image(
         image: *const u8,
         image_length: usize,
         client: *const [u8; 4],
         filter: *const u8,
         filter_length: usize,
+        reply: *mut u8,
+        reply_room: usize,
+        answer: *mut Answer,
+    ) -> u8;
+    fn vinegarjar_answer_mailslot_on_accepted_image(
+        image: *const u8,
+        image_length: usize,
+        client: *const [u8; 4],
+        message: *const u8,
+        message_length: usize,
         reply: *mut u8,
         reply_room: usize,
         answer: *mut Answer,
@@ -145,15 +187,29 @@ pub fn write_filter(source: &[u8], request: &Request, out: &mut [u8]) -> (u8, us
     (number, length)
 }
 
-/// Both calls that answer a ping.
+pub fn read_mailslot(message: &[u8]) -> (u8, Mailslot) {
+    let mut members = Mailslot::default();
+    let number = unsafe { vinegarjar_read_mailslot(message.as_ptr(), message.len(), &mut members) };
+    (number, members)
+}
+
+pub fn write_mailslot(source: &[u8], members: &Mailslot, out: &mut [u8]) -> (u8, usize) {
+    let mut length = 0;
+    let (octets, room) = (out.as_mut_ptr(), out.len());
+    let number =
+        unsafe { vinegarjar_write_mailslot(source.as_ptr(), source.len(), members, octets, room, &mut length) };
+    (number, length)
+}
+
+/// The calls that answer a ping: a filter or a mailslot message, from any image or an accepted one.
 type Answering =
     unsafe extern "C" fn(*const u8, usize, *const [u8; 4], *const u8, usize, *mut u8, usize, *mut Answer) -> u8;
 
 /// # Safety
 /// The image is what the call asks for.
-unsafe fn answer_by(call: Answering, image: &[u8], client: [u8; 4], filter: &[u8], reply: &mut [u8]) -> (u8, Answer) {
+unsafe fn answer_by(call: Answering, image: &[u8], client: [u8; 4], ping: &[u8], reply: &mut [u8]) -> (u8, Answer) {
     let mut answer = Answer::default();
-    let (table, ping) = ((image.as_ptr(), image.len()), (filter.as_ptr(), filter.len()));
+    let (table, ping) = ((image.as_ptr(), image.len()), (ping.as_ptr(), ping.len()));
     let (octets, room) = (reply.as_mut_ptr(), reply.len());
     let number = unsafe { call(table.0, table.1, &client, ping.0, ping.1, octets, room, &mut answer) };
     (number, answer)
@@ -164,8 +220,13 @@ pub fn answer_ping(image: &[u8], client: [u8; 4], filter: &[u8], reply: &mut [u8
     unsafe { answer_by(vinegarjar_answer_ping, image, client, filter, reply) }
 }
 
-/// An image that passed its judgement, for as long as it is borrowed. That is what its call is proved under, and two things keep it
-/// true: `new` alone makes one, by judging, and what is borrowed nobody writes. Memory that others may write to breaks it: a
+pub fn answer_mailslot(image: &[u8], client: [u8; 4], message: &[u8], reply: &mut [u8]) -> (u8, Answer) {
+    // Any image will do.
+    unsafe { answer_by(vinegarjar_answer_mailslot, image, client, message, reply) }
+}
+
+/// An image that passed its judgement, for as long as it is borrowed. That is what its calls are proved under, and two things keep
+/// it true: `new` alone makes one, by judging, and what is borrowed nobody writes. Memory that others may write to breaks it: a
 /// `&[u8]` may not be made of a mapped file or shared memory while they can.
 #[derive(Clone, Copy, Debug)]
 pub struct Accepted<'image> {
@@ -184,6 +245,12 @@ impl<'image> Accepted<'image> {
     pub fn answer_ping(self, client: [u8; 4], filter: &[u8], reply: &mut [u8]) -> (u8, Answer) {
         // The image was accepted by `new`, and did not change since.
         unsafe { answer_by(vinegarjar_answer_ping_on_accepted_image, self.image, client, filter, reply) }
+    }
+
+    /// The same of a mailslot message.
+    pub fn answer_mailslot(self, client: [u8; 4], message: &[u8], reply: &mut [u8]) -> (u8, Answer) {
+        // As above.
+        unsafe { answer_by(vinegarjar_answer_mailslot_on_accepted_image, self.image, client, message, reply) }
     }
 }
 

@@ -35,6 +35,14 @@ pub(crate) fn stretch_of(members: ffi::Stretch) -> Option<Stretch> {
     }
 }
 
+/// Its members.
+pub(crate) fn stretch_members(stretch: Option<Stretch>) -> ffi::Stretch {
+    match stretch {
+        None => ffi::Stretch::default(),
+        Some(Stretch { start, length }) => ffi::Stretch { present: 1, start, length },
+    }
+}
+
 impl Request {
     fn of(request: &ffi::Request) -> Request {
         let [dns_domain, host, dns_host_name, user, aac, domain_sid, domain_guid, nt_ver] =
@@ -53,12 +61,7 @@ impl Request {
             self.domain_guid,
             self.nt_ver,
         ];
-        ffi::Request {
-            clauses: clauses.map(|clause| match clause {
-                None => ffi::Stretch::default(),
-                Some(Stretch { start, length }) => ffi::Stretch { present: 1, start, length },
-            }),
-        }
+        ffi::Request { clauses: clauses.map(stretch_members) }
     }
 }
 

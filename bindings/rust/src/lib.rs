@@ -1,4 +1,5 @@
-//! Vinegarjar for Rust: answers Netlogon pings from a table image, reads replies, reads and writes filters.
+//! Vinegarjar for Rust: answers Netlogon pings, filters and mailslot messages, from a table image, reads replies, reads and writes
+//! filters and messages.
 //!
 //! The calls below are proved code, linked from `libvinegarjar.a` and, for a [`Table`], `libvinegarjar_table.a`. All octets are the
 //! caller's: nothing is allocated, nothing is kept but what a [`Table`] borrows, and any octets may be passed. What a call refuses
@@ -23,11 +24,13 @@ mod answer;
 #[allow(unsafe_code)]
 mod ffi;
 mod filter;
+mod mailslot;
 mod reading;
 mod refusal;
 
-pub use answer::{answer_ping, check, judge, Answer, Check, Form, Table, REPLY_MOST};
+pub use answer::{answer_mailslot, answer_ping, check, judge, Answer, Check, Form, Table, REPLY_MOST};
 pub use filter::{judge_values, take_apart, write_filter, Request, FILTER_MOST};
+pub use mailslot::{read_message, write_message, Message, MESSAGE_MOST};
 pub use reading::{
     name_text, read_reply, ExFields, Fields, Name, Nt40Fields, Reading, ResponseFields, Text, TEXT_MOST,
 };

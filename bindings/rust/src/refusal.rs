@@ -53,10 +53,12 @@ pub enum Refusal {
     ReplyFixed = 34,
     /// Octets follow the reply's end.
     ReplyLeftOver = 35,
+    /// It is no mailslot message, or one that breaks a limit.
+    MailslotShape = 41,
 }
 
 /// Each refusal, with its meaning.
-const MEANINGS: [(Refusal, &str); 23] = [
+const MEANINGS: [(Refusal, &str); 24] = [
     (Refusal::ImageLength, "the image is not 2 to 128 whole blocks"),
     (Refusal::BlockCheck, "a block's check is wrong"),
     (Refusal::BlockLayout, "a block's layout is wrong"),
@@ -80,6 +82,7 @@ const MEANINGS: [(Refusal, &str); 23] = [
     (Refusal::ReplyText, "a text or name of the reply is broken"),
     (Refusal::ReplyFixed, "a fixed field of the reply has another value"),
     (Refusal::ReplyLeftOver, "octets follow the reply's end"),
+    (Refusal::MailslotShape, "it is no mailslot message"),
 ];
 
 impl Refusal {

@@ -1,2 +1,3 @@
 pub mod Retired
 pub mod Try
+pub mod Written

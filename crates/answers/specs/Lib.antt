@@ -2,3 +2,4 @@ pub mod Refusal
 pub mod Retired
 pub mod Try
 pub mod Wire
+pub mod Written

@@ -1,4 +1,4 @@
--- Document 01, "Answer numbers" and "Reading a reply": the number that each refusal has.
+-- Document 01, "Answer numbers" and "Reading a reply", and document 02, #105: the number that each refusal has.
 use mathlib.Core.Path.{_≡_}
 use Prim.Native.Nat.{ℕ}
 use Rattle.answers.specs.declared.Refusal.{Refusal}
@@ -6,7 +6,7 @@ use Rattle.answers.specs.declared.Refusal.the-variants.{ImageLength, Blo
 use Rattle.answers.specs.declared.Refusal.the-variants.{FilterLength, FilterShape, UnknownClause, DuplicateClause, ClauseValue}
 use Rattle.answers.specs.declared.Refusal.the-variants.{GuidLength, GuidNotHeld, DnsNameEmpty, DnsNameNotHeld}
 use Rattle.answers.specs.declared.Refusal.the-variants.{SidShape, SidNotHeld, SidOfAnother, UserLabelEmpty, NoRoom}
-use Rattle.answers.specs.declared.Refusal.the-variants.{ReplyCut, ReplyOpcode, ReplyText, ReplyFixed, ReplyLeftOver}
+use Rattle.answers.specs.declared.Refusal.the-variants.{ReplyCut, ReplyOpcode, ReplyText, ReplyFixed, ReplyLeftOver, MailslotShape}
 
 abbrev pub number : Refusal → ℕ
 number ImageLength = 1
@@ -32,6 +32,7 @@ number ReplyOpcode = 32
 number ReplyText = 33
 number ReplyFixed = 34
 number ReplyLeftOver = 35
+number MailslotShape = 41
 
 -- what `number_of` promises
 abbrev pub NumberOfPromise : Refusal → ℕ → Type 0

@@ -45,7 +45,10 @@ exVersion = NETLOGON-NT-VERSION-1 + NETLOGON-NT-VERSION-5EX
 abbrev pub exVersionWithNextSite : ℕ
 exVersionWithNextSite = exVersion + NETLOGON-NT-VERSION-WITH-CLOSEST-SITE
 
--- the opcodes, of the two older forms and of EX
+-- the opcodes: of a mailslot message, of the two older forms and of EX
+abbrev pub LOGON-SAM-LOGON-REQUEST : ℕ
+LOGON-SAM-LOGON-REQUEST = 18
+
 abbrev pub LOGON-SAM-LOGON-RESPONSE : ℕ
 LOGON-SAM-LOGON-RESPONSE = 19
 

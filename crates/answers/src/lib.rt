@@ -1,5 +1,6 @@
-// The answers of document 01, "Answer numbers" and "Reading a reply": why a call refuses, and the three forms of a reply.
+// The answers of document 01, "Answer numbers" and "Reading a reply", and of document 02: why a call refuses, and the three forms of a reply.
 pub mod wire;
+pub mod written;
 
 ghost use Rattle.answers.specs.Refusal.{number, NumberOfPromise};
 
@@ -28,6 +29,7 @@ pub enum Refusal {
     ReplyText,
     ReplyFixed,
     ReplyLeftOver,
+    MailslotShape,
 }
 
 // The number that document 01 gives a refusal.
@@ -58,6 +60,7 @@ pub fn number_of(r: Refusal) -> u8
         Refusal::ReplyText => 33,
         Refusal::ReplyFixed => 34,
         Refusal::ReplyLeftOver => 35,
+        Refusal::MailslotShape => 41,
     }
 }
 

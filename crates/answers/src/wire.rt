@@ -26,7 +26,9 @@ pub const EX_VERSION: u32 = NETLOGON_NT_VERSION_1 + NETLOGON_NT_VERSION_5EX;
 
 pub const EX_VERSION_WITH_NEXT_SITE: u32 = EX_VERSION + NETLOGON_NT_VERSION_WITH_CLOSEST_SITE;
 
-// The opcodes, of the two older forms and of EX.
+// The opcodes: of a mailslot message, of the two older forms and of EX.
+pub const LOGON_SAM_LOGON_REQUEST: u16 = 18;
+
 pub const LOGON_SAM_LOGON_RESPONSE: u16 = 19;
 
 pub const LOGON_SAM_PAUSE_RESPONSE: u16 = 20;

@@ -2,7 +2,9 @@
 pub mod address;
 pub mod clause;
 pub mod complaint;
+pub mod escape;
 pub mod file;
 pub mod hex;
+pub mod message_word;
 pub mod number;
 pub mod word;

@@ -6,6 +6,8 @@ ghost use lib.Dec.{leb};
 ghost use lib.ListN.{length};
 ghost use Rattle.octets.specs.Lists.{all};
 ghost use Rattle.filter_read.specs.Value.{pingFrom, judgedValues, judgedNumber};
+ghost use Rattle.mailslot.specs.Message.{messageIn};
+ghost use Rattle.mailslot.specs.Read.{messageAs, messageNumber};
 ghost use Rattle.names.specs.Internal.Plan.{ShortTexts};
 ghost use Rattle.table.specs.Block.{imageMost, blocksOf};
 ghost use Rattle.table_check.specs.Check.{goodCheck};
@@ -14,6 +16,8 @@ use filter_read::ping::PingRead;
 use filter_read::ping::read_ping;
 use lent::stretch::Lender;
 use lent::stretch::Stretch;
+use mailslot::message::message_number;
+use mailslot_read::read::read_message;
 use names::plan::NAMES_MOST;
 use names::plan::plan_names;
 use names_write::put::put_names;
@@ -41,6 +45,14 @@ pub extern "C" fn bench_read(filter: &[u8]) -> u8
         PingRead::Ping(_) => 0,
         PingRead::Refused(r) => number_of(r),
     }
+}
+
+// The number that reading a mailslot message gives.
+#[no_mangle]
+pub extern "C" fn bench_read_message(message: &[u8]) -> u8
+    ensures { λ r. ⌜ r ≡ messageNumber (messageAs (messageIn (now (message .entry)))) ⌝ }
+{
+    message_number(read_message(message))
 }
 
 // How far apart the texts of names lie in their source.

@@ -3,14 +3,26 @@ ghost use mathlib.Core.Path.{_≡_};
 ghost use mathlib.Core.Option.{Option·getD};
 ghost use Rattle.filter_read.specs.Taken.{requestIn, takenAs, takenNumber};
 ghost use Rattle.filter_read.specs.Value.{judgedNumber, judgedVersion};
-ghost use Rattle.filter_write.specs.Write.{writtenNumber, writtenLength, WriteFilterLeaves};
+ghost use Rattle.answers.specs.Written.{writtenNumber, writtenLength};
+ghost use Rattle.filter_write.specs.Write.{WriteFilterLeaves};
+ghost use Rattle.mailslot.specs.Read.{messageNumber};
+ghost use Rattle.mailslot_write.specs.Write.{WriteMessageLeaves};
 ghost use Rattle.reader_forms.specs.Reading.{readingNumber};
 ghost use Rattle.reader_text.specs.Text.{nameText, nameTextAs, textNumber, textLength};
 ghost use Rattle.table_check.specs.Check.{checkOf};
 ghost use Rattle.c_request.specs.Request.{requestGiven, takenMembers};
+ghost use Rattle.c_mailslot.specs.Message.{messageOf, messageMembers};
 ghost use Rattle.c_reading.specs.Reading.{readingMembers};
-ghost use Rattle.c_calls.specs.Calls.{checkMembers, valuesJudged, filterWritten, replyRead};
+ghost use Rattle.c_calls.specs.Calls.{checkMembers, valuesJudged, filterWritten, replyRead, messageRead, messageWritten};
 use answers::Form;
+use answers::Refusal;
+use answers::written::Written;
+use answers::written::written_length;
+use answers::written::written_number;
+use c_mailslot::message::Given;
+use c_mailslot::message::MESSAGE_MEMBERS;
+use c_mailslot::message::message_given;
+use c_mailslot::message::message_members;
 use c_reading::reading::READING_MEMBERS;
 use c_reading::reading::reading_members;
 use c_request::request::REQUEST_MEMBERS;
@@ -22,8 +34,9 @@ use filter_read::value::judge_values;
 use filter_read::value::judged_number;
 use filter_read::value::judged_version;
 use filter_write::write::write_filter;
-use filter_write::write::written_length;
-use filter_write::write::written_number;
+use mailslot::message::message_number;
+use mailslot_read::read::read_message;
+use mailslot_write::write::write_message;
 use reader_forms::reading::reading_number;
 use reader_reply::read::read_reply;
 use reader_text::TEXT_MOST;
@@ -97,4 +110,39 @@ pub fn put_text(reply: &[u8], start: usize, text: &mut [u8; TEXT_MOST], length: 
     *text = octets;
     *length = text_length(len);
     text_number(len)
+}
+
+pub fn put_message_members(message: &[u8], members: &mut [usize; MESSAGE_MEMBERS]) -> u8
+    ensures { λ r. ⌜ r ≡ messageNumber (messageRead (now (message .entry))) ⌝ }
+    ensures { λ _. ⌜ now (members .exit) ≡ messageMembers (messageRead (now (message .entry))) ⌝ }
+{
+    let read = read_message(message);
+    *members = message_members(read);
+    message_number(read)
+}
+
+// A number past its field's width is 41, like whatever else breaks a message's limits.
+fn message_written(source: &[u8], members: &[usize; MESSAGE_MEMBERS], out: &mut [u8]) -> Written
+    ensures { λ r. ⌜ r ≡ messageWritten (now (source .entry)) (now (members .entry)) (now (out .entry)) ⌝ }
+    ensures { λ _. ⌜ WriteMessageLeaves (now (source .entry)) (messageOf (now (members .entry))) (now (out .entry)) (now (out .exit)) ⌝ }
+{
+    match message_given(members) {
+        Given::Message(message) => write_message(source, message, out),
+        Given::Wide => Written::Refused(Refusal::MailslotShape),
+    }
+}
+
+pub fn put_message(
+    source: &[u8],
+    members: &[usize; MESSAGE_MEMBERS],
+    out: &mut [u8],
+    length: &mut usize,
+) -> u8
+    ensures { λ r. ⌜ r ≡ writtenNumber (messageWritten (now (source .entry)) (now (members .entry)) (now (out .entry))) ⌝ }
+    ensures { λ _. ⌜ now (length .exit) ≡ writtenLength (messageWritten (now (source .entry)) (now (members .entry)) (now (out .entry))) ⌝ }
+    ensures { λ _. ⌜ WriteMessageLeaves (now (source .entry)) (messageOf (now (members .entry))) (now (out .entry)) (now (out .exit)) ⌝ }
+{
+    let written = message_written(source, members, out);
+    *length = written_length(written);
+    written_number(written)
 }

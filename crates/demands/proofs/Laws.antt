@@ -13,3 +13,4 @@ pub mod Demand3Calls
 pub mod ReadingWalks
 pub mod Length
 pub mod Pointers
+pub mod Mailslot

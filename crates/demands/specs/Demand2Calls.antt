@@ -1,4 +1,4 @@
--- Demand 2's reading, of the three calls: what `answer_ping` leaves in the buffer, `read_reply` and `name_text` give back together, in all three forms, as the
+-- Demand 2's reading, of the three calls: what an answering call leaves in the buffer, `read_reply` and `name_text` give back together, in all three forms, as the
 -- texts and numbers that went in. By what the three contracts ensure, and the definitions.
 use mathlib.Core.Path.{_≡_}
 use mathlib.Core.List.{List}

@@ -70,7 +70,7 @@ ReadsWalked form v r s len = (given : Reading) → ReadReplyPromise s form v giv
 abbrev pub Demand3Over : Type 0
 Demand3Over = EveryAnswerOver (ReplyIs (λ form v r s. ReadsWalked form v r s (length s)))
 
--- of the octets that `answer_ping` leaves in the buffer
+-- of the octets that an answering call leaves in the buffer
 abbrev pub Demand3Calls : Type 0
 Demand3Calls = EveryReply ReadsWalked
 

@@ -7,3 +7,4 @@ pub mod Demand2Calls
 pub mod Places
 pub mod Demand3
 pub mod Pointers
+pub mod Mailslot

@@ -9,16 +9,11 @@ use lib.ListN.{length}
 use Rattle.answers.specs.{declared.Form.Form, Try.Try, Try.good}
 use Rattle.answers.specs.declared.Form.the-variants.{Nt40, Response, Ex}
 use Rattle.answers.specs.Wire.{nt40Version, responseVersion, exVersion, exVersionWithNextSite}
-use Rattle.octets.specs.Lists.{cut}
 use Rattle.unicode.specs.{Utf8.isUtf8, Utf16.utf16}
-use Rattle.reader.specs.declared.field.Stretch.{Stretch}
+use Rattle.reader.specs.Field.{stretchOf}
 use Rattle.reader.specs.Reader.{NameRead, Nt40Fields, ResponseFields, ExFields, Fields, nt40, response, ex, readIn, readLength}
 use Rattle.reply.specs.Reply.{Reply, responseNames, exNames}
 use Rattle.demands.specs.Derivation.{ReplyIs, EveryAnswerOver, EveryAnswer}
-
--- the octets of a stretch
-abbrev pub stretchOf : List ℕ → Stretch → List ℕ
-stretchOf s t = cut s (t .start) (t .len)
 
 abbrev pub textOf : NameRead → List ℕ
 textOf n = n .text

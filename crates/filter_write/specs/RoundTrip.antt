@@ -7,8 +7,8 @@ use Rattle.answers.specs.Try.{good}
 use Rattle.filter.specs.{declared.request.ClauseName.ClauseName, declared.request.Request.Request, Request.clause, Request.octetsOf}
 use Rattle.filter_read.specs.{declared.read.Taken.Taken, Taken.requestIn, Taken.TakeApartPromise}
 use Rattle.filter_read.specs.declared.read.Taken.the-variants as taken
-use Rattle.filter_write.specs.declared.write.Written.{Written}
-use Rattle.filter_write.specs.declared.write.Written.the-variants as written
+use Rattle.answers.specs.declared.written.Written.{Written}
+use Rattle.answers.specs.declared.written.Written.the-variants as written
 use Rattle.filter_write.specs.Write.{filterFor, WriteFilterReturns, WriteFilterLeaves}
 
 -- the same clauses: for each name both are absent, or both are present with the same octets

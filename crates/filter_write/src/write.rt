@@ -3,9 +3,9 @@ ghost use mathlib.Core.Path.{_≡_};
 ghost use lib.ListN.{length};
 ghost use Rattle.octets.specs.Lists.{any};
 ghost use Rattle.filter.specs.Request.{clauseNames, clause, isPresent};
-ghost use Rattle.filter_write.specs.Write.{writtenNumber, writtenLength, WriteFilterReturns, WriteFilterLeaves};
+ghost use Rattle.filter_write.specs.Write.{WriteFilterReturns, WriteFilterLeaves};
 use answers::Refusal;
-use answers::number_of;
+use answers::written::Written;
 use filter::request::CLAUSE_COUNT;
 use filter::request::Request;
 use filter::request::clause_name_at;
@@ -13,32 +13,6 @@ use filter_octets::size::contents_size;
 use filter_octets::size::element_size;
 use filter_position::position::FILTER_LIMIT;
 use filter_put::put::put_filter;
-
-// What writing a filter gives: 0 with the length, or 6, 5 or 19.
-pub enum Written {
-    Length(usize),
-    Refused(Refusal),
-}
-
-// Document 01's number of it.
-pub fn written_number(written: Written) -> u8
-    ensures { λ r. ⌜ r ≡ writtenNumber written ⌝ }
-{
-    match written {
-        Written::Length(_) => 0,
-        Written::Refused(refusal) => number_of(refusal),
-    }
-}
-
-// The length written, 0 with a refusal.
-pub fn written_length(written: Written) -> usize
-    ensures { λ r. ⌜ r ≡ writtenLength written ⌝ }
-{
-    match written {
-        Written::Length(length) => length,
-        Written::Refused(_) => 0,
-    }
-}
 
 // Whether a clause is present.
 fn has_clause(request: Request) -> bool

@@ -1,12 +1,20 @@
 // locate TABLE CLIENT CLAUSE=VALUE...: answers a ping of these clauses from a table image, and shows the answer.
 // locate TABLE CLIENT --filter HEX: the same with the octets of a filter.
+// locate TABLE CLIENT --mailslot WORD=VALUE...: the same with a mailslot message of these words.
+// locate TABLE CLIENT --mailslot HEX: the same with the octets of a mailslot message.
 mod asked;
+mod filter_asked;
+mod message_asked;
+mod message_shown;
 mod show;
 
-use crate::asked::FILTER_SIZE;
-use crate::asked::FilterAsked;
-use crate::asked::filter_asked;
-use crate::show::show_answer;
+use crate::asked::ASKED_SIZE;
+use crate::asked::Asked;
+use crate::asked::is_asked;
+use crate::filter_asked::filter_asked;
+use crate::message_asked::message_asked;
+use crate::show::show_filter;
+use crate::show::show_message;
 use arguments::address::Ipv4;
 use arguments::address::ipv4_of;
 use arguments::complaint::complain;
@@ -39,6 +47,24 @@ fn client_asked() -> Ipv4 {
     client
 }
 
+fn answer_filter(image: &[u8], caller: Caller) -> bool {
+    let mut filter = [0u8; ASKED_SIZE];
+    let Asked::Octets(len) = filter_asked(&mut filter) else {
+        return false;
+    };
+    show_filter(image, caller, part(&filter, 0, len));
+    true
+}
+
+fn answer_message(image: &[u8], caller: Caller) -> bool {
+    let mut message = [0u8; ASKED_SIZE];
+    let Asked::Octets(len) = message_asked(&mut message) else {
+        return false;
+    };
+    show_message(image, caller, part(&message, 0, len));
+    true
+}
+
 // What the arguments ask is answered; where they ask nothing that can be, what is wrong is told.
 fn answer_asked(image: &mut [u8]) -> bool {
     let FileRead::Octets(size) = read_table(image) else {
@@ -47,15 +73,14 @@ fn answer_asked(image: &mut [u8]) -> bool {
     let Ipv4::Address { a, b, c, d } = client_asked() else {
         return false;
     };
-    let mut filter = [0u8; FILTER_SIZE];
-    let FilterAsked::Octets(len) = filter_asked(&mut filter) else {
-        return false;
-    };
     let caller = Caller {
         address: [a, b, c, d],
     };
-    show_answer(part(image, 0, size), caller, part(&filter, 0, len));
-    true
+    let table = part(image, 0, size);
+    if is_asked(b"--mailslot") {
+        return answer_message(table, caller);
+    }
+    answer_filter(table, caller)
 }
 
 fn main() {

@@ -1,4 +1,5 @@
-// The answer to a ping, shown.
+// The answer to a filter or to a mailslot message, shown.
+use crate::message_shown::say_message;
 use answers::Form;
 use answers::number_of;
 use console::say::say;
@@ -7,6 +8,9 @@ use filter_read::ping::PingRead;
 use filter_read::ping::read_ping;
 use locator::Answer;
 use locator::ping::answer_ping;
+use mailslot::message::MessageRead;
+use mailslot_answer::answer::answer_mailslot;
+use mailslot_read::read::read_message;
 use octets::part::part;
 use reader_reply::read::read_reply;
 use report::answer::say_answer;
@@ -35,19 +39,38 @@ fn show_reply(reply: &[u8], form: Form, version: u32, context: u16) {
     say_reading(reply, read_reply(reply, form, version));
 }
 
-pub fn show_answer<'a>(image: &'a [u8], caller: Caller, filter: &'a [u8]) {
-    let mut reply = [0u8; REPLY_SIZE];
-    match answer_ping(image, caller, filter, &mut reply) {
+// An answer to what asked with version bits, and the buffer that was lent for a reply.
+fn show(answer: Answer, reply: &[u8], version: u32) {
+    match answer {
         Answer::Refused(refusal) => say_answer(number_of(refusal), b""),
         Answer::Answered {
             length,
             context,
             form,
-        } => show_reply(
-            part(&reply, 0, length),
-            form,
-            version_asked(filter),
-            context.0,
-        ),
+        } => show_reply(part(reply, 0, length), form, version, context.0),
     }
+}
+
+pub fn show_filter<'a>(image: &'a [u8], caller: Caller, filter: &'a [u8]) {
+    let mut reply = [0u8; REPLY_SIZE];
+    let answer = answer_ping(image, caller, filter, &mut reply);
+    show(answer, &reply, version_asked(filter));
+}
+
+// A message that is none is not shown; its version, which no reply asks for, is 0.
+fn show_asked(octets: &[u8]) -> u32 {
+    match read_message(octets) {
+        MessageRead::Read(message) => {
+            say_message(octets, message);
+            message.version
+        }
+        MessageRead::Refused(_) => 0,
+    }
+}
+
+pub fn show_message<'a>(image: &'a [u8], caller: Caller, message: &'a [u8]) {
+    let mut reply = [0u8; REPLY_SIZE];
+    let version = show_asked(message);
+    let answer = answer_mailslot(image, caller, message, &mut reply);
+    show(answer, &reply, version);
 }

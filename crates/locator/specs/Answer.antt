@@ -1,5 +1,5 @@
--- Document 01, "Answer numbers": the answer in three layers, and the whole as one function of table image, caller, filter and room. The first layer, the
--- table of an image (1 to 4), is `tableIn`, the second, the ping of a filter (5 to 9), is `pingFrom`.
+-- Document 01, "Answer numbers": the answer in three layers, and the whole as one function of table image, caller, what was received and room. The first layer,
+-- the table of an image (1 to 4), is `tableIn`; the second, the way in, makes a ping of what was received: of a filter (5 to 9) it is `pingFrom`.
 use Rattle.octets.specs.{Buffer.over, Label.labels, Lists.any, Lists.holds}
 use mathlib.Core.Path.{_≡_}
 use mathlib.Core.Bool.{Bool, true, false, _&&_}
@@ -48,12 +48,16 @@ answerOver t caller p room = do
   c ← contextIn t p
   replyTo t caller p room c
 
--- the numbers are judged in their order, each over the whole table or filter
-unfoldable pub answerTo : List ℕ → Caller → List ℕ → ℕ → Try Outcome
-answerTo image caller filter room = do
+-- the numbers are judged in their order, each over the whole table or all that was received
+unfoldable pub answerBy : (List ℕ → Try Ping) → List ℕ → Caller → List ℕ → ℕ → Try Outcome
+answerBy way image caller octets room = do
   t ← tableIn image
-  p ← pingFrom filter
+  p ← way octets
   answerOver t caller p room
+
+-- the answer to a filter
+abbrev pub answerTo : List ℕ → Caller → List ℕ → ℕ → Try Outcome
+answerTo = answerBy pingFrom
 
 -- the answer as the enum that the call returns
 abbrev pub answerAs : Try Outcome → Answer
@@ -90,9 +94,16 @@ pub record AnswerOf (o : Try Outcome) (r : Answer) : Type 0 where
   pub used : answerContext r ≡ Option·getD (Option·map (λ a. a .context .0) (valueOf o)) 0
   pub formed : answerForm r ≡ Option·map (λ a. a .form) (valueOf o)
 
--- what `answer_ping` promises to return, and to leave in the buffer
+-- what a call that answers promises, by its way in, to return and to leave in the buffer
+abbrev pub AnswerReturns : (List ℕ → Try Ping) → List ℕ → Caller → List ℕ → List ℕ → Answer → Type 0
+AnswerReturns way image caller octets before = AnswerOf (answerBy way image caller octets (length before))
+
+abbrev pub AnswerLeaves : (List ℕ → Try Ping) → List ℕ → Caller → List ℕ → List ℕ → List ℕ → Type 0
+AnswerLeaves way image caller octets before after = after ≡ over (octetsWritten (answerBy way image caller octets (length before))) before
+
+-- what `answer_ping` promises
 abbrev pub AnswerPingReturns : List ℕ → Caller → List ℕ → List ℕ → Answer → Type 0
-AnswerPingReturns image caller filter before = AnswerOf (answerTo image caller filter (length before))
+AnswerPingReturns = AnswerReturns pingFrom
 
 abbrev pub AnswerPingLeaves : List ℕ → Caller → List ℕ → List ℕ → List ℕ → Type 0
-AnswerPingLeaves image caller filter before after = after ≡ over (octetsWritten (answerTo image caller filter (length before))) before
+AnswerPingLeaves = AnswerLeaves pingFrom

@@ -9,6 +9,10 @@ use Rattle.answers.specs.Try.{Try, good, refusedIf, _>>=_}
 use Rattle.octets.specs.{Lists.cut, Text.same}
 use Rattle.reader.specs.declared.field.Stretch.{Stretch}
 
+-- the octets of a stretch, those of it that are there
+abbrev pub stretchOf : List ℕ → Stretch → List ℕ
+stretchOf s t = cut s (t .start) (t .len)
+
 pub record Read (A : Type 0) : Type 0 where
   pub value : A
   pub next : ℕ

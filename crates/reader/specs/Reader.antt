@@ -81,7 +81,7 @@ abbrev pub readConstant : ℕ → ℕ → List ℕ → ℕ → Try (Read (List �
 readConstant w n s at = readFixed s at (littleOctets w n)
 
 -- the two tokens, and 35 where octets are left over
-unfoldable pub readTokens : List ℕ → ℕ → Fields → Try Fields
+unfoldable pub readTokens : {A : Type 0} → List ℕ → ℕ → A → Try A
 readTokens s at fields = do
   f ← readConstant 2 LmNtToken s at
   g ← readConstant 2 Lm20Token s (f .next)

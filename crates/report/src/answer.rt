@@ -1,4 +1,4 @@
-// An answer number with its meaning: document 01, "Answer numbers" and "Reading a reply".
+// An answer number with its meaning: document 01, "Answer numbers" and "Reading a reply", and document 02.
 use answers::Form;
 use console::field::field;
 use console::say::say;
@@ -28,12 +28,18 @@ the reply is longer than the buffer";
 
 const FIRST_OF_REPLY: u8 = 31;
 
-// From 31 on.
-const REPLY_REFUSALS: [u8; 153] = *b"the reply is cut short
+// From 31 on; 36 to 40 are none.
+const REPLY_REFUSALS: [u8; 212] = *b"the reply is cut short
 the opcode is not one of this form
 a text or a name is broken
 a fixed field has another value
-octets are left over after the reply";
+octets are left over after the reply
+
+
+
+
+
+the mailslot message is not of the shape that is read";
 
 fn say_refusal(number: u8) {
     if number < FIRST_OF_REPLY {

@@ -19,13 +19,13 @@ use reader_names::NameAt;
 use reader_text::TextLength;
 use reader_text::text::name_text;
 
-fn say_version(version: u32) {
+pub fn say_version(version: u32) {
     say(b"version   ");
     say_bits(version);
     say(b"\n");
 }
 
-fn say_text(title: &[u8], reply: &[u8], text: Stretch) {
+pub fn say_text(title: &[u8], reply: &[u8], text: Stretch) {
     say(title);
     say_utf16_quoted(part(reply, text.start, text.len));
     say(b"\n");

@@ -114,7 +114,7 @@ pub record Shortest (form : Form) (v : ℕ) (r : Reply) (s : List ℕ) : Type 0 
   pub least : (other : List ℕ) (at : List Placed) → Compared form r other at → length s ≤ length other
   pub readBack : (other : List ℕ) (at : List Placed) → Compared form r other at → SaysNames (fieldsOf form r) other at
 
--- so of every answer over a table, and of the octets that the answering call leaves
+-- so of every answer over a table, and of the octets that an answering call leaves
 abbrev pub ShortestAnswerOver : Type 0
 ShortestAnswerOver = EveryAnswerOver (ReplyIs Shortest)
 

@@ -1,7 +1,7 @@
-pub mod Transcode
 pub mod Codec
 pub mod Utf8
 pub mod Utf16
+pub mod Writing
 pub mod OneText
 pub mod UserName
 pub mod Point

@@ -1,12 +1,12 @@
--- Document 01, "The table image": UTF-8 by RFC 3629, section 4; a text's code points, read octet by octet.
+-- Document 01, "The table image": UTF-8 by RFC 3629, section 4; a text's code points, read octet by octet. Document 02, #105: the octets of a code point.
 use mathlib.Core.Bool.{Bool, cond}
 use mathlib.Core.List.{List, [], _∷_}
 use mathlib.Core.Option.{Option, none, some, Option·map}
-use Prim.Native.Nat.{ℕ, zero, suc, _+_, _*_, _%_}
+use Prim.Native.Nat.{ℕ, zero, suc, _+_, _*_, _/_, _%_}
 use lib.Dec.{eqb, ltb}
 use Rattle.octets.specs.{Lists.isSome, Text.within}
 
--- a character read in part: octets still to come, the range of the next one, and the code point's bits so far
+-- a character read in part: octets (in UTF-16LE units) still to come, the range of the next one, and the code point's bits so far
 pub record Partial : Type 0 where
   pub left : ℕ
   pub low : ℕ
@@ -72,3 +72,11 @@ points = pointsFrom between
 
 unfoldable pub isUtf8 : List ℕ → Bool
 isUtf8 s = isSome (points s)
+
+-- a code point's octets by RFC 3629, section 3
+unfoldable pub utf8Of : ℕ → List ℕ
+utf8Of c =
+    cond (ltb c 0x80) (c ∷ [])
+    (cond (ltb c 0x800) ((0xC0 + c / 64) ∷ (0x80 + c % 64) ∷ [])
+    (cond (ltb c 0x10000) ((0xE0 + c / 4096) ∷ (0x80 + c / 64 % 64) ∷ (0x80 + c % 64) ∷ [])
+    ((0xF0 + c / 262144) ∷ (0x80 + c / 4096 % 64) ∷ (0x80 + c / 64 % 64) ∷ (0x80 + c % 64) ∷ [])))

@@ -3,17 +3,19 @@ ghost use Prim.Native.Nat.{_≤_};
 use crate::filter_lines::answer_filter;
 use crate::filter_lines::answer_values;
 use crate::ping_lines::answer_ping_line;
-use crate::read_lines::answer_read;
-use crate::walk_lines::answer_walk;
-use crate::words::is_octets;
-use crate::words::say_numbers;
-use crate::words::say_unknown;
-use crate::words::word;
 use crate::write::answer_write;
 use console::digits::decode;
 use console::field::field_number;
 use console::say::say;
+use line_words::words::is_octets;
+use line_words::words::say_numbers;
+use line_words::words::say_unknown;
+use line_words::words::word;
+use mailslot_lines::read::answer_mailslot_line;
+use mailslot_lines::write::answer_mailwrite_line;
 use octets::part::part;
+use reply_lines::read::answer_read;
+use reply_lines::walk::answer_walk;
 
 // The longest line that is read, without its LF.
 const LONGEST: usize = 140100;
@@ -35,7 +37,13 @@ const WRITE: usize = 6;
 
 const TABLE: usize = 7;
 
-const UNKNOWN: usize = 8;
+const MAILSLOT: usize = 8;
+
+const MAILPING: usize = 9;
+
+const MAILWRITE: usize = 10;
+
+const UNKNOWN: usize = 11;
 
 fn spaces_in(x: u8) -> usize
     ensures { λ r. ⌜ r ≤ 1 ⌝ }
@@ -58,9 +66,10 @@ fn space_count(line: &[u8]) -> usize {
 fn spaces_of(kind: usize) -> usize {
     match kind {
         WALK => 2,
-        PING => 3,
+        PING | MAILPING => 3,
         READ => 3,
         WRITE => 9,
+        MAILWRITE => 8,
         _ => 1,
     }
 }
@@ -68,7 +77,7 @@ fn spaces_of(kind: usize) -> usize {
 // The kind of a line that has as many words as its kind.
 fn kind_of(line: &[u8]) -> usize {
     let kind = field_number(
-        b"check filter values walk ping read write table",
+        b"check filter values walk ping read write table mailslot mailping mailwrite",
         b' ',
         word(line, 0),
     );
@@ -82,7 +91,7 @@ fn kind_of(line: &[u8]) -> usize {
 fn octets_place(kind: usize) -> usize {
     match kind {
         WALK => 2,
-        PING => 2,
+        PING | MAILPING => 2,
         READ => 3,
         _ => 1,
     }
@@ -112,10 +121,20 @@ fn answer_octets<'a>(kind: usize, line: &[u8], image: &'a [u8], octets: &'a [u8]
         FILTER => answer_filter(octets),
         VALUES => answer_values(octets),
         WALK => answer_walk(line, octets),
-        PING => answer_ping_line(line, image, octets),
+        PING | MAILPING => answer_ping_line(line, image, octets),
         READ => answer_read(line, octets),
+        MAILSLOT => answer_mailslot_line(octets),
         _ => say_unknown(),
     }
+}
+
+// A line of a call that writes: its texts are put into the space.
+fn answer_writing(kind: usize, line: &[u8], space: &mut [u8]) {
+    if kind == WRITE {
+        answer_write(line, space);
+        return;
+    }
+    answer_mailwrite_line(line, space);
 }
 
 // Answers a line, and puts the image of a `table` line in place of the one that stood: how many octets of it stand for the next line.
@@ -126,8 +145,8 @@ fn answer_kind(
     standing: usize,
     space: &mut [u8],
 ) -> usize {
-    if kind == WRITE {
-        answer_write(line, space);
+    if (kind == WRITE) | (kind == MAILWRITE) {
+        answer_writing(kind, line, space);
         return standing;
     }
     let text = word(line, octets_place(kind));

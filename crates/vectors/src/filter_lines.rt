@@ -1,8 +1,6 @@
 // `filter` and `values` lines: a filter is taken apart, and its values are judged.
-use crate::words::say_numbers;
 use console::say::say;
 use console::say::say_bits;
-use console::say::say_hex;
 use filter::request::CLAUSE_COUNT;
 use filter::request::Clause;
 use filter::request::Request;
@@ -14,14 +12,15 @@ use filter_read::value::Judged;
 use filter_read::value::judge_values;
 use filter_read::value::judged_number;
 use filter_read::value::judged_version;
+use line_words::text::say_text;
+use line_words::words::say_numbers;
 use octets::part::part;
 
 fn say_clause(filter: &[u8], clause: Clause) {
     match clause {
         Clause::Absent => say(b" ."),
         Clause::Present { start, len } => {
-            say(b" =");
-            say_hex(part(filter, start, len));
+            say_text(part(filter, start, len));
         }
     }
 }

@@ -1,12 +1,8 @@
 // Answers vector lines: standard input is read line by line, and each line's answer is written to standard output.
 mod answer;
-mod buffer;
 mod filter_lines;
 mod input;
 mod ping_lines;
-mod read_lines;
-mod walk_lines;
-mod words;
 mod write;
 
 fn main() {

@@ -1,25 +1,24 @@
 // `write` lines: a filter is written from eight clauses.
-use crate::buffer::Room;
-use crate::buffer::filled;
-use crate::buffer::room_of;
-use crate::words::say_numbers;
-use crate::words::say_octets;
-use crate::words::say_unknown;
-use crate::words::word;
-use console::digits::all_hex_digits;
-use console::digits::decode;
-use console::field::field_start;
+ghost use Prim.Native.Nat.{_≤_};
+ghost use lib.ListN.{length};
 use filter::request::CLAUSE_COUNT;
 use filter::request::Clause;
 use filter::request::Request;
 use filter::request::clause_name_at;
 use filter::request::no_clauses;
-use filter_write::write::Written;
 use filter_write::write::write_filter;
-use filter_write::write::written_length;
-use filter_write::write::written_number;
+use line_words::buffer::filled;
+use line_words::buffer::is_room;
+use line_words::buffer::room_of;
+use line_words::text::is_text;
+use line_words::text::take_text;
+use line_words::words::say_unknown;
+use line_words::words::say_written;
+use line_words::words::word;
 use octets::part::part;
 use octets::text::same_octets;
+
+const ROOM: usize = 1;
 
 // The word of the first clause.
 const FIRST_CLAUSE: usize = 2;
@@ -34,23 +33,20 @@ enum RequestWords {
     Request(Request),
 }
 
-// What a word stands for: `.` for an absent clause, else `=` and two digits for each octet of one. Its octets go into the source where the word stands
-// in the line: they take half as much room, so no two meet.
+// What a word stands for: `.` for an absent clause, else the text of one.
 fn clause_in(line: &[u8], number: usize, source: &mut [u8]) -> ClauseWord {
-    let start = field_start(line, b' ', number);
     let text = word(line, number);
     if same_octets(text, b".") {
         return ClauseWord::Clause(Clause::Absent);
     }
-    let digits = part(text, 1, text.len());
-    if !same_octets(part(text, 0, 1), b"=") | (digits.len() % 2 != 0) | !all_hex_digits(digits) {
+    if !is_text(text) {
         return ClauseWord::Bad;
     }
-    if source.len() < start {
-        return ClauseWord::Bad;
-    }
-    let len = decode(digits, &mut source[start..]);
-    ClauseWord::Clause(Clause::Present { start, len })
+    let taken = take_text(line, number, source);
+    ClauseWord::Clause(Clause::Present {
+        start: taken.start,
+        len: taken.len,
+    })
 }
 
 // The clauses of a line, in document 01's order.
@@ -67,25 +63,23 @@ fn request_in(line: &[u8], source: &mut [u8]) -> RequestWords {
     RequestWords::Request(request)
 }
 
-fn write_into(source: &[u8], request: Request, out: &mut [u8]) {
-    let written = write_filter(source, request, out);
-    let numbers = [
-        written_number(written) as u64,
-        written_length(written) as u64,
-    ];
-    say_numbers(b"write", &numbers);
-    say_octets(out);
+fn write_into(source: &[u8], request: Request, out: &mut [u8], room: usize)
+    requires { ⌜ room ≤ length (now out) ⌝ }
+{
+    let start = 0;
+    let written = write_filter(source, request, &mut out[start..room]);
+    say_written(b"write", written, part(out, start, room));
 }
 
 pub fn answer_write(line: &[u8], space: &mut [u8]) {
-    let Room::Octets(room) = room_of(word(line, 1)) else {
+    if !is_room(word(line, ROOM)) {
         say_unknown();
         return;
-    };
+    }
     let RequestWords::Request(request) = request_in(line, space) else {
         say_unknown();
         return;
     };
     let mut out = filled();
-    write_into(space, request, &mut out[..room]);
+    write_into(space, request, &mut out, room_of(word(line, ROOM)));
 }

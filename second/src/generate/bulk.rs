@@ -7,6 +7,8 @@ use super::chance::Chance;
 use super::checks::random_octets;
 use super::elements::{and, equality, nested};
 use super::filters::random_filter;
+use super::mailslots::draft::Draft;
+use super::mailslots::{random_draft, reply_to_message};
 use super::pings::reply_to;
 use super::replies::{name_like, offset_in, received, Received};
 use super::requests::{Asked, Requests};
@@ -46,6 +48,9 @@ fn group(chance: &mut Chance) -> Vec<Vec<u8>> {
     lines.add_sometimes(3, |requests, chance| requests.check(&random_octets(chance)));
     for _ in 0..24 {
         lines.add_asked(&table, &image);
+    }
+    for _ in 0..4 {
+        lines.add_message(&table, &image);
     }
     lines.lines
 }
@@ -116,6 +121,26 @@ impl Lines<'_> {
         let asked = asked(self.chance, table);
         let filter = filter_of(self.chance, &asked);
         self.add(|requests, chance| requests.ping(table.client(chance), &filter, room(chance, 0)));
+        let message = table.message(self.chance).octets();
+        self.add_sometimes(3, |requests, chance| {
+            requests.mailping(table.client(chance), &message, room(chance, 0));
+        });
+    }
+
+    /// A ping that comes as a message, and lines that read and write messages.
+    fn add_message(&mut self, table: &Sample, image: &[u8]) {
+        let draft = message(self.chance, table);
+        let octets = draft.octets();
+        let client = table.client(self.chance);
+        let length = reply_to_message(image, client, &octets).map_or(0, |(_, reply)| reply.len());
+        self.add(|requests, chance| requests.mailping(client, &octets, room(chance, length)));
+        self.add_sometimes(3, |requests, _| requests.mailslot(&octets));
+        self.add_sometimes(3, |requests, chance| requests.mailslot(&random_draft(chance).octets()));
+        self.add_sometimes(3, |requests, chance| requests.mailslot(&changed_octets(chance, octets.clone(), false)));
+        self.add_sometimes(2, |requests, chance| {
+            let draft = if chance.once_in(2) { draft.clone() } else { random_draft(chance) };
+            requests.mailwrite(room(chance, draft.octets().len()), &draft);
+        });
     }
 
     /// A ping, and lines of the other kinds that have to do with its filter and its reply.
@@ -145,6 +170,41 @@ impl Lines<'_> {
             let octets = name_like(chance, 60);
             requests.walk(offset_in(chance, &octets), &octets);
         });
+    }
+}
+
+/// A message that suits the table, but here and there for a user or a SID that is refused, or a field that is changed.
+fn message(chance: &mut Chance, table: &Sample) -> Draft {
+    let mut draft = table.message(chance);
+    match chance.below(12) {
+        0 => {
+            let user: &&str = chance.pick(&["a..b", ".a", "a.", ".", ""]);
+            draft.with_user(user)
+        }
+        1 => {
+            let field = match chance.below(4) {
+                0 => &mut draft.computer,
+                1 => &mut draft.user,
+                2 => &mut draft.mailslot,
+                _ => &mut draft.sid,
+            };
+            *field = changed_octets(chance, field.clone(), false);
+            draft
+        }
+        2 => {
+            let due = if draft.sid.is_empty() { 0 } else { draft.padding_due() };
+            let length = if chance.once_in(2) { due } else { chance.below(5) };
+            Draft { padding: Some(chance.octets(length)), ..draft }
+        }
+        3 => {
+            let sid = random_value(chance, ClauseName::DomainSid);
+            draft.with_sid(&sid)
+        }
+        4 if !draft.sid.is_empty() => {
+            draft.sid[0] = *chance.pick(&[0, 2, 0x81]);
+            draft
+        }
+        _ => draft,
     }
 }
 
@@ -368,12 +428,33 @@ mod tests {
         }
         for form in Form::ALL.map(word_of_form) {
             let found = coverage.count(&format!("accents: in another case outside ASCII: found in {form}"));
-            assert!(found >= 50, "{form} {found}");
+            assert!(found >= 40, "{form} {found}");
         }
         for case in ["in one block: 4", "in two blocks: 4", "in two contexts: 0"] {
             let count = coverage.count(&format!("names alike, {case}"));
             assert!(count >= 20, "{case} {count}");
         }
+    }
+
+    fn assert_messages(coverage: &Coverage) {
+        for number in [0, 41, 15, 16, 17, 18, 19] {
+            let count = coverage.count(&format!("mailping {number}"));
+            assert!(count >= 100, "{number} {count}");
+        }
+        let others = ["message read: size 68", "message refused: 1 octets left over"];
+        for case in others.into_iter().chain(["mailping: answered: padding that is not zeros"]) {
+            let count = coverage.count(case);
+            assert!(count >= 10, "{case} {count}");
+        }
+        for form in Form::ALL.map(word_of_form) {
+            let found = coverage.count(&format!("mailping: user known in another case outside ASCII: {form}"));
+            assert!(found >= 10, "{form} {found}");
+        }
+        let kinds = [("mailslot", &[0, 41][..]), ("mailwrite", &[0, 41, 19])];
+        let counts = kinds.map(|(kind, numbers)| {
+            numbers.iter().map(|number| coverage.count(&format!("{kind} {number}"))).sum::<usize>()
+        });
+        assert!(counts[0] >= 5_000 && counts[1] >= 4_000, "{counts:?}");
     }
 
     /// By as many lines as the gate puts through both programs, and from the same seed.
@@ -384,6 +465,7 @@ mod tests {
         assert_closing_dots(&coverage);
         assert_subnets(&coverage);
         assert_accents(&coverage);
+        assert_messages(&coverage);
         let missing: Vec<String> = required_numbers()
             .into_iter()
             .chain(required_of_pings())

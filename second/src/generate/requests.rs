@@ -1,9 +1,10 @@
 //! Request lines in the making, and the clauses that pings ask with.
 
+use super::mailslots::draft::Draft;
 use crate::choose::Form;
 use crate::filter::{write_filter, ClauseName, Clauses, LONGEST_FILTER};
 use crate::image::Image;
-use crate::lines::{word_of_bits, word_of_clause, word_of_form, word_of_octets};
+use crate::lines::{word_of_bits, word_of_clause, word_of_form, word_of_octets, word_of_text};
 
 /// The lines of one kind, without their LF.
 #[derive(Default)]
@@ -58,6 +59,28 @@ impl Requests {
 
     pub fn walk(&mut self, offset: usize, octets: &[u8]) {
         self.raw(format!("walk {offset} {}", word_of_octets(octets)).as_bytes());
+    }
+
+    pub fn mailslot(&mut self, octets: &[u8]) {
+        self.raw(format!("mailslot {}", word_of_octets(octets)).as_bytes());
+    }
+
+    /// The fields that a message is written from, whatever else the draft holds.
+    pub fn mailwrite(&mut self, room: usize, draft: &Draft) {
+        let words = [
+            draft.repeat.to_string(),
+            word_of_text(&draft.computer),
+            word_of_text(&draft.user),
+            word_of_text(&draft.mailslot),
+            word_of_bits(draft.account_bits),
+            word_of_text(&draft.sid),
+            word_of_bits(draft.version),
+        ];
+        self.raw(format!("mailwrite {room} {}", words.join(" ")).as_bytes());
+    }
+
+    pub fn mailping(&mut self, client: [u8; 4], message: &[u8], room: usize) {
+        self.raw(format!("mailping {} {} {room}", word_of_octets(&client), word_of_octets(message)).as_bytes());
     }
 }
 

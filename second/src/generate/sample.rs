@@ -1,6 +1,8 @@
 //! Random tables that pass 1 to 4, and random pings that suit them.
 
 use super::chance::Chance;
+use super::mailslots::draft::{units, Draft};
+use super::mailslots::random_draft;
 use super::requests::Asked;
 use super::spellings::{longest, respelled, WORDS};
 use super::texts::{account_texts, good_account_texts};
@@ -413,6 +415,28 @@ impl Sample {
             }
         }
         asked
+    }
+
+    /// A message that mostly suits the table: a user of the default context, its SID, a few texts that no answer is by.
+    pub fn message(&self, chance: &mut Chance) -> Draft {
+        let mut draft = random_draft(chance);
+        let own = |account: &&SampleAccount| account.context == self.default_context;
+        let mut accounts: Vec<SampleAccount> = self.accounts.iter().filter(own).cloned().collect();
+        accounts.push(self.account(chance));
+        if !chance.once_in(5) {
+            let account = chance.pick(&accounts);
+            draft.user = units(&String::from_utf8_lossy(&respelled(chance, &account.name)));
+            let bits = [account.control, 0x1D8, *chance.pick(&CONTROLS)];
+            draft.account_bits = *chance.pick(&bits);
+        }
+        let used = self.contexts.iter().find(|context| context.number == self.default_context);
+        let other = chance.pick(&self.contexts);
+        let holder = if chance.once_in(8) { Some(other) } else { used };
+        if !chance.once_in(12) {
+            let sid = holder.and_then(|context| context.sid.clone());
+            draft.sid = sid.filter(|_| !chance.once_in(3)).unwrap_or_default();
+        }
+        draft
     }
 
     /// An account of the table or, where there is none or by chance, one that may not be there.

@@ -9,7 +9,7 @@ use Rattle.answers.specs.declared.Refusal.the-variants.{ImageLength, Blo
 use Rattle.answers.specs.declared.Refusal.the-variants.{FilterLength, FilterShape, UnknownClause, DuplicateClause, ClauseValue}
 use Rattle.answers.specs.declared.Refusal.the-variants.{GuidLength, GuidNotHeld, DnsNameEmpty, DnsNameNotHeld}
 use Rattle.answers.specs.declared.Refusal.the-variants.{SidShape, SidNotHeld, SidOfAnother, UserLabelEmpty, NoRoom}
-use Rattle.answers.specs.declared.Refusal.the-variants.{ReplyCut, ReplyOpcode, ReplyText, ReplyFixed, ReplyLeftOver}
+use Rattle.answers.specs.declared.Refusal.the-variants.{ReplyCut, ReplyOpcode, ReplyText, ReplyFixed, ReplyLeftOver, MailslotShape}
 use Rattle.answers.specs.Refusal.{number}
 use Rattle.answers.specs.Retired.{TenRetired}
 
@@ -37,6 +37,7 @@ another ReplyOpcode = refl
 another ReplyText = refl
 another ReplyFixed = refl
 another ReplyLeftOver = refl
+another MailslotShape = refl
 
 pub ten-retired : TenRetired
 ten-retired r e = let clash : true ≡ false = subst (λ (n : ℕ). eqb n 10 ≡ false) e (another r) in let z : _≡_ {A = ℕ} 0 1 = cc in omega arith

@@ -2,7 +2,7 @@
 use mathlib.Core.Path.{_≡_, refl, sym, ap, _∙_, subst}
 use mathlib.Core.Bool.{true}
 use mathlib.Core.List.{List}
-use mathlib.Core.Option.{Option·getD}
+use mathlib.Core.Option.{none, Option·getD}
 use mathlib.Core.Logic.{_⊎_, inl, inr}
 use Prim.Native.Nat.{ℕ}
 use lib.Dec.{ltb}
@@ -10,14 +10,16 @@ use lib.ListN.{length}
 use borrow.Author.Tests.{lt-ltb}
 use Rattle.answers.specs.declared.Form.{Form}
 use Rattle.answers.specs.declared.Form.the-variants.{Nt40, Response, Ex}
+use Rattle.answers.specs.declared.Refusal.{Refusal}
 use Rattle.answers.specs.Try.{Try, refused, good}
 use Rattle.c_answer.specs.Answer.{answerMembers}
-use Rattle.c_calls.specs.Calls.{valuesJudged, filterWritten, replyRead}
+use Rattle.c_calls.specs.Calls.{valuesJudged, filterWritten, replyRead, messageRead, messageWritten}
+use Rattle.c_mailslot.specs.Message.{messageOf, messageMembers}
 use Rattle.c_reading.specs.Reading.{readingMembers}
 use Rattle.c_request.specs.Request.{requestGiven, takenMembers}
 use Rattle.demands.proofs.Laws.Demand1.{demand-1}
-use Rattle.demands.specs.Calls.{WriteFilterPromise, AnswerPingPromise}
-use Rattle.demands.specs.Demand1.{ForImage, ForFilter, ForValues, ForWriting, ForPing, ForReply, ForName}
+use Rattle.demands.specs.Calls.{WriteFilterPromise, WriteMessagePromise, AnswerPromise}
+use Rattle.demands.specs.Demand1.{ForImage, ForFilter, ForValues, ForWriting, ForPing, ForReply, ForName, ForMessage, ForMessageWriting, ForMailslot}
 use Rattle.filter_read.specs.declared.read.Taken.{Taken}
 use Rattle.filter_read.specs.declared.read.Taken.the-variants as taken
 use Rattle.filter_read.specs.declared.value.Judged.{Judged}
@@ -25,15 +27,22 @@ use Rattle.filter_read.specs.declared.value.Judged.the-variants as judged
 use Rattle.filter_read.specs.Taken.{takenNumber, TakeApartPromise}
 use Rattle.filter_read.proofs.Laws.Taken.{take-apart-promised}
 use Rattle.filter_read.proofs.Laws.Value.{judge-values-promised}
-use Rattle.filter_read.specs.Value.{judgedNumber, judgedVersion, JudgeValuesPromise}
-use Rattle.filter_write.specs.declared.write.Written.{Written}
-use Rattle.filter_write.specs.declared.write.Written.the-variants as written
-use Rattle.filter_write.specs.Write.{writtenNumber, writtenLength}
-use Rattle.filter_write.proofs.Laws.Write.{write-filter-promised}
+use Rattle.filter_read.specs.Value.{Ping, pingFrom, judgedNumber, judgedVersion, JudgeValuesPromise}
+use Rattle.answers.specs.declared.written.Written.{Written}
+use Rattle.answers.specs.declared.written.Written.the-variants as written
+use Rattle.answers.specs.Written.{writtenNumber, writtenLength}
+use Rattle.answers.proofs.Laws.Written.{written-promised}
+use Rattle.filter_write.specs.Write.{filterFor}
 use Rattle.locator.specs.declared.Answer.{Answer}
 use Rattle.locator.specs.declared.Answer.the-variants as answer
-use Rattle.locator.specs.Answer.{answerTo, answerNumber}
+use Rattle.locator.specs.Answer.{answerBy, answerNumber, answerLength, answerContext, answerForm}
 use Rattle.locator.proofs.Laws.Answer.{answer-promised}
+use Rattle.mailslot.specs.declared.message.MessageRead.{MessageRead}
+use Rattle.mailslot.specs.declared.message.MessageRead.the-variants as message
+use Rattle.mailslot.specs.Message.{messageFor}
+use Rattle.mailslot.specs.Read.{messageNumber, ReadMessagePromise}
+use Rattle.mailslot_read.proofs.Laws.Refused.{promised}
+use Rattle.mailslot_answer.specs.Ping.{mailslotPing}
 use Rattle.octets.specs.Buffer.{over}
 use Rattle.octets.specs.Lists.{all}
 use Rattle.octets.proofs.Laws.Buffer.{over-none}
@@ -48,7 +57,7 @@ use Rattle.table_whole.specs.declared.judge.Judgement.the-variants as judgement
 use Rattle.table_whole.specs.Judgement.{tableIn, judgedAs, judgementNumber, JudgePromise}
 use Rattle.table_whole.proofs.Laws.Judgement.{judge-promised}
 use Rattle.table_check.specs.Check.{checkOf}
-use Rattle.c_promises.specs.Calls.{filterTaken, textAt, callerAt, pingAnswered, ExportedCheck, ExportedNameText}
+use Rattle.c_promises.specs.Calls.{filterTaken, textAt, callerAt, answeredBy, ExportedCheck, ExportedAnswer, ExportedNameText}
 use Rattle.c_promises.specs.Demand1Exported.{DoneOr, zeros, Demand1Exported}
 
 -- each by what the public call returns, whatever meets its promise
@@ -66,19 +75,35 @@ judged-values filter members (judged.Version v) version r p e f = inl e
 judged-values filter members (judged.Refused x) version r p e f =
     inr (subst ForValues (sym e) (demand-1 .«judge_values» filter (requestGiven members) (judged.Refused x) x p refl), f)
 
-written-filter : (source members before after : List ℕ) (w : Written) (len r : ℕ) → WriteFilterPromise source (requestGiven members) before after w → r ≡ writtenNumber w → len ≡ writtenLength w
-    → DoneOr ForWriting r ((len ≡ 0) × (after ≡ before))
-written-filter source members before after (written.Length n) len r p e f = inl e
-written-filter source members before after (written.Refused x) len r p e f =
-    let d = demand-1 .«write_filter» source (requestGiven members) before after (written.Refused x) x p refl in
-    inr (subst ForWriting (sym e) (d .0), (f, d .2))
+-- of a call that writes, by what demand 1 says of it
+written-octets : (Number : ℕ → Type 0) (Promise : Written → Type 0) (before after : List ℕ)
+    → ((w : Written) (x : Refusal) → Promise w → w ≡ written.Refused x → Number (writtenNumber w) × (writtenLength w ≡ 0) × (after ≡ before))
+    → (w : Written) (len r : ℕ) → Promise w → r ≡ writtenNumber w → len ≡ writtenLength w → DoneOr Number r ((len ≡ 0) × (after ≡ before))
+written-octets Number Promise before after demand (written.Length n) len r p e f = inl e
+written-octets Number Promise before after demand (written.Refused x) len r p e f =
+    let d = demand (written.Refused x) x p refl in
+    inr (subst Number (sym e) (d .0), (f, d .2))
 
-answered : (image client filter before after members : List ℕ) (a : Answer) (r : ℕ) → AnswerPingPromise image (callerAt client) filter before after a → r ≡ answerNumber a → members ≡ answerMembers a
-    → DoneOr ForPing r ((members ≡ zeros 3) × (after ≡ before))
-answered image client filter before after members (answer.Answered len context form) r p e f = inl e
-answered image client filter before after members (answer.Refused x) r p e f =
-    let d = demand-1 .«answer_ping» image (callerAt client) filter before after (answer.Refused x) x p refl in
-    inr (subst ForPing (sym e) (d .0), (f, d .4))
+-- of a call that answers, by its way in
+module _ (way : List ℕ → Try Ping) (image client octets before after : List ℕ) where
+  answered : (Number : ℕ → Type 0)
+      → ((a : Answer) (x : Refusal) → AnswerPromise way image (callerAt client) octets before after a → a ≡ answer.Refused x
+      → Number (answerNumber a) × (answerLength a ≡ 0) × (answerContext a ≡ 0) × (answerForm a ≡ none) × (after ≡ before))
+      → (members : List ℕ) (r : ℕ) → ExportedAnswer way image client octets before after members r → DoneOr Number r ((members ≡ zeros 3) × (after ≡ before))
+  answered Number demand members r p = go (answeredBy way image client octets before) kept (p .0) (p .1)
+    where
+      kept : AnswerPromise way image (callerAt client) octets before after (answeredBy way image client octets before)
+      kept = record { returned = answer-promised (answerBy way image (callerAt client) octets (length before)) _ (refl, p .2) .0; left = p .2 }
+
+      go : (a : Answer) → AnswerPromise way image (callerAt client) octets before after a → r ≡ answerNumber a → members ≡ answerMembers a → DoneOr Number r ((members ≡ zeros 3) × (after ≡ before))
+      go (answer.Answered len context form) q e f = inl e
+      go (answer.Refused x) q e f =
+          let d = demand (answer.Refused x) x q refl in
+          inr (subst Number (sym e) (d .0), (f, d .4))
+
+read-message : (octets members : List ℕ) (m : MessageRead) (r : ℕ) → ReadMessagePromise octets m → r ≡ messageNumber m → members ≡ messageMembers m → DoneOr ForMessage r (members ≡ zeros 15)
+read-message octets members (message.Read q) r p e f = inl e
+read-message octets members (message.Refused x) r p e f = inr (subst ForMessage (sym e) (demand-1 .«read_message» octets (message.Refused x) x p refl .0), f)
 
 read : (reply members : List ℕ) (form : Form) (version : ℕ) (x : Reading) (r : ℕ) → ReadReplyPromise reply form version x → r ≡ readingNumber x → members ≡ readingMembers x → DoneOr ForReply r (members ≡ zeros 54)
 read reply members form version (reading.Read len fields) r p e f = inl e
@@ -104,9 +129,14 @@ demand-1-exported =
       «vinegarjar_take_apart» = λ filter request r p. taken-apart filter request (filterTaken filter) r (take-apart-promised filter _ refl) (p .0) (p .1);
       «vinegarjar_judge_values» = λ filter request version r p. judged-values filter request (valuesJudged filter request) version r (judge-values-promised filter (requestGiven request) _ refl) (p .0) (p .1);
       «vinegarjar_write_filter» = λ source request before after len r p.
-          written-filter source request before after (filterWritten source request before) len r (record { returned = write-filter-promised source (requestGiven request) before _ (refl, p .2) .0; left = p .2 }) (p .0) (p .1);
-      «vinegarjar_answer_ping» = λ image client filter before after answer r p.
-          answered image client filter before after answer (pingAnswered image client filter before) r (record { returned = answer-promised (answerTo image (callerAt client) filter (length before)) _ (refl, p .2) .0; left = p .2 }) (p .0) (p .1);
+          written-octets ForWriting (WriteFilterPromise source (requestGiven request) before after) before after (demand-1 .«write_filter» source (requestGiven request) before after)
+          (filterWritten source request before) len r (record { returned = written-promised (filterFor source (requestGiven request) (length before)) _ (refl, p .2) .0; left = p .2 }) (p .0) (p .1);
+      «vinegarjar_answer_ping» = λ image client filter before after. answered pingFrom image client filter before after ForPing (demand-1 .«answer_ping» image (callerAt client) filter before after);
+      «vinegarjar_read_mailslot» = λ octets members r p. read-message octets members (messageRead octets) r (promised octets _ refl) (p .0) (p .1);
+      «vinegarjar_write_mailslot» = λ source members before after len r p.
+          written-octets ForMessageWriting (WriteMessagePromise source (messageOf members) before after) before after (demand-1 .«write_message» source (messageOf members) before after)
+          (messageWritten source members before) len r (record { returned = written-promised (messageFor source (messageOf members) (length before)) _ (refl, p .2) .0; left = p .2 }) (p .0) (p .1);
+      «vinegarjar_answer_mailslot» = λ image client octets before after. answered mailslotPing image client octets before after ForMailslot (demand-1 .«answer_mailslot» image (callerAt client) octets before after);
       «vinegarjar_read_nt40» = λ reply reading r p. read reply reading Nt40 0 (replyRead Nt40 0 reply) r (read-reply-promised reply Nt40 0 _ refl) (p .0) (p .1);
       «vinegarjar_read_response» = λ reply reading r p. read reply reading Response 0 (replyRead Response 0 reply) r (read-reply-promised reply Response 0 _ refl) (p .0) (p .1);
       «vinegarjar_read_ex» = λ version reply reading r p. read reply reading Ex version (replyRead Ex version reply) r (read-reply-promised reply Ex version _ refl) (p .0) (p .1);

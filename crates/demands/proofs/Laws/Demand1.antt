@@ -1,5 +1,6 @@
 -- Demand 1 is proved: each definition names the reasons for which it refuses, and what follows it names its own.
 use mathlib.Core.Path.{_≡_, refl, sym, ap, _∙_, subst}
+use mathlib.Core.Bool.{not}
 use mathlib.Core.List.{List, [], _∷_}
 use mathlib.Core.Option.{Option, none, some}
 use Prim.Native.Nat.{ℕ, _<_}
@@ -10,9 +11,9 @@ use Rattle.answers.specs.declared.Refusal.the-variants.{ImageLength, BlockCheck
 use Rattle.answers.specs.declared.Refusal.the-variants.{FilterLength, FilterShape, UnknownClause, DuplicateClause, ClauseValue}
 use Rattle.answers.specs.declared.Refusal.the-variants.{GuidLength, GuidNotHeld, DnsNameEmpty, DnsNameNotHeld}
 use Rattle.answers.specs.declared.Refusal.the-variants.{SidShape, SidNotHeld, SidOfAnother, UserLabelEmpty, NoRoom}
-use Rattle.answers.specs.declared.Refusal.the-variants.{ReplyCut, ReplyOpcode, ReplyText, ReplyFixed, ReplyLeftOver}
+use Rattle.answers.specs.declared.Refusal.the-variants.{ReplyCut, ReplyOpcode, ReplyText, ReplyFixed, ReplyLeftOver, MailslotShape}
 use Rattle.answers.specs.Refusal.{number}
-use Rattle.answers.specs.Try.{Try}
+use Rattle.answers.specs.Try.{Try, refused, good, _>>=_}
 use Rattle.choose.specs.Judge.{contextUsed, orWhole, contextIn}
 use Rattle.filter_position.specs.declared.position.RawClause.{RawClause}
 use Rattle.filter.specs.declared.request.Request.{Request}
@@ -23,12 +24,19 @@ use Rattle.filter_read.specs.declared.value.Judged.{Judged}
 use Rattle.filter_read.specs.declared.value.Judged.the-variants as judged
 use Rattle.filter_read.specs.Taken.{judgedClauses, requestIn, takenAs, takenNumber}
 use Rattle.filter_read.specs.Value.{Ping, pingIn, pingFrom, judgedValues, judgedNumber}
-use Rattle.filter_write.specs.declared.write.Written.{Written}
-use Rattle.filter_write.specs.declared.write.Written.the-variants as written
-use Rattle.filter_write.specs.Write.{filterFor, writtenAs, writtenOctets, writtenLength, writtenNumber}
+use Rattle.answers.specs.declared.written.Written.{Written}
+use Rattle.answers.specs.declared.written.Written.the-variants as written
+use Rattle.answers.specs.Written.{writtenAs, writtenOctets, writtenLength, writtenNumber}
+use Rattle.filter_write.specs.Write.{filterFor}
 use Rattle.locator.specs.declared.Answer.{Answer}
 use Rattle.locator.specs.declared.Answer.the-variants as answer
-use Rattle.locator.specs.Answer.{Outcome, replyTo, answerOver, answerTo, answerAs, octetsWritten, answerLength, answerContext, answerForm, answerNumber}
+use Rattle.locator.specs.Answer.{Outcome, replyTo, answerOver, answerBy, answerTo, answerAs, octetsWritten, answerLength, answerContext, answerForm, answerNumber}
+use Rattle.mailslot.specs.declared.message.Message.{Message}
+use Rattle.mailslot.specs.declared.message.MessageRead.{MessageRead}
+use Rattle.mailslot.specs.declared.message.MessageRead.the-variants as messageRead
+use Rattle.mailslot.specs.Message.{goodMessage, asShape, readFields, messageIn, messageFor}
+use Rattle.mailslot.specs.Read.{messageAs, messageNumber, messageGiven}
+use Rattle.mailslot_answer.specs.Ping.{messagePing, mailslotPing}
 use Rattle.octets.specs.Buffer.{over}
 use Rattle.octets.proofs.Laws.Buffer.{over-none}
 use Rattle.octets.specs.Lists.{any}
@@ -49,7 +57,7 @@ use Rattle.table_check.specs.Check.{grow, grown, checkOf}
 use Rattle.table_whole.specs.declared.judge.Judgement.{Judgement}
 use Rattle.table_whole.specs.declared.judge.Judgement.the-variants as judgement
 use Rattle.table_whole.specs.Judgement.{tableIn, judgedAs, judgementNumber}
-use Rattle.demands.specs.Demand1.{ForImage, ForFilter, ForValues, ForWriting, ForPing, ForReply, ForName, Demand1, ForAny}
+use Rattle.demands.specs.Demand1.{ForImage, ForFilter, ForValues, ForWriting, ForPing, ForReply, ForName, ForMessage, ForMessageWriting, ForMailslot, Demand1, ForAny}
 use Rattle.demands.proofs.Laws.Only.{Only, Any, only-if, only-then, only-returned}
 use Rattle.demands.proofs.Laws.Reading.{formRead, name-only, reading-only}
 
@@ -80,25 +88,54 @@ module _ (P : Refusal → Type 0) where
   unfolding filterFor
   filter-only a b c source r room = search (only-if P)
 
+  shape-only : {A : Type 0} → P MailslotShape → (t : Try A) → Only P Any (asShape t)
+  shape-only a (refused r) = a
+  shape-only a (good m) = tt
+
+  message-only : P MailslotShape → (s : List ℕ) → Only P Any (messageIn s)
+  unfolding messageIn
+  message-only a s = only-then P Any (asShape (readFields s)) _ (shape-only a (readFields s)) (λ m. only-if P Any (not (goodMessage s m)) MailslotShape (good m) a tt)
+
+  message-written-only : P MailslotShape → P NoRoom → (source : List ℕ) (m : Message) (room : ℕ) → Only P Any (messageFor source m room)
+  unfolding messageFor
+  message-written-only a b source m room = search (only-if P)
+
+  found-only : P TableWhole → (o : Option Context) → Only P Any (orWhole o)
+  found-only e none = e
+  found-only e (some c) = tt
+
+  -- 15 to 17: a message names no context
+  message-context-only : P TableWhole → P SidShape → P SidNotHeld → P SidOfAnother → (t : Table) (s : List ℕ) (m : Message) → Only P Any (contextIn t (messagePing s m))
+  unfolding contextIn
+  message-context-only e f g h t s m =
+      only-then P Any (orWhole (contextUsed t (messagePing s m))) _ (found-only e (contextUsed t (messagePing s m))) (λ c. search (only-if P))
+
   context-only : P GuidLength → P GuidNotHeld → P DnsNameEmpty → P DnsNameNotHeld → P TableWhole → P SidShape → P SidNotHeld → P SidOfAnother
       → (t : Table) (p : Ping) → Only P Any (contextIn t p)
   unfolding contextIn
-  context-only a b c d e f g h t p = search (only-if P, only-then P, found (contextUsed t p)) depth 9
-    where
-      found : (o : Option Context) → Only P Any (orWhole o)
-      found none = e
-      found (some c) = tt
+  context-only a b c d e f g h t p = search (only-if P, only-then P, found-only e (contextUsed t p)) depth 9
 
   reply-only : P UserLabelEmpty → P NoRoom → (t : Table) (caller : Caller) (p : Ping) (room : ℕ) (c : Context) → Only P Any (replyTo t caller p room c)
   unfolding replyTo
   reply-only a b t caller p room c = search (only-if P)
 
 answer-only : (image : List ℕ) (caller : Caller) (filter : List ℕ) (room : ℕ) → Only (By ForPing) Any (answerTo image caller filter room)
-unfolding answerTo pingFrom answerOver
+unfolding answerBy pingFrom answerOver
 answer-only image caller filter room =
     only-then (By ForPing) Any (tableIn image) _ (table-only (By ForPing) refl refl refl refl image) (λ t.
     only-then (By ForPing) Any (pingFrom filter) _ (only-then (By ForPing) Any (requestIn filter) _ (request-only (By ForPing) refl refl refl refl filter) (ping-only (By ForPing) refl filter)) (λ p.
     only-then (By ForPing) Any (contextIn t p) _ (context-only (By ForPing) refl refl refl refl refl refl refl refl t p) (reply-only (By ForPing) refl refl t caller p room)))
+
+mailslot-only : (image : List ℕ) (caller : Caller) (message : List ℕ) (room : ℕ) → Only (By ForMailslot) Any (answerBy mailslotPing image caller message room)
+unfolding answerBy mailslotPing answerOver
+mailslot-only image caller message room =
+    only-then (By ForMailslot) Any (tableIn image) _ (table-only (By ForMailslot) refl refl refl refl image) (λ t. by (messageIn message) t (message-only (By ForMailslot) refl message))
+  where
+    by : (o : Try Message) (t : Table) → Only (By ForMailslot) Any o → Only (By ForMailslot) Any (o >>= (λ m. good (messagePing message m)) >>= λ p. contextIn t p >>= replyTo t caller p room)
+    by (refused r) t h = h
+    by (good m) t h =
+        let p : Ping = messagePing message m in
+        only-then (By ForMailslot) Any (contextIn t p) _ (message-context-only (By ForMailslot) refl refl refl refl t message m) (reply-only (By ForMailslot) refl refl t caller p room)
 
 -- ---- the calls
 
@@ -127,6 +164,7 @@ number-known ReplyOpcode = refl
 number-known ReplyText = refl
 number-known ReplyFixed = refl
 number-known ReplyLeftOver = refl
+number-known MailslotShape = refl
 
 -- two sums of 16 bits each
 abbrev Sums : Check → Type 0
@@ -173,5 +211,19 @@ demand-1 =
           let o = only-returned textLengthAs text.Refused (λ q r h. cc) (λ a r h. cc) (By ForName) Any (nameText reply start)
           (only-then (By ForName) Any (readName reply start) _ (name-only (By ForName) refl refl reply start) (λ f. tt)) (t .len) r (ap (λ (x : NameText). x .len) (p .same)) e in
           (subst (λ (x : TextLength). ForName (textNumber x)) (sym e) (o .0), ap textLength e, ap (λ (l : TextLength). take (textLength l) (t .octets)) e);
+      «read_message» =
+          λ message m r p e.
+          let o = only-returned messageAs messageRead.Refused (λ q r h. cc) (λ a r h. cc) (By ForMessage) Any (messageIn message) (message-only (By ForMessage) refl message) m r (p .same) e in
+          (subst (λ (x : MessageRead). ForMessage (messageNumber x)) (sym e) (o .0), ap messageGiven e);
+      «write_message» =
+          λ source message before after w r p e.
+          let t : Try (List ℕ) = messageFor source message (length before) in
+          let o = only-returned writtenAs written.Refused (λ q r h. cc) (λ a r h. cc) (By ForMessageWriting) Any t (message-written-only (By ForMessageWriting) refl refl source message (length before)) w r (p .returned .same) e in
+          (subst (λ (x : Written). ForMessageWriting (writtenNumber x)) (sym e) (o .0), ap writtenLength e, p .left ∙ ap (λ (x : Try (List ℕ)). over (writtenOctets x) before) (o .1) ∙ over-none before);
+      «answer_mailslot» =
+          λ image caller message before after a r p e.
+          let t : Try Outcome = answerBy mailslotPing image caller message (length before) in
+          let o = only-returned answerAs answer.Refused (λ q r h. cc) (λ a r h. cc) (By ForMailslot) Any t (mailslot-only image caller message (length before)) a r (p .returned .same) e in
+          (subst (λ (x : Answer). ForMailslot (answerNumber x)) (sym e) (o .0), ap answerLength e, ap answerContext e, ap answerForm e, p .left ∙ ap (λ (x : Try Outcome). over (octetsWritten x) before) (o .1) ∙ over-none before);
       «number_of» = λ r n p. subst ForAny (sym p) (number-known r);
     }

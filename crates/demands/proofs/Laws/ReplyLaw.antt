@@ -20,7 +20,8 @@ use Rattle.unicode.specs.Utf16.{utf16}
 use Rattle.unicode.proofs.Laws.OneText.{one-text}
 use Rattle.unicode.proofs.Laws.Utf16.{Spoken}
 use Rattle.demands.specs.Derivation.{ReplyIs}
-use Rattle.demands.specs.ReplyLaw.{stretchOf, TextBack, GivenBack, ReadBack, ReplyLawOver, ReplyLaw, addressWritten, textOf, versionWritten}
+use Rattle.reader.specs.Field.{stretchOf}
+use Rattle.demands.specs.ReplyLaw.{TextBack, GivenBack, ReadBack, ReplyLawOver, ReplyLaw, addressWritten, textOf, versionWritten}
 use Rattle.demands.proofs.Laws.Derivation.{every-answer}
 use Rattle.demands.proofs.Laws.Forms.Ex.{ex-row, ex-rest, ex-guid, ex-read, last-there}
 use Rattle.demands.proofs.Laws.Forms.{stretch-is}

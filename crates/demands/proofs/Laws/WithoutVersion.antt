@@ -17,7 +17,7 @@ use Rattle.filter.specs.declared.request.Request.{Request}
 use Rattle.filter.specs.Request.{clause, octetsOf}
 use Rattle.filter_read.specs.Taken.{requestIn}
 use Rattle.filter_read.specs.Value.{Ping, isNumber, wrongValue, versionAsked, pingOf, pingIn, pingFrom}
-use Rattle.locator.specs.Answer.{answerOver, answerTo}
+use Rattle.locator.specs.Answer.{answerOver, answerBy, answerTo}
 use Rattle.octets.specs.Lists.{holds}
 use Rattle.octets.specs.Number.{has, little}
 use Rattle.table.specs.Bits.{roleNt4Wanted}
@@ -53,7 +53,7 @@ unfolding little
 absent-is-one dns user aac sid guid = refl
 
 pub without-version : WithoutVersion
-unfolding pingFrom answerTo
+unfolding pingFrom answerBy
 without-version f g q r taken absent one others =
     let same : pingFrom f ≡ pingIn g r = ap (λ (x : Try Request). x >>= pingIn f) taken ∙ alike in
     (same, λ image caller room. ap (λ (x : Try Ping). tableIn image >>= λ t. x >>= λ p. answerOver t caller p room) same)
@@ -90,7 +90,7 @@ unfolding formOf has
 oldest-form s = same-either-way (has (s .roles) roleNt4Wanted && not (has NETLOGON-NT-VERSION-1 NETLOGON-NT-VERSION-AVOID-NT4EMUL))
 
 pub without-version-nt40 : WithoutVersionNt40
-unfolding answerTo pingFrom
+unfolding answerBy pingFrom
 without-version-nt40 image caller filter room r a taken absent e =
     let t = good-then (tableIn image) _ a e in
     let p = good-then (pingFrom filter) _ a (t .2) in

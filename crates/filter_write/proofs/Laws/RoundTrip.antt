@@ -21,14 +21,15 @@ use Rattle.filter.specs.declared.request.Clause.the-variants.{Absent, Present}
 use Rattle.filter.specs.declared.request.ClauseName.{ClauseName}
 use Rattle.filter.specs.declared.request.Request.{Request}
 use Rattle.filter_read.specs.declared.read.Taken.the-variants as taken
-use Rattle.filter_write.specs.declared.write.Written.the-variants as written
+use Rattle.answers.specs.declared.written.Written.the-variants as written
+use Rattle.answers.specs.Written.{writtenAs, writtenOctets}
 use Rattle.filter.specs.Internal.ClauseNames.{isSameName}
 use Rattle.filter.proofs.Laws.ClauseNames.{clause-by, names-any, same-self}
 use Rattle.filter.specs.Request.{clauseNames, clause, isPresent, octetsOf}
 use Rattle.filter_position.specs.Filter.{andTag, filterLimit, one, andOf, clausesOf}
 use Rattle.filter_read.specs.Taken.{isNamed, asClause, requestOf, requestIn, takenAs}
 use Rattle.filter_octets.specs.Octets.{element, equalityFor, filterOctets}
-use Rattle.filter_write.specs.Write.{filterFor, writtenAs, writtenOctets}
+use Rattle.filter_write.specs.Write.{filterFor}
 use Rattle.filter_write.specs.RoundTrip.{SameClauses, RoundTrip, CallsRoundTrip}
 use Rattle.filter_write.proofs.Laws.RoundTrip.Elements.{element-back, contents-back}
 use Rattle.filter_write.proofs.Laws.RoundTrip.Clauses.{AllAgain, siblings-back, distinct, none-unknown, none-duplicate, octets-back, some-length}

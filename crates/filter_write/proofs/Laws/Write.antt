@@ -1,5 +1,5 @@
 -- The writer's answers, by its judgements in their order.
-use mathlib.Core.Path.{_≡_, refl, ap, _∙_}
+use mathlib.Core.Path.{_≡_}
 use mathlib.Core.Bool.{true, false}
 use mathlib.Core.List.{List}
 use Prim.Native.Nat.{ℕ, _≤_, _<_, min}
@@ -8,7 +8,7 @@ use native.Mathlib.Omega.{arith}
 use borrow.Author.Tests.{lt-ltb, le-ltb}
 use lib.ListN.{length}
 use Rattle.answers.specs.declared.Refusal.the-variants.{FilterShape, FilterLength, NoRoom}
-use Rattle.answers.specs.Try.{Try, refused, good, numberOf}
+use Rattle.answers.specs.Try.{refused, good}
 use Rattle.octets.specs.Lists.{any}
 use Rattle.filter.specs.declared.request.Request.{Request}
 use Rattle.filter_position.specs.Filter.{filterLimit}
@@ -16,23 +16,7 @@ use Rattle.filter.specs.Request.{clauseNames, clause, isPresent}
 use Rattle.filter_octets.specs.Octets.{filterOctets}
 use Rattle.filter_octets.specs.Internal.Size.{elementSize, contents}
 use Rattle.filter_octets.proofs.Laws.Size.{head-bounds, filter-length}
-use Rattle.filter_write.specs.declared.write.Written.{Written}
-use Rattle.filter_write.specs.Write.{filterFor, writtenAs, writtenOctets, writtenNumber, writtenLength, WriteFilterReturns}
-
--- what the writer promises to return, by the enum, beside what it leaves
-pub write-filter-promised : {Left : Type 0} (source : List ℕ) (request : Request) (before : List ℕ) (r : Written)
-    → (r ≡ writtenAs (filterFor source request (length before))) × Left → WriteFilterReturns source request before r × Left
-write-filter-promised source request before r (e, left) =
-    let t : Try (List ℕ) = filterFor source request (length before) in
-    (record { same = e; numbered = ap writtenNumber e ∙ numbers t; sized = ap writtenLength e ∙ sizes t }, left)
-  where
-    numbers : (t : Try (List ℕ)) → writtenNumber (writtenAs t) ≡ numberOf t
-    numbers (refused x) = refl
-    numbers (good octets) = refl
-
-    sizes : (t : Try (List ℕ)) → writtenLength (writtenAs t) ≡ length (writtenOctets t)
-    sizes (refused x) = refl
-    sizes (good octets) = refl
+use Rattle.filter_write.specs.Write.{filterFor}
 
 -- a size that stops at 4,096 tells what is over 2,048 and what is not
 pub capped-long : (n m : ℕ) → m ≡ min n 4096 → filterLimit < elementSize m → filterLimit < elementSize n

@@ -23,7 +23,7 @@ use Rattle.table.specs.Table.{Table}
 use Rattle.table_whole.specs.Judgement.{tableIn}
 use Rattle.locator.specs.declared.Answer.{Answer}
 use Rattle.locator.specs.declared.Answer.the-variants as answer
-use Rattle.locator.specs.Answer.{Outcome, wrongUser, replyTo, answerOver, answerTo, answerAs, octetsWritten, answerNumber, answerLength, answerContext, answerForm, AnswerOf}
+use Rattle.locator.specs.Answer.{Outcome, wrongUser, replyTo, answerOver, answerBy, answerAs, octetsWritten, answerNumber, answerLength, answerContext, answerForm, AnswerOf}
 
 -- a refusal, and the buffer as it was
 pub refusal-given : (a : Try Outcome) (x : Refusal) (d : List ℕ) → a ≡ refused x → (answer.Refused x ≡ answerAs a) × (d ≡ over (octetsWritten a) d)
@@ -57,22 +57,22 @@ module _ (t : Table) (caller : Caller) (p : Ping) (room : ℕ) where
   unfolding answerOver
   over-refused x e = ap (λ (y : Try Context). y >>= replyTo t caller p room) e
 
--- the table and the ping, or why there is none
-module _ (image : List ℕ) (caller : Caller) (filter : List ℕ) (room : ℕ) where
+-- the table and the ping, or why there is none, whatever the way in
+module _ (way : List ℕ → Try Ping) (image : List ℕ) (caller : Caller) (octets : List ℕ) (room : ℕ) where
   -- what follows a table
   abbrev next : Table → Try Outcome
-  next t = pingFrom filter >>= λ p. answerOver t caller p room
+  next t = way octets >>= λ p. answerOver t caller p room
 
-  pub table-refused : (x : Refusal) → tableIn image ≡ refused x → answerTo image caller filter room ≡ refused x
-  unfolding answerTo
+  pub table-refused : (x : Refusal) → tableIn image ≡ refused x → answerBy way image caller octets room ≡ refused x
+  unfolding answerBy
   table-refused x e = ap (λ (y : Try Table). y >>= next) e
 
-  pub ping-refused : (t : Table) (x : Refusal) → tableIn image ≡ good t → pingFrom filter ≡ refused x → answerTo image caller filter room ≡ refused x
-  unfolding answerTo
+  pub ping-refused : (t : Table) (x : Refusal) → tableIn image ≡ good t → way octets ≡ refused x → answerBy way image caller octets room ≡ refused x
+  unfolding answerBy
   ping-refused t x e f = ap (λ (y : Try Table). y >>= next) e ∙ ap (λ (y : Try Ping). y >>= λ p. answerOver t caller p room) f
 
-  pub ping-answered : (t : Table) (p : Ping) → tableIn image ≡ good t → pingFrom filter ≡ good p → answerTo image caller filter room ≡ answerOver t caller p room
-  unfolding answerTo
+  pub ping-answered : (t : Table) (p : Ping) → tableIn image ≡ good t → way octets ≡ good p → answerBy way image caller octets room ≡ answerOver t caller p room
+  unfolding answerBy
   ping-answered t p e f = ap (λ (y : Try Table). y >>= next) e ∙ ap (λ (y : Try Ping). y >>= λ q. answerOver t caller q room) f
 
 -- an answer carried over to what it is the answer of

@@ -31,13 +31,13 @@ use Rattle.reader.specs.Reader.{NameRead, ExFields, Fields, nt40, respon
 -- ---- numbers and fixed fields
 
 module _ {s : List ℕ} {at : ℕ} (rest : List ℕ) where
-  constant-here : (w n : ℕ) → Left s at (littleOctets w n ++ rest) → readConstant w n s at ≡ good (record { value = littleOctets w n; next = at + w })
+  pub constant-here : (w n : ℕ) → Left s at (littleOctets w n ++ rest) → readConstant w n s at ≡ good (record { value = littleOctets w n; next = at + w })
   constant-here w n l = fixed-here (littleOctets w n) rest w (length-little w n) l
 
-  number-after : (w n : ℕ) → Left s at (littleOctets w n ++ rest) → Left s (at + w) rest
+  pub number-after : (w n : ℕ) → Left s at (littleOctets w n ++ rest) → Left s (at + w) rest
   number-after w n l = left-next (littleOctets w n) rest w (length-little w n) l
 
-  number-here : (n : ℕ) → n < 256 ^ 4 → Left s at (littleOctets 4 n ++ rest) → readNumber s at ≡ good (record { value = n; next = at + 4 })
+  pub number-here : (n : ℕ) → n < 256 ^ 4 → Left s at (littleOctets 4 n ++ rest) → readNumber s at ≡ good (record { value = n; next = at + 4 })
   unfolding readNumber
   number-here n h l = rw (octets-here (littleOctets 4 n) rest 4 (length-little 4 n) l, little-back 4 n h)
 
@@ -57,9 +57,9 @@ tokens = littleOctets 2 LmNtToken ++ littleOctets 2 Lm20Token
 abbrev pub ending : ℕ → List ℕ
 ending version = littleOctets 4 version ++ tokens
 
-tokens-here : {s : List ℕ} {at : ℕ} (fields : Fields) → Left s at tokens → readTokens s at fields ≡ good fields
+pub tokens-here : {A : Type 0} {s : List ℕ} {at : ℕ} (fields : A) → Left s at tokens → readTokens s at fields ≡ good fields
 unfolding readTokens
-tokens-here {s} {at} fields l =
+tokens-here {s = s} {at = at} fields l =
     let token : List ℕ = littleOctets 2 Lm20Token in
     let m : Left s (at + 2) token = number-after token 2 LmNtToken l in
     let k : Left s (at + 2) (token ++ []) = rw (append-nil token) m in

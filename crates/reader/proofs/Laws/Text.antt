@@ -1,7 +1,7 @@
 -- A text of UTF-16 units that ends in a zero unit is read as its stretch.
 use mathlib.Core.Path.{_≡_, refl, sym, ap, _∙_}
 use mathlib.Core.Bool.{Bool, true, false, cond}
-use mathlib.Core.List.{List, [], _∷_, _++_, append-assoc}
+use mathlib.Core.List.{List, [], _∷_, _++_, append-assoc, flatMap}
 use Prim.Native.Nat.{ℕ, zero, suc, _+_, _-_, _<_, _≤_}
 use native.Mathlib.Omega.{arith}
 use lib.Dec.{eqb, ltb}
@@ -62,16 +62,16 @@ low-unit u a b =
 -- ---- a text
 
 -- n octets from `at` on, then the zero unit
-abbrev Got : ℕ → ℕ → ℕ → Try (Read Stretch)
+abbrev pub Got : ℕ → ℕ → ℕ → Try (Read Stretch)
 Got start at n = good (record { value = record { start = start; len = at + n - start }; next = at + n + 2 })
 
 module _ {s : List ℕ} (start : ℕ) where
-  unit-step : (k at a b u : ℕ) (rest : List ℕ) (h g : Bool) → Left s at ((a ∷ b ∷ []) ++ rest) → little (a ∷ b ∷ []) ≡ u → turn h (unitOf u) ≡ Go g
+  pub unit-step : (k at a b u : ℕ) (rest : List ℕ) (h g : Bool) → Left s at ((a ∷ b ∷ []) ++ rest) → little (a ∷ b ∷ []) ≡ u → turn h (unitOf u) ≡ Go g
       → readTextFrom (suc k) s start at h ≡ readTextFrom k s start (at + 2) g
   unfolding readTextFrom
   unit-step k at a b u rest h g l e t = rw (octets-here (a ∷ b ∷ []) rest 2 refl l, e, t)
 
-  zero-step : (k at : ℕ) (rest : List ℕ) → Left s at (littleOctets 2 0 ++ rest) → readTextFrom (suc k) s start at false ≡ Got start at 0
+  pub zero-step : (k at : ℕ) (rest : List ℕ) → Left s at (littleOctets 2 0 ++ rest) → readTextFrom (suc k) s start at false ≡ Got start at 0
   unfolding readTextFrom littleOctets little unitOf
   zero-step k at rest l =
       let e : at ≡ at + 0 = omega arith in
@@ -79,7 +79,7 @@ module _ {s : List ℕ} (start : ℕ) where
 
   units-read : (cs : List ℕ) (k at : ℕ) (rest : List ℕ) → length (pointsOctets cs) < k → Every Scalar cs → Left s at (pointsOctets cs ++ (littleOctets 2 0 ++ rest))
       → readTextFrom k s start at false ≡ Got start at (length (pointsOctets cs))
-  unfolding pointsOctets
+  unfolding flatMap
   units-read [] zero at rest f ok l = absurd (omega arith)
   units-read [] (suc k) at rest f ok l = zero-step k at rest l
   units-read (c ∷ cs) zero at rest f ok l = absurd (omega arith)

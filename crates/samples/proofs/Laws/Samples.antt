@@ -17,7 +17,7 @@ use Rattle.unicode.specs.UserName.{isUserName, isAccountName}
 use Rattle.octets.specs.Number.{little, big, littleOctets, bigOctets, has}
 use Rattle.octets.specs.Sid.{isSid}
 use Rattle.octets.specs.Text.{same, lower}
-use Rattle.unicode.specs.Utf16.{pointOctets, pointsOctets, utf16}
+use Rattle.unicode.specs.Utf16.{pointOctets, utf16}
 use Rattle.unicode.specs.Utf8.{lead, follow, pointsFrom, isUtf8}
 use Rattle.reader.specs.Field.{readOctets, readStretch, readFixed}
 use Rattle.reader.specs.Name.{readNameFrom, readName}
@@ -42,11 +42,11 @@ use Rattle.table_lookup.specs.Lookup.{nearest, contextByGuid, contextByDnsName,
 use Rattle.table_find.specs.LogOn.{mayLogOn}
 use Rattle.table_whole.specs.Judgement.{goodLength, tableIn}
 use Rattle.table_whole.specs.Whole.{contextsUnique, accountsUnique, subnetsUnique, sitesUnique, hasContext, hasSite, refersRightly, goodWhole}
-use Rattle.locator.specs.Answer.{wrongUser, replyTo, answerOver, answerTo}
+use Rattle.locator.specs.Answer.{wrongUser, replyTo, answerOver, answerBy}
 use Rattle.choose.specs.Choose.{isKnown, isUserUnknown, formOf, isHeldBack, opcodeOf, namesApplication, exFlags, responseFlags, nextSite, replyFor}
 use Rattle.choose.specs.Judge.{contextUsed, contextIn}
 use Rattle.samples.specs.Samples.{checked, block, example, corp, CORP, DC1, dc1, HQ, ann, guid, ipv4, image, filter, version, six, caller, pings, summary, refusal, P1, asks, forUser, forDomain, samples, SamplesHold}
 
 pub samples-hold : SamplesHold
-unfolding samples checked block example corp CORP DC1 dc1 HQ ann guid ipv4 image filter version six caller pings summary refusal P1 asks forUser forDomain elementAt equality one siblings andOf clausesOf isNamed hasUnknown hasDuplicate requestOf requestIn wrongValue versionAsked pingIn lengthOctets element pointerTo literalLabel writeLabels writeName writeNames lookAt walkFrom walk parts labels joined all any first keep unique pieces isDnsName isPlainName isUserName isAccountName little big littleOctets bigOctets has isSid same lower pointOctets pointsOctets utf16 lead follow pointsFrom isUtf8 readOctets readStretch readFixed readNameFrom readName readNames readOpcode readNumber readTokens readAddress hasNextSite readLast readEx text16 ending opening nt40Octets responseHead responseOctets exHead exOctets grown checkOf goodCheck zeros textField goodLength tableIn serverLayout forestLayout contextLayout accountLayout siteLayout subnetLayout flagsLayout lastText recordsLayout bodyLayout blockLayout layoutsFrom serverOf forestOf contextOf accountOf siteOf subnetOf blocksOf bodies recordsOf tableOf foldPairs foldFrom foldTable foldPoint foldPoints foldedText sameAccountName sameDnsName contextsUnique accountsUnique sameNetwork subnetsUnique sitesUnique hasContext hasSite refersRightly goodWhole pingFrom answerOver answerTo wrongUser replyTo mayLogOn isKnown isUserUnknown formOf isHeldBack opcodeOf namesApplication exFlags responseFlags nextSite replyFor contextByGuid nameCompared isNamedBy contextByDnsName holdsSid contextBySid contextByNumber defaultContext accountByName siteByNumber addressNumber networkOf isPrefixOnly sharePrefix inSubnet nearest subnetFor clientSite contextUsed contextIn flatMap bind
+unfolding samples checked block example corp CORP DC1 dc1 HQ ann guid ipv4 image filter version six caller pings summary refusal P1 asks forUser forDomain elementAt equality one siblings andOf clausesOf isNamed hasUnknown hasDuplicate requestOf requestIn wrongValue versionAsked pingIn lengthOctets element pointerTo literalLabel writeLabels writeName writeNames lookAt walkFrom walk parts labels joined all any first keep unique pieces isDnsName isPlainName isUserName isAccountName little big littleOctets bigOctets has isSid same lower pointOctets utf16 lead follow pointsFrom isUtf8 readOctets readStretch readFixed readNameFrom readName readNames readOpcode readNumber readTokens readAddress hasNextSite readLast readEx text16 ending opening nt40Octets responseHead responseOctets exHead exOctets grown checkOf goodCheck zeros textField goodLength tableIn serverLayout forestLayout contextLayout accountLayout siteLayout subnetLayout flagsLayout lastText recordsLayout bodyLayout blockLayout layoutsFrom serverOf forestOf contextOf accountOf siteOf subnetOf blocksOf bodies recordsOf tableOf foldPairs foldFrom foldTable foldPoint foldPoints foldedText sameAccountName sameDnsName contextsUnique accountsUnique sameNetwork subnetsUnique sitesUnique hasContext hasSite refersRightly goodWhole pingFrom answerOver answerBy wrongUser replyTo mayLogOn isKnown isUserUnknown formOf isHeldBack opcodeOf namesApplication exFlags responseFlags nextSite replyFor contextByGuid nameCompared isNamedBy contextByDnsName holdsSid contextBySid contextByNumber defaultContext accountByName siteByNumber addressNumber networkOf isPrefixOnly sharePrefix inSubnet nearest subnetFor clientSite contextUsed contextIn flatMap bind
 samples-hold = refl

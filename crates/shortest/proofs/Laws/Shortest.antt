@@ -1,7 +1,7 @@
 -- #113 is proved: of both forms, for any texts that are names, and so of every answer.
 use mathlib.Core.Path.{_≡_, refl, sym, ap, ap₂, _∙_}
 use mathlib.Core.Bool.{true, false}
-use mathlib.Core.List.{List, [], _∷_, _++_, map, append-nil, append-assoc, List·Memᴰ·head, List·Memᴰ·tail}
+use mathlib.Core.List.{List, [], _∷_, _++_, map, flatMap, append-nil, append-assoc, List·Memᴰ·head, List·Memᴰ·tail}
 use mathlib.Core.Option.{Option, none, some}
 use Prim.Native.Nat.{ℕ, _+_, _≤_}
 use native.Mathlib.Nat.{zero-add}
@@ -22,7 +22,7 @@ use Rattle.octets.proofs.Laws.Lists.{Every, every-all, all-every, every-weaken,
 use Rattle.octets.proofs.Laws.NameRule.{Writable}
 use Rattle.octets.proofs.Laws.Text.{within-low, within-high}
 use Rattle.reply.specs.Reply.{Reply, u32, text16, ending, opening, nt40Octets, responseHead, responseNames, responseOctets, exHead, exNames, addressIf, exLast, exOctets, octetsIn}
-use Rattle.unicode.specs.Utf16.{pointsOctets, utf16}
+use Rattle.unicode.specs.Utf16.{utf16}
 use Rattle.unicode.specs.Utf8.{pointsFrom}
 use Rattle.demands.specs.Derivation.{ReplyIs}
 use Rattle.demands.proofs.Laws.Derivation.{every-answer, every-reply}
@@ -155,7 +155,7 @@ sample =
     }
 
 longer-response : Longer Response
-unfolding all parts labels joined responseOctets responseHead opening text16 utf16 pointsOctets pointsFrom ending writeNames writeName writeLabels first same pointerTo literalLabel bigOctets littleOctets
+unfolding all parts labels joined responseOctets responseHead opening text16 utf16 flatMap pointsFrom ending writeNames writeName writeLabels first same pointerTo literalLabel bigOctets littleOctets
 longer-response = (
   sample,
   refl,

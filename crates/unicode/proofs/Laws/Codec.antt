@@ -1,4 +1,4 @@
--- What a text in either encoding comes to: where its octets lead to code points, they are the octets of these.
+-- What the two encodings share: a code point's octets lead back to it, and octets that lead to code points are those of these.
 use mathlib.Core.Path.{_≡_, refl, ap, _∙_, subst}
 use mathlib.Core.List.{List, [], _∷_, _++_, flatMap}
 use mathlib.Core.Option.{Option, none, some, Option·map}
@@ -12,6 +12,13 @@ pub record Code (c : ℕ) : Type 0 where
   pub unique : 0xD800 ≤ c → 0xE000 ≤ c
 
 module _ (encode : ℕ → List ℕ) where
+  -- octets lead back to code points where those of each one do, whatever comes after
+  pub back-all : (read : List ℕ → Option (List ℕ)) → read [] ≡ some [] → ((c : ℕ) (rest : List ℕ) → Code c → read (encode c ++ rest) ≡ Option·map (λ cs. c ∷ cs) (read rest))
+      → (cs : List ℕ) → Every Code cs → read (flatMap encode cs) ≡ some cs
+  unfolding flatMap
+  back-all read e f [] h = e
+  back-all read e f (c ∷ cs) h = f c (flatMap encode cs) (h .0) ∙ ap (Option·map (λ ds. c ∷ ds)) (back-all read e f cs (h .1))
+
   -- code points, and what they are the octets of
   abbrev pub Comes : List ℕ → List ℕ → Type 0
   Comes octets cs = Every Code cs × (flatMap encode cs ≡ octets)

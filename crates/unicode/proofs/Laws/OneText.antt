@@ -1,7 +1,7 @@
 -- UTF-16LE loses nothing: a code point's octets lead back to it, whatever comes after.
 use mathlib.Core.Path.{_≡_, refl, sym, ap, _∙_}
 use mathlib.Core.Bool.{Bool, true, false}
-use mathlib.Core.List.{List, [], _∷_, _++_, flatMap}
+use mathlib.Core.List.{List, _∷_, _++_}
 use mathlib.Core.Option.{Option, none, some, Option·map}
 use Prim.Native.Nat.{ℕ, _+_, _*_, _%_, _≤_, _<_}
 use native.Mathlib.Omega.{arith}
@@ -11,27 +11,26 @@ use Rattle.octets.specs.Lists.{isSome}
 use Rattle.octets.proofs.Laws.Lists.{Every, true-not-false}
 use Rattle.octets.proofs.Laws.Text.{within-range, without-range}
 use Rattle.unicode.specs.Utf8.{Partial, point, more, points, isUtf8}
-use Rattle.unicode.specs.Utf16.{highUnit, lowUnit, pointOctets, pointsOctets, utf16, OneText}
-use Rattle.unicode.proofs.Laws.Codec.{Code}
-use Rattle.unicode.proofs.Laws.Transcode.{lead16, follow16, pointsFrom16, pointsOf16, utf8Of}
+use Rattle.unicode.specs.Utf16.{highUnit, lowUnit, pointOctets, pointsOctets, utf16, lead16, follow16, pointsFrom16, pointsOf16, utf8From16, OneText}
+use Rattle.unicode.proofs.Laws.Codec.{Code, back-all}
 use Rattle.unicode.proofs.Laws.Utf8.{points-comes}
 use Rattle.unicode.proofs.Laws.Utf16.{one-unit, two-units}
 
 -- a high surrogate was read
-abbrev afterHigh : ℕ → Partial
+abbrev pub afterHigh : ℕ → Partial
 afterHigh u = record { left = 1; low = 0xDC00; high = 0xDFFF; bits = 0x40 + u % 1024 }
 
 -- what one unit leads to, by where it lies
 module _ (u : ℕ) where
-  lead-plain : (0xD800 ≤ u → 0xE000 ≤ u) → lead16 u ≡ point u
+  pub lead-plain : (0xD800 ≤ u → 0xE000 ≤ u) → lead16 u ≡ point u
   unfolding lead16
   lead-plain h = rw (without-range 0xD800 0xDBFF u (λ q. omega (arith, h q)), without-range 0xDC00 0xDFFF u (λ q. omega (arith, h (omega arith))))
 
-  lead-high : 0xD800 ≤ u → u ≤ 0xDBFF → lead16 u ≡ more (afterHigh u)
+  pub lead-high : 0xD800 ≤ u → u ≤ 0xDBFF → lead16 u ≡ more (afterHigh u)
   unfolding lead16
   lead-high h k = rw (within-range 0xD800 0xDBFF u h k)
 
-  follow-low : (v : ℕ) → 0xDC00 ≤ v → v ≤ 0xDFFF → follow16 (afterHigh u) v ≡ point ((0x40 + u % 1024) * 1024 + v % 1024)
+  pub follow-low : (v : ℕ) → 0xDC00 ≤ v → v ≤ 0xDFFF → follow16 (afterHigh u) v ≡ point ((0x40 + u % 1024) * 1024 + v % 1024)
   unfolding follow16
   follow-low v h k = rw (within-range 0xDC00 0xDFFF v h k)
 
@@ -65,16 +64,15 @@ module _ (c : ℕ) (rest : List ℕ) (h : Code c) where
       go false e = pair-back (ltb-false c 0x10000 e)
 
 points-back : (cs : List ℕ) → Every Code cs → pointsOf16 (pointsOctets cs) ≡ some cs
-unfolding pointsFrom16 pointsOctets
-points-back [] h = refl
-points-back (c ∷ cs) h = led-back c (pointsOctets cs) (h .0) ∙ ap (Option·map (λ ds. c ∷ ds)) (points-back cs (h .1))
+unfolding pointsFrom16
+points-back cs h = back-all pointOctets pointsOf16 refl led-back cs h
 
 -- a text that is UTF-8 comes back by its code points
-text-back : (t : List ℕ) → isUtf8 t ≡ true → Option·map (flatMap utf8Of) (pointsOf16 (utf16 t)) ≡ some t
-unfolding isUtf8 utf16
+pub text-back : (t : List ℕ) → isUtf8 t ≡ true → utf8From16 (utf16 t) ≡ some t
+unfolding isUtf8 utf16 utf8From16
 text-back t u = go (points t) refl u
   where
-    go : (o : Option (List ℕ)) → points t ≡ o → isSome o ≡ true → Option·map (flatMap utf8Of) (pointsOf16 (utf16 t)) ≡ some t
+    go : (o : Option (List ℕ)) → points t ≡ o → isSome o ≡ true → utf8From16 (utf16 t) ≡ some t
     go none q v = absurd (true-not-false (sym v))
     go (some cs) q v =
         let r = points-comes t cs q in
@@ -82,5 +80,5 @@ text-back t u = go (points t) refl u
 
 pub one-text : OneText
 one-text x y u v e =
-    let k : some x ≡ some y = sym (text-back x u) ∙ ap (λ (s : List ℕ). Option·map (flatMap utf8Of) (pointsOf16 s)) e ∙ text-back y v in
+    let k : some x ≡ some y = sym (text-back x u) ∙ ap utf8From16 e ∙ text-back y v in
     cc

@@ -1,13 +1,12 @@
 -- Laws of UTF-16LE: how many octets a text takes, and that each unit's octets make its number again.
-use mathlib.Core.Path.{_≡_, refl, sym, ap, _∙_}
+use mathlib.Core.Path.{_≡_, refl, ap}
 use mathlib.Core.Bool.{Bool, true, false, cond}
-use mathlib.Core.List.{List, [], _∷_, _++_, append-assoc, append-nil}
-use mathlib.Core.Option.{Option, none, some, Option·map, Option·getD}
+use mathlib.Core.List.{List, [], _∷_, _++_, flatMap}
+use mathlib.Core.Option.{some}
 use Prim.Native.Nat.{ℕ, _+_, _*_, _-_, _/_, _%_, _<_, _≤_}
-use native.Mathlib.Nat.{zero-add, add-zero}
 use native.Mathlib.Omega.{arith}
 use lib.Dec.{ltb}
-use lib.ListN.{length, drop, length-append}
+use lib.ListN.{length, length-append}
 use borrow.Author.Tests.{le-ltb, lt-ltb}
 use Rattle.octets.specs.Lists.{all, isSome}
 use Rattle.octets.proofs.Laws.Lists.{Every, every-all, every-weaken}
@@ -18,7 +17,6 @@ use Rattle.octets.proofs.Laws.Text.{within-low, within-high}
 use Rattle.octets.specs.Number.{little, littleOctets}
 use Rattle.unicode.specs.Utf8.{points, isUtf8}
 use Rattle.unicode.proofs.Laws.Utf8.{Scalar, units, unitsOf, sayable, points-ascii}
-use Rattle.unicode.proofs.Laws.Point.{end-points}
 use Rattle.unicode.specs.Utf16.{highUnit, lowUnit, pointOctets, pointsOctets, utf16}
 
 -- a code point below 10000h is one unit, whose octets make it again
@@ -33,7 +31,7 @@ unfolding pointOctets littleOctets little
 two-units c h k =
     (highUnit c % 256, highUnit c / 256 % 256, lowUnit c % 256, lowUnit c / 256 % 256, rw (le-ltb c 0x10000 h), omega arith, omega arith)
 
-point-length : (c : ℕ) → length (pointOctets c) ≡ 2 * units c
+pub point-length : (c : ℕ) → length (pointOctets c) ≡ 2 * units c
 unfolding pointOctets littleOctets
 point-length c = go (ltb c 0x10000)
   where
@@ -42,7 +40,7 @@ point-length c = go (ltb c 0x10000)
     go false = refl
 
 pub length-points : (cs : List ℕ) → length (pointsOctets cs) ≡ 2 * unitsOf cs
-unfolding pointsOctets
+unfolding flatMap
 length-points [] = refl
 length-points (c ∷ cs) = simp length-append (omega (arith, point-length c, length-points cs))
 
@@ -55,60 +53,6 @@ module _ (c : ℕ) where
   pub two-units-octets : 0x10000 ≤ c → pointOctets c ≡ littleOctets 2 (highUnit c) ++ littleOctets 2 (lowUnit c)
   unfolding pointOctets
   two-units-octets h = rw (le-ltb c 0x10000 h)
-
--- the octets of a text's code points, none where it is not UTF-8
-abbrev pub octetsLeft : Option (List ℕ) → List ℕ
-octetsLeft o = Option·getD (Option·map pointsOctets o) []
-
--- how many octets a text takes, of which n are counted and the code points left are counted yet
-abbrev pub sizeLeft : ℕ → Option (List ℕ) → ℕ
-sizeLeft n none = 0
-sizeLeft n (some cs) = n + length (pointsOctets cs)
-
-pub size-start : (s : List ℕ) → sizeLeft 0 (points s) ≡ length (utf16 s)
-unfolding utf16
-size-start s = go (points s)
-  where
-    go : (o : Option (List ℕ)) → sizeLeft 0 o ≡ length (octetsLeft o)
-    go none = refl
-    go (some cs) = zero-add (length (pointsOctets cs))
-
-pub size-next : (n m c : ℕ) (o here : Option (List ℕ)) → here ≡ Option·map (λ cs. c ∷ cs) o → m ≡ length (pointOctets c) → sizeLeft (n + m) o ≡ sizeLeft n here
-unfolding pointsOctets
-size-next n m c none here e q = ap (sizeLeft n) (sym e)
-size-next n m c (some cs) here e q =
-    let k : n + m + length (pointsOctets cs) ≡ n + length (pointOctets c ++ pointsOctets cs) = simp length-append (omega arith) in
-    k ∙ ap (sizeLeft n) (sym e)
-
-module _ (s : List ℕ) (at : ℕ) (h : length s ≤ at) where
-  pub size-end : (n : ℕ) → sizeLeft n (points (drop at s)) ≡ n
-  unfolding pointsOctets
-  size-end n = ap (sizeLeft n) (end-points s at h) ∙ add-zero n
-
-  pub end-left : octetsLeft (points (drop at s)) ≡ []
-  unfolding pointsOctets
-  end-left = ap octetsLeft (end-points s at h)
-
--- w is written, and what is left makes the whole
-module _ (w whole : List ℕ) where
-  pub written-all : (x : List ℕ) → w ++ x ≡ whole → x ≡ [] → w ≡ whole
-  written-all x e q = sym (append-nil w) ∙ ap (λ (y : List ℕ). w ++ y) (sym q) ∙ e
-
-  pub written-enough : (x : List ℕ) → w ++ x ≡ whole → length whole ≤ length w → w ≡ whole
-  written-enough [] e h = written-all [] e refl
-  written-enough (y ∷ x) e h = absurd (omega (arith, simp length-append at (ap length e)))
-
-  pub written-next : (c : ℕ) (o here : Option (List ℕ)) → w ++ octetsLeft here ≡ whole → length w < length whole → here ≡ Option·map (λ cs. c ∷ cs) o
-      → (w ++ pointOctets c) ++ octetsLeft o ≡ whole
-  unfolding pointsOctets
-  written-next c none here e h q =
-      let k : w ≡ whole = written-all (octetsLeft here) e (ap octetsLeft q) in
-      absurd (omega (arith, ap length k))
-  written-next c (some cs) here e h q =
-      append-assoc w (pointOctets c) (pointsOctets cs) ∙ ap (λ (x : Option (List ℕ)). w ++ octetsLeft x) (sym q) ∙ e
-
-  pub written-fits : (c : ℕ) (o : Option (List ℕ)) → (w ++ pointOctets c) ++ octetsLeft o ≡ whole → length w + length (pointOctets c) ≤ length whole
-  written-fits c o e = omega (arith, simp length-append at (ap length e))
 
 -- a text that UTF-16 can say: UTF-8, its code points, and their octets at most twice as many as its own
 pub record Spoken (s : List ℕ) : Type 0 where

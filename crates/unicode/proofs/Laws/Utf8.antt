@@ -11,25 +11,24 @@ use borrow.Author.Tests.{ltb-true, ltb-false, eqb-true, eqb-false, lt-ltb, le-lt
 use Rattle.octets.proofs.Laws.Lists.{Every, none-not-some, cond-has}
 use Rattle.octets.specs.Text.{within}
 use Rattle.octets.proofs.Laws.Text.{within-low, within-high}
-use Rattle.unicode.specs.Utf8.{Partial, Decoded, point, more, lead, closes, follow, Decoder, between, partway, decode, pointsFrom, points}
+use Rattle.unicode.specs.Utf8.{Partial, Decoded, point, more, lead, closes, follow, Decoder, between, partway, decode, pointsFrom, points, utf8Of}
 use Rattle.unicode.proofs.Laws.Codec.{Code, Comes, Before, After, turn-comes}
-use Rattle.unicode.proofs.Laws.Transcode.{utf8Of}
 
 -- a code point's octets, by the octets themselves
 module _ (c : ℕ) where
-  of-one : c < 0x80 → utf8Of c ≡ c ∷ []
+  pub of-one : c < 0x80 → utf8Of c ≡ c ∷ []
   unfolding utf8Of
   of-one h = rw (lt-ltb c 0x80 h)
 
-  of-two : (x y : ℕ) → 0x80 ≤ c → c < 0x800 → x ≡ 0xC0 + c / 64 → y ≡ 0x80 + c % 64 → utf8Of c ≡ x ∷ y ∷ []
+  pub of-two : (x y : ℕ) → 0x80 ≤ c → c < 0x800 → x ≡ 0xC0 + c / 64 → y ≡ 0x80 + c % 64 → utf8Of c ≡ x ∷ y ∷ []
   unfolding utf8Of
   of-two x y h k e f = rw (le-ltb c 0x80 h, lt-ltb c 0x800 k, e, f)
 
-  of-three : (x y z : ℕ) → 0x800 ≤ c → c < 0x10000 → x ≡ 0xE0 + c / 4096 → y ≡ 0x80 + c / 64 % 64 → z ≡ 0x80 + c % 64 → utf8Of c ≡ x ∷ y ∷ z ∷ []
+  pub of-three : (x y z : ℕ) → 0x800 ≤ c → c < 0x10000 → x ≡ 0xE0 + c / 4096 → y ≡ 0x80 + c / 64 % 64 → z ≡ 0x80 + c % 64 → utf8Of c ≡ x ∷ y ∷ z ∷ []
   unfolding utf8Of
   of-three x y z h k e f g = let a : 0x80 ≤ c = omega arith in rw (le-ltb c 0x80 a, le-ltb c 0x800 h, lt-ltb c 0x10000 k, e, f, g)
 
-  of-four : (x y z w : ℕ) → 0x10000 ≤ c → x ≡ 0xF0 + c / 262144 → y ≡ 0x80 + c / 4096 % 64 → z ≡ 0x80 + c / 64 % 64 → w ≡ 0x80 + c % 64 → utf8Of c ≡ x ∷ y ∷ z ∷ w ∷ []
+  pub of-four : (x y z w : ℕ) → 0x10000 ≤ c → x ≡ 0xF0 + c / 262144 → y ≡ 0x80 + c / 4096 % 64 → z ≡ 0x80 + c / 64 % 64 → w ≡ 0x80 + c % 64 → utf8Of c ≡ x ∷ y ∷ z ∷ w ∷ []
   unfolding utf8Of
   of-four x y z w h e f g k =
       let a : 0x80 ≤ c = omega arith in

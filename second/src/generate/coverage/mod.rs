@@ -6,6 +6,7 @@ mod checks;
 mod closing_dot;
 mod filters;
 mod letters;
+mod mailslots;
 mod pings;
 pub mod places;
 mod reads;
@@ -83,6 +84,9 @@ impl Coverage {
             "filter" | "values" => filters::add_cases(&octets_of_word(request.get(1)?)?, &answer, met),
             "write" => filters::add_write(&request, &answer, met)?,
             "read" => reads::add_cases(&request, &answer, met)?,
+            "mailslot" => mailslots::add_read(&request, &answer, met)?,
+            "mailwrite" => mailslots::add_write(&request, &answer, met)?,
+            "mailping" => mailslots::add_ping(&self.image, &request, &answer, met)?,
             _ => {}
         }
         Some(())
@@ -113,13 +117,16 @@ impl Coverage {
 }
 
 /// The numbers that each kind of line can give.
-const NUMBERS_BY_KIND: [(&str, &[u8]); 6] = [
+const NUMBERS_BY_KIND: [(&str, &[u8]); 9] = [
     ("table", &[0, 1, 2, 3, 4]),
     ("ping", &[0, 1, 2, 3, 4, 5, 6, 7, 8, 9, 11, 12, 13, 14, 15, 16, 17, 18, 19]),
     ("filter", &[0, 5, 6, 7, 8]),
     ("values", &[0, 5, 6, 7, 8, 9]),
     ("write", &[0, 5, 6, 19]),
     ("read", &[0, 31, 32, 33, 34, 35]),
+    ("mailslot", &[0, 41]),
+    ("mailwrite", &[0, 41, 19]),
+    ("mailping", &[0, 1, 2, 3, 4, 41, 15, 16, 17, 18, 19]),
 ];
 
 /// Given before #101 for a filter without NtVer, and never again.
@@ -140,6 +147,7 @@ pub fn required() -> Vec<String> {
     cases.extend(filters::required());
     cases.extend(reads::required());
     cases.extend(walks::required());
+    cases.extend(mailslots::required());
     cases
 }
 

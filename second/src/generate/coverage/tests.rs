@@ -4,6 +4,7 @@ use super::super::bulk::write_lines;
 use super::super::elements::{and, equality};
 use super::super::nets::{with_nets, Net};
 use super::super::{lines_of, KINDS};
+use super::mailslots::{due_read, is_due_write};
 use super::trace::trace;
 use super::trail::{trail, End, Trail};
 use super::Coverage;
@@ -68,6 +69,63 @@ fn trails_lead_to_what_the_walk_answers() {
             _ => "walk none".to_string(),
         };
         assert_eq!(answer, expected, "{words:?}");
+    }
+}
+
+#[test]
+fn parts_of_messages_lead_to_what_is_read() {
+    let lines = lines_and_answers("mailslot");
+    assert!(lines.len() > 1_500);
+    for (words, answer) in lines {
+        assert_eq!(answer, due_read(&octets_of_word(&words[1]).unwrap()), "{words:?}");
+    }
+}
+
+#[test]
+fn parts_of_messages_lead_to_what_is_written() {
+    let lines = lines_and_answers("mailwrite");
+    assert!(lines.len() > 1_000);
+    for (words, answer) in lines {
+        let words: Vec<&str> = words.iter().map(String::as_str).collect();
+        let answer: Vec<&str> = answer.split(' ').collect();
+        assert_eq!(is_due_write(&words, &answer), Some(true), "{words:?} {answer:?}");
+    }
+}
+
+#[test]
+fn a_message_meets_its_case_with_the_due_answer_alone() {
+    let request = b"mailslot 12000000000000000000000000000000000b000000ffffffff";
+    let due = "mailslot 0 0 = = = 00000000 = 0000000b";
+    for (answer, times) in [(due, 1), ("mailslot 41", 0), ("mailslot 0 0 = = = 0000000b = 00000000", 0)] {
+        let mut coverage = Coverage::default();
+        coverage.observe(request, answer);
+        assert_eq!(coverage.count("message read: size 0"), times, "{answer}");
+    }
+}
+
+#[test]
+fn a_written_message_meets_its_case_with_the_due_answer_alone() {
+    let request = b"mailwrite 25 0 = = = 00000000 = 0000000b";
+    let due = "mailwrite 0 25 12000000000000000000000000000000000b000000ffffffff";
+    let others = [due.replace("0b00", "0c00"), due.replace(" 25 ", " 24 "), "mailwrite 41 0 -".to_string()];
+    for (answer, times) in [(due.to_string(), 1)].into_iter().chain(others.map(|answer| (answer, 0))) {
+        let mut coverage = Coverage::default();
+        coverage.observe(request, &answer);
+        assert_eq!(coverage.count("message written: room of its length"), times, "{answer}");
+    }
+}
+
+/// An empty user taken for an unknown one would give opcode 21.
+#[test]
+fn a_message_without_user_meets_its_case_with_the_due_answer_alone() {
+    let request = "mailping 00000000 120000000000000000000000000000000000000000ffffffff 30";
+    let reply = "004400430031000000000043004f0052005000000001000000ffffffff";
+    for (opcode, times) in [("13", 1), ("15", 0)] {
+        let answer = format!("mailping 0 30 1 nt40 {opcode}{reply}");
+        assert_eq!(met_on_base_table(request, &answer, "mailping: nt40: opcode 19, no user"), times);
+        assert_eq!(met_on_base_table(request, &answer.replace("nt40", "ex"), "mailping: no SID: 0"), 1);
+        let elsewhere = answer.replace("nt40", "ex");
+        assert_eq!(met_on_base_table(request, &elsewhere, "mailping: nt40: opcode 19, no user"), 0);
     }
 }
 

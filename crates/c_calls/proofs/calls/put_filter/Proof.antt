@@ -1,5 +1,5 @@
 use mathlib.Core.Path.{ap, _∙_}
-use Rattle.filter_write.specs.Write.{writtenNumber, writtenLength}
+use Rattle.answers.specs.Written.{writtenNumber, writtenLength}
 use borrow.Author.Needs.{needs}
 use Rattle.c_calls.proofs.calls.put_filter.Statement.{statement}
 use Rattle.c_calls.proofs.calls.put_filter.Tie as tie

@@ -1,7 +1,7 @@
 use mathlib.Core.Path.{sym, ap, _∙_}
 use borrow.Author.Needs.{needs}
 use lib.ListN.{length}
-use Rattle.filter_read.specs.Internal.RawPing.{triedPing}
+use Rattle.filter_read.specs.{Internal.RawPing.triedPing, Value.pingFrom}
 use Rattle.filter_read.proofs.Laws.Value.{ping-user}
 use Rattle.locator.proofs.Laws.Answer.{refusal-given, ping-refused, ping-answered, answer-of, answer-promised}
 use Rattle.locator.proofs.accepted.answer_accepted.Statement.{statement}
@@ -28,7 +28,7 @@ returns c =
     let s = c .before .before .before .before .before .before .before in
     let a = s .args in
     let read = sym (c .before .before .before .read-ping .ensures) ∙ ap (triedPing (a .filter .now)) (c .before .refusal .given .1) in
-    answer-promised _ _ (refusal-given _ _ (a .reply .now) (ping-refused (a .image .now) (a .caller) (a .filter .now) (length (a .reply .now)) _ _ (s .pre) read))
+    answer-promised _ _ (refusal-given _ _ (a .reply .now) (ping-refused pingFrom (a .image .now) (a .caller) (a .filter .now) (length (a .reply .now)) _ _ (s .pre) read))
 
 same-length : tie.Need-same-length
 same-length c = search needs
@@ -38,7 +38,7 @@ returns-2 c =
     let s = c .before .before .before .before .before .before .before .before .before .before .before in
     let a = s .args in
     let read = sym (c .before .before .before .before .before .before .before .read-ping .ensures) ∙ ap (triedPing (a .filter .now)) (c .before .before .before .before .before .ping .given .1) in
-    answer-promised _ _ (answer-of _ _ _ (a .reply .now) _ (ping-answered (a .image .now) (a .caller) (a .filter .now) (length (a .reply .now)) _ _ (s .pre) read) (c .before .before .answer-over .ensures))
+    answer-promised _ _ (answer-of _ _ _ (a .reply .now) _ (ping-answered pingFrom (a .image .now) (a .caller) (a .filter .now) (length (a .reply .now)) _ _ (s .pre) read) (c .before .before .answer-over .ensures))
 
 pub answer-accepted-spec : {M : Type 1} → statement M
 answer-accepted-spec =

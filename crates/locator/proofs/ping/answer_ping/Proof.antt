@@ -1,6 +1,7 @@
 use mathlib.Core.Path.{sym, _∙_}
 use borrow.Author.Needs.{needs}
 use lib.ListN.{length}
+use Rattle.filter_read.specs.Value.{pingFrom}
 use Rattle.table_whole.specs.Judgement.{tableIn}
 use Rattle.table_whole.proofs.Laws.Judgement.{passed-accepted, judged-refused}
 use Rattle.locator.proofs.Laws.Answer.{refusal-given, table-refused, answer-promised}
@@ -25,7 +26,7 @@ returns : tie.Need-returns
 returns c =
     let a = c .before .before .before .before .before .before .before .args in
     let judged = judged-refused (tableIn (a .image .now)) _ (sym (c .before .refusal .given .1) ∙ c .before .before .before .judge .ensures .same) in
-    answer-promised _ _ (refusal-given _ _ (a .reply .now) (table-refused (a .image .now) (a .caller) (a .filter .now) (length (a .reply .now)) _ judged))
+    answer-promised _ _ (refusal-given _ _ (a .reply .now) (table-refused pingFrom (a .image .now) (a .caller) (a .filter .now) (length (a .reply .now)) _ judged))
 
 returns-2 : tie.Need-returns-2
 returns-2 c = search needs

@@ -10,13 +10,14 @@ use Rattle.unicode.specs.declared.utf8.PointAt.the-variants.{Point}
 use Rattle.unicode.specs.Utf8.{points}
 use Rattle.unicode.specs.Utf16.{pointOctets, utf16}
 use Rattle.unicode.specs.Internal.Point.{PointRead}
-use Rattle.unicode.proofs.Laws.Utf16.{octetsLeft, end-left, written-all, written-enough, written-next, written-fits}
+use Rattle.unicode.proofs.Laws.Point.{end-points}
+use Rattle.unicode.proofs.Laws.Writing.{octetsLeft, left-end, written-all, written-enough, written-next, written-fits}
 use Rattle.unicode.proofs.utf16.put_utf16.Statement.{statement}
 use Rattle.unicode.proofs.utf16.put_utf16.Tie as tie
 
 abbrev Inv-loop : tie.InvT-loop
 Inv-loop out₀ s size written₀ at₀ out written at =
-    (w : List ℕ) × (at ≤ length s) × (length out ≡ length out₀) × (written ≡ length w) × (w ++ octetsLeft (points (drop at s)) ≡ utf16 s) × (out ≡ over w out₀)
+    (w : List ℕ) × (at ≤ length s) × (length out ≡ length out₀) × (written ≡ length w) × (w ++ octetsLeft pointOctets (points (drop at s)) ≡ utf16 s) × (out ≡ over w out₀)
 
 abbrev μ-loop : tie.MeasureT-loop
 μ-loop out₀ s size written₀ at₀ out written at = length s - at
@@ -43,7 +44,7 @@ returns c =
     let s : List ℕ = a .s .now in
     let l = c .before .before .before .before .loop in
     let p = subst (PointRead s (l .at)) (c .enum-told .given .1) (c .before .before .point-at .ensures) in
-    let e : l .inv .0 ≡ utf16 s = written-all (l .inv .0) (utf16 s) (octetsLeft (points (drop (l .at) s))) (l .inv .4) (end-left s (l .at) p) in
+    let e : l .inv .0 ≡ utf16 s = written-all (l .inv .0) (utf16 s) (octetsLeft pointOctets (points (drop (l .at) s))) (l .inv .4) (left-end pointOctets (points (drop (l .at) s)) (end-points s (l .at) p)) in
     (l .inv .3 ∙ ap length e, l .inv .5 ∙ ap (λ (x : List ℕ). over x (a .out .now)) e)
 
 enum-told-2 : tie.Need-enum-told-2 Inv-loop μ-loop
@@ -58,7 +59,7 @@ returns-2 c =
     let s : List ℕ = a .s .now in
     let l = c .before .before .before .before .loop in
     let p = subst (PointRead s (l .at)) (c .enum-told2 .given .1) (c .before .before .point-at .ensures) in
-    let e : l .inv .0 ≡ utf16 s = written-all (l .inv .0) (utf16 s) (octetsLeft (points (drop (l .at) s))) (l .inv .4) (ap octetsLeft (p .0)) in
+    let e : l .inv .0 ≡ utf16 s = written-all (l .inv .0) (utf16 s) (octetsLeft pointOctets (points (drop (l .at) s))) (l .inv .4) (ap (octetsLeft pointOctets) (p .0)) in
     (l .inv .3 ∙ ap length e, l .inv .5 ∙ ap (λ (x : List ℕ). over x (a .out .now)) e)
 
 enum-known-here : tie.Need-enum-known-here Inv-loop μ-loop
@@ -87,13 +88,13 @@ module _ (c : tie.After-put-point-arg Inv-loop μ-loop) where
   read : PointRead text (c .before .before .before .before .before .before .loop .at) (Point point (c .before .before .here .given .0 .1 .0))
   read = subst (PointRead text (c .before .before .before .before .before .before .loop .at)) (c .before .before .here .given .1) (c .before .before .before .before .point-at .ensures)
 
-  left : (before-it ++ pointOctets point) ++ octetsLeft (points (drop (c .before .before .here .given .0 .1 .0) text)) ≡ utf16 text
+  left : (before-it ++ pointOctets point) ++ octetsLeft pointOctets (points (drop (c .before .before .here .given .0 .1 .0) text)) ≡ utf16 text
   left =
       let l = c .before .before .before .before .before .before .loop in
-      written-next before-it (utf16 text) point (points (drop (c .before .before .here .given .0 .1 .0) text)) (points (drop (l .at) text)) (l .inv .4) (omega arith) (read .3)
+      written-next pointOctets before-it (utf16 text) point (points (drop (c .before .before .here .given .0 .1 .0) text)) (points (drop (l .at) text)) (l .inv .4) (omega arith) (read .3)
 
   fits : length before-it + length (pointOctets point) ≤ length (utf16 text)
-  fits = written-fits before-it (utf16 text) point (points (drop (c .before .before .here .given .0 .1 .0) text)) left
+  fits = written-fits pointOctets before-it (utf16 text) point (points (drop (c .before .before .here .given .0 .1 .0) text)) left
 
 put-point-requires : tie.Need-put-point-requires Inv-loop μ-loop
 put-point-requires c κs =
@@ -130,7 +131,7 @@ returns-3 c =
     let a = c .before .before .before .before .before .args in
     let s : List ℕ = a .s .now in
     let l = c .before .loop in
-    let e : l .inv .0 ≡ utf16 s = written-enough (l .inv .0) (utf16 s) (octetsLeft (points (drop (l .at) s))) (l .inv .4) (omega arith) in
+    let e : l .inv .0 ≡ utf16 s = written-enough (l .inv .0) (utf16 s) (octetsLeft pointOctets (points (drop (l .at) s))) (l .inv .4) (omega arith) in
     (l .inv .3 ∙ ap length e, l .inv .5 ∙ ap (λ (x : List ℕ). over x (a .out .now)) e)
 
 pub put-utf16-spec : {M : Type 1} → statement M

@@ -1,23 +1,25 @@
 use borrow.Author.Needs.{needs}
 use mathlib.Core.Path.{_≡_, sym, ap, _∙_, subst}
+use mathlib.Core.Option.{Option·map, none, some}
 use Prim.Native.Nat.{_*_, _-_, _≤_}
 use native.Mathlib.Omega.{arith}
 use lib.ListN.{length, drop}
 use Rattle.unicode.specs.Utf8.{points}
-use Rattle.unicode.specs.Utf16.{utf16}
+use Rattle.unicode.specs.Utf16.{pointOctets, pointsOctets, utf16}
 use Rattle.unicode.specs.Internal.Point.{PointRead}
-use Rattle.unicode.proofs.Laws.Utf16.{sizeLeft, size-start, size-next, size-end}
+use Rattle.unicode.proofs.Laws.Point.{end-points}
+use Rattle.unicode.proofs.Laws.Writing.{sizeLeft, size-start, size-next, size-end, length-told}
 use Rattle.unicode.proofs.utf16.utf16_size.Statement.{statement}
 use Rattle.unicode.proofs.utf16.utf16_size.Tie as tie
 
 abbrev Inv-loop : tie.InvT-loop
-Inv-loop s size₀ at₀ size at = (at ≤ length s) × (size ≤ 4 * at) × (sizeLeft size (points (drop at s)) ≡ length (utf16 s))
+Inv-loop s size₀ at₀ size at = (at ≤ length s) × (size ≤ 4 * at) × (sizeLeft pointOctets size (points (drop at s)) ≡ Option·map length (Option·map pointsOctets (points s)))
 
 abbrev μ-loop : tie.MeasureT-loop
 μ-loop s size₀ at₀ size at = length s - at
 
 loop-holds : tie.Need-loop-holds Inv-loop μ-loop
-loop-holds c = (omega arith, omega arith, size-start (c .before .args .s .now))
+loop-holds c = (omega arith, omega arith, size-start pointOctets (points (c .before .args .s .now)))
 
 point-at-requires : tie.Need-point-at-requires Inv-loop μ-loop
 point-at-requires c κs = search needs
@@ -26,21 +28,23 @@ enum-told : tie.Need-enum-told Inv-loop μ-loop
 enum-told c = search needs
 
 returns : tie.Need-returns Inv-loop μ-loop
+unfolding utf16
 returns c =
     let s = c .before .before .before .before .before .args .s .now in
     let l = c .before .before .before .loop in
     let p = subst (PointRead s (l .at)) (c .enum-told .given .1) (c .before .before .point-at .ensures) in
-    (sym (size-end s (l .at) p (l .size)) ∙ l .inv .2, omega arith)
+    (sym (length-told (Option·map pointsOctets (points s)) (some (l .size)) (sym (l .inv .2) ∙ size-end pointOctets (l .size) (points (drop (l .at) s)) (end-points s (l .at) p))), omega arith)
 
 enum-told-2 : tie.Need-enum-told-2 Inv-loop μ-loop
 enum-told-2 c = search needs
 
 returns-2 : tie.Need-returns-2 Inv-loop μ-loop
+unfolding utf16
 returns-2 c =
     let s = c .before .before .before .before .before .args .s .now in
     let l = c .before .before .before .loop in
     let p = subst (PointRead s (l .at)) (c .enum-told2 .given .1) (c .before .before .point-at .ensures) in
-    (ap (sizeLeft (l .size)) (sym (p .0)) ∙ l .inv .2, omega arith)
+    (sym (length-told (Option·map pointsOctets (points s)) none (sym (l .inv .2) ∙ ap (sizeLeft pointOctets (l .size)) (p .0))), omega arith)
 
 enum-known-here : tie.Need-enum-known-here Inv-loop μ-loop
 enum-known-here c = search needs
@@ -66,7 +70,7 @@ loop-again c =
     let n = c .before .before .here .given .0 .1 .0 in (
       omega arith,
       omega arith,
-      size-next (l .size) (c .point-size .result) (c .before .before .here .given .0 .0) (points (drop n s)) (points (drop (l .at) s)) (p .3) (c .point-size .ensures .0) ∙ l .inv .2,
+      size-next pointOctets (l .size) (c .point-size .result) (c .before .before .here .given .0 .0) (points (drop n s)) (points (drop (l .at) s)) (p .3) (c .point-size .ensures .0) ∙ l .inv .2,
     )
 
 pub utf16-size-spec : {M : Type 1} → statement M

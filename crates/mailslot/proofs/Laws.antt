@@ -1,0 +1,9 @@
+pub mod Character
+pub mod Ends
+pub mod Field
+pub mod Longest
+pub mod Name
+pub mod Run
+pub mod Shape
+pub mod Sid
+pub mod User

@@ -1,0 +1,3 @@
+pub mod Ping
+pub mod Answer
+pub mod Internal

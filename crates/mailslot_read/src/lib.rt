@@ -1,0 +1,3 @@
+// A mailslot message, read.
+pub mod part;
+pub mod read;

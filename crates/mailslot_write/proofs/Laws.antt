@@ -1,0 +1,5 @@
+pub mod Size
+pub mod Put
+pub mod Write
+pub mod Text16
+pub mod RoundTrip

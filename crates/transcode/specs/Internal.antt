@@ -1,0 +1,2 @@
+pub mod Point16
+pub mod Text8

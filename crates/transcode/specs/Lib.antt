@@ -1,0 +1,2 @@
+pub mod Transcode
+pub mod Internal
