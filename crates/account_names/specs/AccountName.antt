@@ -2,7 +2,7 @@
 use Rattle.std.specs.Prelude.{Bool, List, ℕ}
 use Rattle.std.proofs.Math.Option.{Option, map}
 use Rattle.octets.specs.{Fold.fold_points, Lists.holds, Text.same}
-use Rattle.unicode.specs.Utf8.{points}
+use Rattle.unicode_text.specs.Utf8.{points}
 
 -- a text's code points, folded; none where it is not UTF-8
 unfoldable pub folded_text : List ℕ → Option (List ℕ)

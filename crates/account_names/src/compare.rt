@@ -2,7 +2,7 @@
 ghost use Rattle.std.specs.Prelude.{◌≡◌, true, false, ◌+◌, ◌≤◌, ◌<◌, eqb, length, get_or, drop};
 ghost use Rattle.octets.specs.Fold.{fold_table_lem, fold_point};
 ghost use Rattle.octets.specs.Text.{lower};
-ghost use Rattle.unicode.specs.Internal.Point.{point_limit, size_of};
+ghost use Rattle.unicode_text.specs.Internal.Point.{point_limit, size_of};
 ghost use Rattle.account_names.specs.AccountName.{same_account_name};
 ghost use Rattle.account_names.specs.Internal.Ordering.{is_equal};
 ghost use Rattle.account_names.specs.Internal.NameOrder.{compare_names, RankRead, GoesOn, Alike};
@@ -11,7 +11,7 @@ use crate::fold_table::FOLD_TABLE;
 use folding::fold::fold_point;
 use octets::number::wide;
 use octets::text::folded;
-use unicode::utf8::{NO_POINT, octet_at, point_of, point_of_more, point_of_two, size_of};
+use unicode_text::utf8::{NO_POINT, octet_at, point_of, point_of_more, point_of_two, size_of};
 
 // Which of two comes first.
 #[derive(Drop)]

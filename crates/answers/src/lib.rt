@@ -1,11 +1,13 @@
 // The answers of document 01, "Answer numbers" and "Reading a reply", and of document 02: why a call refuses, and the three forms of a reply.
+#![tactic(auto)]
+
 pub mod wire;
 pub mod written;
 
 ghost use Rattle.answers.specs.Refusal.{number, NumberOfPromise};
 
 // A refusal.
-#[derive(Drop)]
+#[derive(Clone, Copy)]
 pub enum Refusal {
     ImageLength,
     BlockCheck,
@@ -66,7 +68,7 @@ pub fn number_of(r: Refusal) -> u8
 }
 
 // The form of a reply.
-#[derive(Drop)]
+#[derive(Clone, Copy)]
 pub enum Form {
     Nt40,
     Response,

@@ -5,7 +5,7 @@ ghost use Rattle.answers.specs.Written.{written_number, written_length};
 use crate::{Refusal, number_of};
 
 // 0 with the length written, or why nothing was.
-#[derive(Drop)]
+#[derive(Clone, Copy)]
 pub enum Written {
     Length(usize),
     Refused(Refusal),

@@ -8,7 +8,7 @@ use crate::word::position_of;
 use console::field::field;
 use octets::part::part;
 use octets::text::same_folded;
-use unicode::utf16::{put_utf16, utf16_size};
+use unicode_text::utf16::{put_utf16, utf16_size};
 
 // The words by their numbers.
 pub const REPEAT: usize = 0;
@@ -36,7 +36,7 @@ const TEXT_ROOM: usize = 4 * TEXT_MOST;
 pub const TEXTS_SIZE: usize = 4 * TEXT_ROOM;
 
 // A word that is given: which one, and its value, a number or how many octets stand in its room.
-#[derive(Drop)]
+#[derive(Clone, Copy)]
 pub struct MessageWord {
     pub word: usize,
     pub number: u32,
@@ -44,7 +44,7 @@ pub struct MessageWord {
 }
 
 // A word, or what is wrong with it.
-#[derive(Drop)]
+#[derive(Clone, Copy)]
 pub enum WordRead {
     NoEquals,
     UnknownWord,

@@ -1,4 +1,6 @@
 // Proved code that the programs of bench/ time and that is no public call, for Rust to link.
+#![tactic(auto)]
+
 ghost use Rattle.std.specs.Prelude.{◌≡◌, ◌&&◌, ◌≤◌, ◌<◌, leb, length};
 ghost use Rattle.octets.specs.Lists.{all};
 ghost use Rattle.filter_read.specs.Value.{ping_from, judged_values, judged_number};

@@ -2,7 +2,7 @@
 ghost use Rattle.std.specs.Prelude.{◌≡◌, false, not, ◌+◌, ◌≤◌, length};
 ghost use Rattle.std.proofs.Math.Option.{map};
 ghost use Rattle.octets.specs.Lists.{cut, holds};
-ghost use Rattle.unicode.specs.UserName.{is_user_name};
+ghost use Rattle.unicode_text.specs.UserName.{is_user_name};
 ghost use Rattle.filter_read.specs.Internal.RawPing.{ping_at};
 ghost use Rattle.reply.specs.Internal.RawReply.{reply_in, Short};
 ghost use Rattle.table.specs.declared.record.RecordKind.TheVariants as kind;

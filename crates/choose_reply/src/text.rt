@@ -2,7 +2,7 @@
 ghost use Rattle.std.specs.Prelude.{◌≡◌, false, not, [], ◌+◌, ◌≤◌, ◌<◌, length};
 ghost use Rattle.std.proofs.Math.Option.{map, get_or};
 ghost use Rattle.octets.specs.Lists.{cut, holds};
-ghost use Rattle.unicode.specs.UserName.{is_user_name};
+ghost use Rattle.unicode_text.specs.UserName.{is_user_name};
 ghost use Rattle.filter.specs.Request.{octets_of};
 ghost use Rattle.table.specs.declared.record.RecordKind.TheVariants as kind;
 ghost use Rattle.table.specs.Block.{block_size};

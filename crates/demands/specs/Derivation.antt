@@ -2,7 +2,7 @@
 use Rattle.std.specs.Prelude.{◌≡◌, false, not, List, ℕ, length, take}
 use Rattle.answers.specs.{declared.Form.Form, Try.Try, Try.good}
 use Rattle.filter_read.specs.Value.{Ping}
-use Rattle.unicode.specs.UserName.{is_user_name}
+use Rattle.unicode_text.specs.UserName.{is_user_name}
 use Rattle.locator.specs.declared.Answer.{Answer}
 use Rattle.locator.specs.declared.Answer.TheVariants as answer
 use Rattle.locator.specs.Answer.{Outcome, reply_to, answer_over, answer_by}

@@ -16,7 +16,7 @@ use Rattle.reader.specs.{Field.stretch_of, Reader.Nt40Fields, Reader.ResponseFie
 use Rattle.table.specs.declared.Caller.{Caller}
 use Rattle.table_whole.specs.Judgement.{table_in}
 use Rattle.transcode.specs.Transcode.{are_octets}
-use Rattle.unicode.specs.{Utf8.is_utf8, Utf16.utf16}
+use Rattle.unicode_text.specs.{Utf8.is_utf8, Utf16.utf16}
 use Rattle.demands.specs.Derivation.{GivesGoodPings, Parts, ReplyIs}
 
 -- both ways in give only pings whose user 9 lets pass, so that what is said of every answer and of every reply is said of both calls

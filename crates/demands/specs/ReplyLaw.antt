@@ -6,7 +6,7 @@ use Rattle.std.proofs.Math.Option.{Option, none, some}
 use Rattle.answers.specs.{declared.Form.Form, Try.Try, Try.good}
 use Rattle.answers.specs.declared.Form.TheVariants.{Nt40, Response, Ex}
 use Rattle.answers.specs.Wire.{nt40_version, response_version, ex_version, ex_version_with_next_site}
-use Rattle.unicode.specs.{Utf8.is_utf8, Utf16.utf16}
+use Rattle.unicode_text.specs.{Utf8.is_utf8, Utf16.utf16}
 use Rattle.reader.specs.Field.{stretch_of}
 use Rattle.reader.specs.Reader.{NameRead, Nt40Fields, ResponseFields, ExFields, Fields, nt40, response, ex, read_in, read_length}
 use Rattle.reply.specs.Reply.{Reply, response_names, ex_names}

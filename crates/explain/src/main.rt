@@ -1,4 +1,6 @@
 // explain FORM V REPLY: reads a received reply, given in hex digits or as a file, and shows it.
+#![tactic(auto)]
+
 use answers::Form;
 use arguments::complaint::{complain, complain_of};
 use arguments::file::{FileRead, read_file};

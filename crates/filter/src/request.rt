@@ -4,14 +4,14 @@ ghost use Rattle.filter.specs.Request.{request_by, clause, is_present};
 ghost use Rattle.filter.specs.Internal.ClauseNames.{clause_name_at, Spells, stored};
 
 // A clause is absent, or present with its stretch of octets; present and empty is present.
-#[derive(Drop)]
+#[derive(Clone, Copy)]
 pub enum Clause {
     Absent,
     Present { start: usize, len: usize },
 }
 
 // The clause names, in document 01's order.
-#[derive(Drop)]
+#[derive(Clone, Copy)]
 pub enum ClauseName {
     DnsDomain,
     Host,
@@ -24,7 +24,7 @@ pub enum ClauseName {
 }
 
 // A filter's clauses, one field for each clause name, in document 01's order.
-#[derive(Drop)]
+#[derive(Clone, Copy)]
 pub struct Request {
     pub dns_domain: Clause,
     pub host: Clause,

@@ -5,7 +5,7 @@ use Rattle.answers.specs.declared.Refusal.TheVariants.{ClauseValue}
 use Rattle.answers.specs.{Refusal.number, Wire.netlogon_nt_version_1}
 use Rattle.answers.specs.Try.{Try, refused, good, refused_if, ◌>>=◌, number_of, value_of}
 use Rattle.octets.specs.{Lists.holds, Number.little}
-use Rattle.unicode.specs.UserName.{is_user_name}
+use Rattle.unicode_text.specs.UserName.{is_user_name}
 use Rattle.filter_read.specs.{declared.value.Judged.Judged, Taken.request_in}
 use Rattle.filter_read.specs.declared.value.Judged.TheVariants as judged
 use Rattle.filter.specs.{declared.request.Request.Request, Request.octets_of}

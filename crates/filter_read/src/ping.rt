@@ -19,7 +19,7 @@ use filter_gather::seen::{
 };
 
 // What the answer goes by: the clauses as stretches of a lent source, AAC and version as numbers.
-#[derive(Drop)]
+#[derive(Clone, Copy)]
 pub struct RawPing {
     pub dns_domain: Clause,
     pub user: Clause,

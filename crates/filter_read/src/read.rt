@@ -8,7 +8,7 @@ use filter::request::Request;
 use filter_gather::seen::{SEEN_COUNT, request_seen};
 
 // What taking a filter apart gives: 0 with the request, or 5 to 8.
-#[derive(Drop)]
+#[derive(Clone, Copy)]
 pub enum Taken {
     Request(Request),
     Refused(Refusal),

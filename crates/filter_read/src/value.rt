@@ -13,7 +13,7 @@ use octets::number::u32_at;
 use octets::part::part;
 
 // What judging a request's values gives: the version asked for, or 9.
-#[derive(Drop)]
+#[derive(Clone, Copy)]
 pub enum Judged {
     Version(u32),
     Refused(Refusal),

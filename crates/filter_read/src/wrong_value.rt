@@ -4,7 +4,7 @@ ghost use Rattle.filter_read.specs.Internal.WrongValue.{wrong_number, wrong_user
 
 use filter::request::Clause;
 use octets::part::part;
-use unicode::user_name::is_user_name;
+use unicode_text::user_name::is_user_name;
 
 // The octets of NtVer and of AAC.
 const NUMBER_WIDTH: usize = 4;

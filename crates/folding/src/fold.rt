@@ -1,7 +1,7 @@
 // Unicode's simple case folding by its table; code points past it stand for themselves.
 ghost use Rattle.std.specs.Prelude.{◌≡◌, ◌<◌};
 ghost use Rattle.octets.specs.Fold.{fold_table_lem, fold_point};
-ghost use Rattle.unicode.specs.Internal.Point.{point_limit};
+ghost use Rattle.unicode_text.specs.Internal.Point.{point_limit};
 
 // The code points below have an entry each.
 pub const FOLD_END: usize = 0x530;

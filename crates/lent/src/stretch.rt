@@ -5,13 +5,13 @@ ghost use Rattle.lent.specs.Internal.Stretch.{octets_at};
 use octets::part::part;
 
 // Where a stretch lies: in the table image, or in the octets that the ping came in.
-#[derive(Drop)]
+#[derive(Clone, Copy)]
 pub enum Lender {
     Table,
     Request,
 }
 
-#[derive(Drop)]
+#[derive(Clone, Copy)]
 pub struct Stretch {
     pub lender: Lender,
     pub start: usize,

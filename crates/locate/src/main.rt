@@ -2,6 +2,8 @@
 // locate TABLE CLIENT --filter HEX: the same with the octets of a filter.
 // locate TABLE CLIENT --mailslot WORD=VALUE...: the same with a mailslot message of these words.
 // locate TABLE CLIENT --mailslot HEX: the same with the octets of a mailslot message.
+#![tactic(auto)]
+
 mod asked;
 mod filter_asked;
 mod message_asked;

@@ -1,4 +1,6 @@
 // The locator: document 01, "Answer numbers" and "Choosing the answer".
+#![tactic(auto)]
+
 ghost use Rattle.std.specs.Prelude.{◌≡◌};
 ghost use Rattle.locator.specs.Answer.{answer_number};
 
@@ -11,7 +13,7 @@ pub mod ping;
 pub mod user;
 
 // The answer to a ping: its values are those of specs/Answer.antt.
-#[derive(Drop)]
+#[derive(Clone, Copy)]
 pub enum Answer {
     Answered {
         length: usize,

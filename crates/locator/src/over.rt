@@ -2,7 +2,7 @@
 ghost use Rattle.std.specs.Prelude.{◌≡◌, false, not, ◌+◌, ◌≤◌, length};
 ghost use Rattle.octets.specs.Buffer.{over};
 ghost use Rattle.octets.specs.Lists.{holds, cut};
-ghost use Rattle.unicode.specs.UserName.{is_user_name};
+ghost use Rattle.unicode_text.specs.UserName.{is_user_name};
 ghost use Rattle.filter.specs.Request.{octets_of};
 ghost use Rattle.filter_read.specs.Internal.RawPing.{ping_at};
 ghost use Rattle.table.specs.Context.{context_of, context_format};

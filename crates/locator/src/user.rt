@@ -2,7 +2,7 @@
 ghost use Rattle.std.specs.Prelude.{◌≡◌, false, not, ◌&&◌, ◌≤◌, eqb, length};
 ghost use Rattle.octets.specs.Label.{labels};
 ghost use Rattle.octets.specs.Lists.{any, holds};
-ghost use Rattle.unicode.specs.UserName.{is_user_name};
+ghost use Rattle.unicode_text.specs.UserName.{is_user_name};
 ghost use Rattle.filter.specs.Request.{octets_of};
 ghost use Rattle.locator.specs.Answer.{is_ex};
 

@@ -7,7 +7,7 @@ use Rattle.octets.specs.{Lists.all, Lists.holds, NameRule.sized, NameRule.withou
 use Rattle.reader.specs.{declared.field.Stretch.Stretch, Reader.read_constant, Reader.read_number, Reader.read_tokens, Text.read_text}
 use Rattle.reader.specs.Field.{Read, stretch_of, read_octets, read_stretch}
 use Rattle.reply.specs.Reply.{u16, u32, ending}
-use Rattle.unicode.specs.{UserName.is_user_name, Utf16.points_of16, Utf16.utf8_from16}
+use Rattle.unicode_text.specs.{UserName.is_user_name, Utf16.points_of16, Utf16.utf8_from16}
 use Rattle.mailslot.specs.declared.message.Message.{Message}
 
 -- ---- what a message must be

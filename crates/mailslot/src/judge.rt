@@ -9,7 +9,7 @@ use crate::text::text_run;
 use octets::number::wide;
 use octets::part::part;
 use reader::field::Stretch;
-use unicode::utf8::octet_at;
+use unicode_text::utf8::octet_at;
 
 pub const MAILSLOT_NAME_MOST: usize = 64;
 

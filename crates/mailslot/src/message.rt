@@ -10,7 +10,7 @@ pub const MESSAGE_MOST: usize = 316;
 
 // The texts are stretches of the message, or of a source that one is written from: computer and user in UTF-16LE, without the zero unit
 // that ends them, the mailslot's name without its zero octet, and the SID, of no octets where there is none.
-#[derive(Drop)]
+#[derive(Clone, Copy)]
 pub struct Message {
     pub repeat: u16,
     pub computer: Stretch,
@@ -22,7 +22,7 @@ pub struct Message {
 }
 
 // The message, or 41.
-#[derive(Drop)]
+#[derive(Clone, Copy)]
 pub enum MessageRead {
     Read(Message),
     Refused(Refusal),

@@ -5,7 +5,7 @@ use Rattle.answers.specs.Try.{Try, good, ◌>>=◌}
 use Rattle.filter_read.specs.Value.{Ping}
 use Rattle.mailslot.specs.{declared.message.Message.Message, Message.message_in}
 use Rattle.reader.specs.Field.{stretch_of}
-use Rattle.unicode.specs.Utf16.{utf8_from16}
+use Rattle.unicode_text.specs.Utf16.{utf8_from16}
 
 -- unlike in a filter, an empty user is no user; and a SID of size 0 is none
 abbrev pub unless_empty : List ℕ → Option (List ℕ)

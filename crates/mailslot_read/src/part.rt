@@ -16,7 +16,7 @@ use mailslot::padding::sid_padding;
 use mailslot::text::text_run;
 use octets::number::{u16_at, u32_at};
 use reader::field::Stretch;
-use unicode::utf8::octet_at;
+use unicode_text::utf8::octet_at;
 
 // The texts stand behind the opcode and the repeat count.
 pub const TEXTS_AT: usize = 4;

@@ -10,14 +10,14 @@ use octets::name_rule::DOT;
 pub const NAMES_MOST: usize = 9;
 
 // What ends a name: a zero octet, or a pointer to an offset.
-#[derive(Drop)]
+#[derive(Clone, Copy)]
 pub enum Ending {
     Zero,
     Pointer(usize),
 }
 
 // A name as it will be written: its text, its offset in the reply, how many octets of its labels are written out, and what ends it.
-#[derive(Drop)]
+#[derive(Clone, Copy)]
 pub struct PlannedName {
     pub text: Stretch,
     pub offset: usize,

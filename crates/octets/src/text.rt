@@ -7,7 +7,7 @@ ghost use Rattle.octets.specs.NameRule.{printable, without};
 ghost use Rattle.octets.specs.Text.{same, same_folded, all_zero};
 
 // A class of octets that a text may be made of.
-#[derive(Drop)]
+#[derive(Clone, Copy)]
 pub enum Class {
     Zero,
     Printable,

@@ -3,7 +3,7 @@ use Rattle.std.specs.Prelude.{Bool, true, false, cond, List, ℕ, zero, suc, ◌
 use Rattle.answers.specs.declared.Refusal.TheVariants.{ReplyCut, ReplyText}
 use Rattle.answers.specs.Try.{Try, refused, good, ◌>>=◌}
 use Rattle.octets.specs.Number.{little}
-use Rattle.unicode.specs.Utf16.{is_high, is_low}
+use Rattle.unicode_text.specs.Utf16.{is_high, is_low}
 use Rattle.reader.specs.{declared.field.Stretch.Stretch, declared.text.Unit16.Unit16, declared.text.Turn.Turn, Field.Read, Field.read_octets}
 use Rattle.reader.specs.declared.text.Unit16.TheVariants.{Ends, Plain, High, Low}
 use Rattle.reader.specs.declared.text.Turn.TheVariants.{Stop, Go, Wrong}

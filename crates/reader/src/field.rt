@@ -16,7 +16,7 @@ use octets::part::part;
 use octets::text::same_octets;
 
 // A stretch of the reply: where it starts, and how many octets it has.
-#[derive(Drop)]
+#[derive(Clone, Copy)]
 pub struct Stretch {
     pub start: usize,
     pub len: usize,

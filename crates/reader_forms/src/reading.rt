@@ -6,7 +6,7 @@ use answers::{Refusal, number_of};
 use reader::field::Stretch;
 use reader_names::NameAt;
 
-#[derive(Drop)]
+#[derive(Clone, Copy)]
 pub struct Nt40Fields {
     pub opcode: u16,
     pub server: Stretch,
@@ -15,7 +15,7 @@ pub struct Nt40Fields {
     pub version: u32,
 }
 
-#[derive(Drop)]
+#[derive(Clone, Copy)]
 pub struct ResponseFields {
     pub opcode: u16,
     pub server: Stretch,
@@ -31,20 +31,20 @@ pub struct ResponseFields {
 }
 
 // The server's address, where v asked for it.
-#[derive(Drop)]
+#[derive(Clone, Copy)]
 pub enum Address {
     Absent,
     At(Stretch),
 }
 
 // Name 8, where it is present.
-#[derive(Drop)]
+#[derive(Clone, Copy)]
 pub enum NextSite {
     Absent,
     Name(NameAt),
 }
 
-#[derive(Drop)]
+#[derive(Clone, Copy)]
 pub struct ExFields {
     pub opcode: u16,
     pub flags: u32,
@@ -63,7 +63,7 @@ pub struct ExFields {
 }
 
 // The fields of a reply in its form.
-#[derive(Drop)]
+#[derive(Clone, Copy)]
 pub enum Fields {
     Nt40(Nt40Fields),
     Response(ResponseFields),
@@ -71,7 +71,7 @@ pub enum Fields {
 }
 
 // A reply that was read, with its length, or a refusal, which has neither length nor fields.
-#[derive(Drop)]
+#[derive(Clone, Copy)]
 pub enum Reading {
     Read { length: usize, fields: Fields },
     Refused(Refusal),

@@ -1,4 +1,6 @@
 // The texts of names of a received reply: document 01, "Reading a reply".
+#![tactic(auto)]
+
 ghost use Rattle.std.specs.Prelude.{◌≡◌};
 ghost use Rattle.reader_text.specs.Text.{text_number, text_length};
 
@@ -12,7 +14,7 @@ pub mod text;
 pub const TEXT_MOST: usize = WRITTEN_MOST - 2;
 
 // How many octets a name's text has, or why there is no name.
-#[derive(Drop)]
+#[derive(Clone, Copy)]
 pub enum TextLength {
     Octets(usize),
     Refused(Refusal),

@@ -6,7 +6,7 @@ use Rattle.answers.specs.declared.Form.TheVariants.{Nt40, Response, Ex}
 use Rattle.answers.specs.Wire.{nt40_version, response_version, ex_version, ex_version_with_next_site, Sbz, NullGuid, LmNtToken, Lm20Token, DcSockAddrSize, sin_family, sin_zero}
 use Rattle.names.specs.Name.{Writing, write_name, write_names}
 use Rattle.octets.specs.Number.{little_octets}
-use Rattle.unicode.specs.Utf16.{utf16}
+use Rattle.unicode_text.specs.Utf16.{utf16}
 
 -- what a reply says, in any form; a text that is absent has no octets. RESPONSE always writes the address, EX with `with_address_lem`; EX alone writes sites
 pub record Reply : Type 0 where

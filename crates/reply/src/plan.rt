@@ -2,7 +2,7 @@
 use names::plan::{NAMES_MOST, PlannedName};
 
 // The names at their places, as many as the form writes.
-#[derive(Drop)]
+#[derive(Clone, Copy)]
 pub struct Plan {
     pub names: [PlannedName; NAMES_MOST],
     pub length: usize,

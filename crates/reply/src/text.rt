@@ -8,7 +8,7 @@ ghost use Rattle.reply.specs.Internal.RawReply.{slot_text, Short};
 use crate::raw::RawReply;
 use lent::put::put_u16_at;
 use lent::stretch::slot_text;
-use unicode::utf16::put_utf16;
+use unicode_text::utf16::put_utf16;
 
 // A text, ended by a zero unit.
 fn put_text(out: &mut [u8], s: &[u8]) -> usize

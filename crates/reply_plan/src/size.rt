@@ -6,7 +6,7 @@ ghost use Rattle.reply.specs.Internal.RawReply.{no_stretch, slot_text, reply_in,
 
 use lent::stretch::{Stretch, slot_text};
 use reply::raw::{CONTEXT_NETBIOS, RawReply, SERVER_NETBIOS, SLOTS, USER};
-use unicode::utf16::utf16_size;
+use unicode_text::utf16::utf16_size;
 
 // The size, the family and the zeros of an address.
 const ADDRESS_FIXED: usize = 13;

@@ -16,7 +16,7 @@ use Rattle.reply.specs.Reply.{u16, u32}
 use Rattle.table.specs.{Address.address_number, Bits.role_nt4_wanted, declared.Caller.Caller}
 use Rattle.table_check.specs.Check.{check_of_lem}
 use Rattle.table_find.specs.Find.{in_subnet}
-use Rattle.unicode.specs.Utf16.{utf16}
+use Rattle.unicode_text.specs.Utf16.{utf16}
 use Rattle.locator.specs.Answer.{Outcome, answer_to, answer_as, octets_written, answer_number, answer_length, answer_context, answer_form}
 
 -- the base table

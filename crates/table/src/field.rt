@@ -8,7 +8,7 @@ use octets::number::wide;
 use octets::part::part;
 
 // Where a text's length octet stands, and how many octets of room are after that.
-#[derive(Drop)]
+#[derive(Clone, Copy)]
 pub struct TextField {
     pub offset: usize,
     pub room: usize,

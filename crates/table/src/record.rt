@@ -6,7 +6,7 @@ ghost use Rattle.table.specs.Internal.RecordAt.{record_at};
 use crate::{account, context, site, subnet};
 use octets::part::part;
 
-#[derive(Drop)]
+#[derive(Clone, Copy)]
 pub enum RecordKind {
     Context,
     Account,

@@ -27,7 +27,7 @@ pub const NAME: TextField = TextField {
 pub const NEXT: usize = 66;
 
 // A site that is referred to, or none.
-#[derive(Drop)]
+#[derive(Clone, Copy)]
 pub enum SiteReference {
     To(SiteNumber),
     Nothing,

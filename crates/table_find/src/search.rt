@@ -13,14 +13,14 @@ use table::record::{RecordFormat, RecordKind, format_of};
 use table::{ContextNumber, SiteNumber, context};
 
 // The offset of a record in the image, or nothing.
-#[derive(Drop)]
+#[derive(Clone, Copy)]
 pub enum Found {
     At(usize),
     Nothing,
 }
 
 // What a context is looked up by. A GUID, a name or a SID stands in the octets asked for.
-#[derive(Drop)]
+#[derive(Clone, Copy)]
 pub enum ContextKey {
     Number(ContextNumber),
     Guid,
@@ -28,7 +28,7 @@ pub enum ContextKey {
     Sid,
 }
 
-#[derive(Drop)]
+#[derive(Clone, Copy)]
 pub enum SiteKey {
     Any,
     Number(SiteNumber),
@@ -36,7 +36,7 @@ pub enum SiteKey {
 }
 
 // What a record is looked up by. An account's name stands in the octets asked for.
-#[derive(Drop)]
+#[derive(Clone, Copy)]
 pub enum Key {
     Context(ContextKey),
     Account(ContextNumber),

@@ -3,7 +3,7 @@ use Rattle.std.specs.Prelude.{Bool, true, false, cond, not, ◌&&◌, ◌||◌, 
 use Rattle.std.proofs.Math.Option.{Option, none, some}
 use Rattle.octets.specs.{Lists.all, Lists.any, Sid.is_sid, Text.all_zero}
 use Rattle.octets.specs.NameRule.{is_dns_name, is_netbios_name, is_site_name}
-use Rattle.unicode.specs.UserName.{is_account_name}
+use Rattle.unicode_text.specs.UserName.{is_account_name}
 use Rattle.table.specs.{declared.BlockPlace.BlockPlace, declared.record.RecordKind.RecordKind, Countings.same_place, Countings.next_place, Bits.roles_bound}
 use Rattle.table.specs.Bits.{state_bound}
 use Rattle.table.specs.declared.record.RecordKind.TheVariants.{Context, Account, Site, Subnet}

@@ -10,7 +10,7 @@ use octets::number::wide;
 use octets::part::part;
 use octets::text::all_zero;
 use table::field::{TextField, octet_in, text_in};
-use unicode::user_name::is_account_name;
+use unicode_text::user_name::is_account_name;
 
 // Whether the octets from one offset up to another are zero; where the end is not past the first there are none.
 pub fn is_zero_room(s: &[u8], from: usize, end: usize) -> bool

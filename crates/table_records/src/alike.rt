@@ -15,7 +15,7 @@ use table::{account, context, subnet};
 use table_address::address::address_number;
 
 // Which records are compared.
-#[derive(Drop)]
+#[derive(Clone, Copy)]
 pub enum Likeness {
     Contexts,
     Accounts,

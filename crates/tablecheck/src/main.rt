@@ -1,4 +1,6 @@
 // tablecheck TABLE: judges a table image, and names the first wrong block where single blocks are judged.
+#![tactic(auto)]
+
 mod first;
 
 use crate::first::{BlockRule, first_wrong};

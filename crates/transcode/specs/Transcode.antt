@@ -2,7 +2,7 @@
 use Rattle.std.specs.Prelude.{◌≡◌, Bool, true, List, ℕ, ◌*◌, ◌≤◌, ltb, length}
 use Rattle.std.proofs.Math.Option.{some}
 use Rattle.octets.specs.{Lists.all, Lists.holds, NameRule.without}
-use Rattle.unicode.specs.{Utf8.is_utf8, Utf16.utf16, Utf16.points_of16, Utf16.utf8_from16}
+use Rattle.unicode_text.specs.{Utf8.is_utf8, Utf16.utf16, Utf16.points_of16, Utf16.utf8_from16}
 
 -- lists in statements are of any numbers; these are octets
 abbrev pub are_octets : List ℕ → Bool

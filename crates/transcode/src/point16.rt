@@ -3,7 +3,7 @@
 ghost use Rattle.transcode.specs.Internal.Point16.{PointRead16};
 
 use octets::number::u16_at;
-use unicode::utf8::PointAt;
+use unicode_text::utf8::PointAt;
 
 const FIRST_HIGH: u32 = 0xD800;
 

@@ -1,12 +1,12 @@
 // A UTF-16LE text as UTF-8: its size, and its octets.
 ghost use Rattle.std.specs.Prelude.{◌≡◌, ◌≤◌, ◌<◌, length};
 ghost use Rattle.octets.specs.Buffer.{over};
-ghost use Rattle.unicode.specs.Utf8.{utf8_of};
-ghost use Rattle.unicode.specs.Internal.Point.{point_limit};
+ghost use Rattle.unicode_text.specs.Utf8.{utf8_of};
+ghost use Rattle.unicode_text.specs.Internal.Point.{point_limit};
 ghost use Rattle.transcode.specs.Internal.Text8.{utf8_text, SizeTold};
 
 use crate::point16::point16_at;
-use unicode::utf8::PointAt;
+use unicode_text::utf8::PointAt;
 
 // How many octets a text takes, or that it is none.
 #[derive(Drop)]

@@ -1,4 +1,6 @@
 // Answers vector lines: standard input is read line by line, and each line's answer is written to standard output.
+#![tactic(auto)]
+
 mod answer;
 mod filter_lines;
 mod input;

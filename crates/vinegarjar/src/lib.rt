@@ -1,4 +1,6 @@
 // What C and Rust link: the public calls, exported. Each is total: it asks nothing of what it is passed. A struct that is lent is the array of its members.
+#![tactic(auto)]
+
 ghost use Rattle.c_promises.specs.Calls.{ExportedJudge, ExportedCheck, ExportedTakeApart, ExportedJudgeValues, ExportedWriteFilter, ExportedAnswerPing, ExportedReadMailslot, ExportedWriteMailslot, ExportedAnswerMailslot, ExportedRead, ExportedNameText};
 
 use answers::Form;

@@ -1,5 +1,7 @@
 // The exported calls that ask something of their caller: that the image passed 1 to 4. A library of its own, which only a table that was made by judging links:
 // include/locator_table.h for C, `Table` of bindings/rust.
+#![tactic(auto)]
+
 ghost use Rattle.c_promises.specs.Calls.{ExportedAnswerPing, ExportedAnswerMailslot};
 ghost use Rattle.table_whole.specs.Judgement.{Accepted};
 

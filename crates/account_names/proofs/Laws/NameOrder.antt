@@ -15,10 +15,10 @@ use Rattle.octets.specs.Lists.{is_some, holds}
 use Rattle.octets.specs.Text.{same, lower}
 use Rattle.octets.proofs.Laws.Lists.{none_not_some, true_not_false}
 use Rattle.octets.proofs.Laws.Text.{same_sym, same_equal}
-use Rattle.unicode.specs.Utf8.{points, is_utf8}
-use Rattle.unicode.specs.declared.utf8.PointAt.TheVariants.{Bad, Point}
-use Rattle.unicode.specs.Internal.Point.{point_limit, readable_from, PointRead, CodeRead, size_of}
-use Rattle.unicode.proofs.Laws.Point.{lead-one, end-points, some_more, readable-points}
+use Rattle.unicode_text.specs.Utf8.{points, is_utf8}
+use Rattle.unicode_text.specs.declared.utf8.PointAt.TheVariants.{Bad, Point}
+use Rattle.unicode_text.specs.Internal.Point.{point_limit, readable_from, PointRead, CodeRead, size_of}
+use Rattle.unicode_text.proofs.Laws.Point.{lead-one, end-points, some_more, readable-points}
 use Rattle.account_names.specs.declared.compare.Ordering.{Ordering}
 use Rattle.account_names.specs.declared.compare.Ordering.TheVariants.{Less, Equal, Greater}
 use Rattle.account_names.specs.AccountName.{folded_text, same_account_name}

@@ -1,8 +1,8 @@
 -- The order of account names, by their folded code points.
 use Rattle.std.specs.Prelude.{◌≡◌, Bool, true, false, ◌&&◌, List, [], ◌∷◌, ℕ, zero, suc, ◌+◌, ◌≤◌, ◌<◌, leb, length, drop}
 use Rattle.octets.specs.Fold.{fold_points}
-use Rattle.unicode.specs.Utf8.{is_utf8}
-use Rattle.unicode.specs.Internal.Point.{readable}
+use Rattle.unicode_text.specs.Utf8.{is_utf8}
+use Rattle.unicode_text.specs.Internal.Point.{readable}
 use Rattle.account_names.specs.declared.compare.Ordering.{Ordering}
 use Rattle.account_names.specs.declared.compare.Ordering.TheVariants.{Less, Equal, Greater}
 use Rattle.account_names.specs.Internal.Ordering.{compare}

@@ -37,9 +37,9 @@ use Rattle.table_lookup.specs.Lookup.{client_site_lem}
 use Rattle.table_whole.specs.Judgement.{table_in}
 use Rattle.transcode.specs.Transcode.{are_octets}
 use Rattle.transcode.proofs.Laws.Texts.{to_8}
-use Rattle.unicode.specs.Utf8.{points_from, is_utf8}
-use Rattle.unicode.specs.Utf16.{utf16}
-use Rattle.unicode.proofs.Laws.OneText.{one-text}
+use Rattle.unicode_text.specs.Utf8.{points_from, is_utf8}
+use Rattle.unicode_text.specs.Utf16.{utf16}
+use Rattle.unicode_text.proofs.Laws.OneText.{one-text}
 use Rattle.demands.specs.Derivation.{GivesGoodPings, GoodPing}
 use Rattle.demands.specs.Mailslot.{WaysIn, Says, SaidBy, AsksAlike, AsFilter, NoApplicationFlag, UserUnits, UserAsSent}
 use Rattle.demands.specs.ReplyLaw.{GivenBack}

@@ -16,7 +16,7 @@ use Rattle.names.proofs.Laws.Name.{Row, stops, goes}
 use Rattle.names.proofs.Laws.Walk.{walk_inside}
 use Rattle.octets.specs.Lists.{cut}
 use Rattle.octets.specs.Number.{little, u16_at}
-use Rattle.unicode.specs.Utf16.{is_high, is_low}
+use Rattle.unicode_text.specs.Utf16.{is_high, is_low}
 use Rattle.reader.specs.declared.field.Stretch.{Stretch}
 use Rattle.reader.specs.Field.{Read, read_octets}
 use Rattle.reader.specs.declared.text.Unit16.TheVariants.{Ends, Plain, High, Low}

@@ -16,9 +16,9 @@ use Rattle.reader.proofs.Laws.Field.{Left, left-next}
 use Rattle.reader.proofs.Laws.Reader as reading
 use Rattle.reader.proofs.Laws.Reader.{read-nt40, texts-given, address_given, last_given}
 use Rattle.reply.specs.Reply.{Reply, nt40_octets, response_octets, ex_octets, octets_in}
-use Rattle.unicode.specs.Utf16.{utf16}
-use Rattle.unicode.proofs.Laws.OneText.{one-text}
-use Rattle.unicode.proofs.Laws.Utf16.{Spoken}
+use Rattle.unicode_text.specs.Utf16.{utf16}
+use Rattle.unicode_text.proofs.Laws.OneText.{one-text}
+use Rattle.unicode_text.proofs.Laws.Utf16.{Spoken}
 use Rattle.demands.specs.Derivation.{ReplyIs}
 use Rattle.reader.specs.Field.{stretch_of}
 use Rattle.demands.specs.ReplyLaw.{TextBack, GivenBack, ReadBack, ReplyLawOver, ReplyLaw, address_written, text_of, version_written}

@@ -15,8 +15,8 @@ use Rattle.answers.specs.Try.{good}
 use Rattle.answers.specs.Wire.{netlogon_nt_version_5ex_with_ip, netlogon_nt_version_with_closest_site, opcodes_of}
 use Rattle.answers.proofs.Laws.Try.{refused_if-good, good-same, good_then, refused_not_good}
 use Rattle.filter_read.specs.Value.{Ping}
-use Rattle.unicode.specs.UserName.{is_user_name}
-use Rattle.unicode.proofs.Laws.UserName.{user-name-short, user-name_spoken}
+use Rattle.unicode_text.specs.UserName.{is_user_name}
+use Rattle.unicode_text.proofs.Laws.UserName.{user-name-short, user-name_spoken}
 use Rattle.locator.specs.Answer.{Outcome, wrong_user, reply_to}
 use Rattle.choose.specs.Choose.{next_site_lem, reply_for, form_of}
 use Rattle.choose.specs.Judge.{context_for, context_used, or_whole, context_in}
@@ -25,10 +25,10 @@ use Rattle.octets.specs.Label.{labels}
 use Rattle.octets.specs.Lists.{any, first, holds, is_some}
 use Rattle.octets.proofs.Laws.Lists.{Every, none_not_some, every_none, found, both_left}
 use Rattle.octets.proofs.Laws.NameRule.{Writable, empty_writable, short_writable}
-use Rattle.unicode.proofs.Laws.Utf16.{empty_spoken}
+use Rattle.unicode_text.proofs.Laws.Utf16.{empty_spoken}
 use Rattle.octets.specs.Number.{has}
 use Rattle.octets.specs.Sid.{is_sid}
-use Rattle.unicode.proofs.Laws.Utf16.{Spoken}
+use Rattle.unicode_text.proofs.Laws.Utf16.{Spoken}
 use Rattle.reader.proofs.Laws.Reader.{GoodOpcode}
 use Rattle.reply.specs.Reply.{Reply, octets_in}
 use Rattle.table.specs.Bits.{role_level2008}

@@ -22,7 +22,7 @@ use Rattle.octets.specs.Lists.{holds}
 use Rattle.octets.specs.Number.{has, little}
 use Rattle.table.specs.Bits.{role_nt4_wanted}
 use Rattle.table.specs.Server.{Server}
-use Rattle.unicode.specs.UserName.{is_user_name}
+use Rattle.unicode_text.specs.UserName.{is_user_name}
 use Rattle.table_whole.specs.Judgement.{table_in}
 use Rattle.demands.specs.WithoutVersion.{version_one, WithoutVersion, WithoutVersionNt40}
 use Rattle.demands.proofs.Laws.Derivation.{derived}

@@ -9,7 +9,7 @@ use Rattle.answers.specs.Try.{Try, refused, good, number_of, value_of}
 use Rattle.answers.proofs.Laws.Try.{refused_if-good, good-same, good_then}
 use Rattle.octets.specs.Lists.{holds}
 use Rattle.octets.proofs.Laws.Lists.{neither_right}
-use Rattle.unicode.specs.UserName.{is_user_name}
+use Rattle.unicode_text.specs.UserName.{is_user_name}
 use Rattle.filter.specs.declared.request.Request.{Request}
 use Rattle.filter.specs.Request.{octets_of}
 use Rattle.filter_read.specs.declared.value.Judged.{Judged}

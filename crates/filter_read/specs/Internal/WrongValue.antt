@@ -1,7 +1,7 @@
 -- 9, clause by clause.
 use Rattle.std.specs.Prelude.{Bool, not, List, ℕ}
 use Rattle.octets.specs.Lists.{holds}
-use Rattle.unicode.specs.UserName.{is_user_name}
+use Rattle.unicode_text.specs.UserName.{is_user_name}
 use Rattle.filter.specs.declared.request.Clause.{Clause}
 use Rattle.filter.specs.Request.{octets_of}
 use Rattle.filter_read.specs.Value.{is_number}

@@ -14,9 +14,9 @@ use Rattle.octets.specs.Number.{little, u16_at}
 use Rattle.octets.proofs.Laws.Lists.{cut-cons, cond_has}
 use Rattle.octets.proofs.Laws.Number.{u16-octets}
 use Rattle.octets.proofs.Laws.Text.{within_range, without_range}
-use Rattle.unicode.specs.Utf8.{Partial, Decoder, between, partway, on_decoded, utf8_of}
-use Rattle.unicode.specs.Utf16.{lead16, follow16, decode16, points_from16, points_of16}
-use Rattle.unicode.proofs.Laws.OneText.{after_high_lem, lead_plain, lead_high, follow-low}
+use Rattle.unicode_text.specs.Utf8.{Partial, Decoder, between, partway, on_decoded, utf8_of}
+use Rattle.unicode_text.specs.Utf16.{lead16, follow16, decode16, points_from16, points_of16}
+use Rattle.unicode_text.proofs.Laws.OneText.{after_high_lem, lead_plain, lead_high, follow-low}
 use Rattle.mailslot.specs.Internal.Runs.{user_left, Stops, Character, CharacterSize}
 
 -- ---- by the code points that are left

@@ -16,9 +16,9 @@ use Rattle.octets.specs.{Lists.all, Lists.cut, Lists.holds, NameRule.without}
 use Rattle.octets.specs.Number.{little, u16_at}
 use Rattle.octets.proofs.Laws.Lists.{both_left, both_right, cut-length}
 use Rattle.octets.proofs.Laws.Text.{within_low}
-use Rattle.unicode.specs.Utf8.{Decoder, between, partway, on_decoded}
-use Rattle.unicode.specs.Utf16.{is_high, is_low, lead16, follow16, decode16, points_from16}
-use Rattle.unicode.proofs.Laws.OneText.{after_high_lem}
+use Rattle.unicode_text.specs.Utf8.{Decoder, between, partway, on_decoded}
+use Rattle.unicode_text.specs.Utf16.{is_high, is_low, lead16, follow16, decode16, points_from16}
+use Rattle.unicode_text.proofs.Laws.OneText.{after_high_lem}
 use Rattle.reader.specs.Field.{Read, stretch_of, read_octets, read_stretch}
 use Rattle.reader.specs.declared.field.Stretch.{Stretch}
 use Rattle.reader.specs.declared.text.Unit16.TheVariants.{Ends, Plain, High, Low}

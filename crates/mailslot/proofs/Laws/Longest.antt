@@ -14,7 +14,7 @@ use Rattle.octets.proofs.Laws.Lists.{both_left, cut-length, true_not_false}
 use Rattle.octets.proofs.Laws.Text.{within-high}
 use Rattle.reader.specs.Field.{stretch_of}
 use Rattle.reply.specs.Reply.{ending}
-use Rattle.unicode.specs.{UserName.is_user_name, Utf8.is_utf8, Utf16.utf8_from16}
+use Rattle.unicode_text.specs.{UserName.is_user_name, Utf8.is_utf8, Utf16.utf8_from16}
 use Rattle.transcode.proofs.Laws.Length.{one_a_unit}
 use Rattle.mailslot.specs.declared.message.Message.{Message}
 use Rattle.mailslot.specs.Message.{is_message_user, is_mailslot_name, is_message_sid, padding, message_head, padded_sid, message_octets}

@@ -14,7 +14,7 @@ use Rattle.octets.specs.NameRule.{user_name_most}
 use Rattle.octets.specs.Number.{u16_at}
 use Rattle.octets.proofs.Laws.Lists.{true_not_false}
 use Rattle.transcode.specs.Transcode.{are_octets}
-use Rattle.unicode.specs.Utf16.{points_from16}
+use Rattle.unicode_text.specs.Utf16.{points_from16}
 use Rattle.mailslot.specs.Message.{is_message_user}
 use Rattle.mailslot.specs.Internal.Runs.{user_left, Stops, Character, Running, TextRun}
 use Rattle.mailslot.specs.Internal.Shape.{EndsText}

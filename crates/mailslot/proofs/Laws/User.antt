@@ -17,11 +17,11 @@ use Rattle.octets.proofs.Laws.Lists.{Every, every_all, every_take, cut-length, b
 use Rattle.reader.specs.Text.{read_text}
 use Rattle.reader.proofs.Laws.Field.{Left}
 use Rattle.reader.proofs.Laws.Text.{text_here}
-use Rattle.unicode.specs.Utf8.{points, is_utf8, utf8_of}
-use Rattle.unicode.specs.Utf16.{points_octets, points_of16, utf8_from16}
-use Rattle.unicode.specs.UserName.{is_user_name}
-use Rattle.unicode.proofs.Laws.Codec.{Code}
-use Rattle.unicode.proofs.Laws.Utf8.{Scalar}
+use Rattle.unicode_text.specs.Utf8.{points, is_utf8, utf8_of}
+use Rattle.unicode_text.specs.Utf16.{points_octets, points_of16, utf8_from16}
+use Rattle.unicode_text.specs.UserName.{is_user_name}
+use Rattle.unicode_text.proofs.Laws.Codec.{Code}
+use Rattle.unicode_text.proofs.Laws.Utf8.{Scalar}
 use Rattle.transcode.specs.Transcode.{are_octets}
 use Rattle.transcode.proofs.Laws.Length.{three_each}
 use Rattle.transcode.proofs.Laws.Utf16Octets.{points16_comes}

@@ -3,7 +3,7 @@ use Rattle.std.specs.Prelude.{◌≡◌, Bool, true, false, cond, ◌&&◌, ℕ,
 use mathlib.Core.List.{List, flat_map}
 use Rattle.octets.specs.{Lists.all, Lists.cut, Lists.holds, NameRule.without, NameRule.user_name_most, Number.u16_at, Text.within}
 use Rattle.transcode.specs.Transcode.{are_octets}
-use Rattle.unicode.specs.{Utf8.utf8_of, Utf16.points_of16}
+use Rattle.unicode_text.specs.{Utf8.utf8_of, Utf16.points_of16}
 use Rattle.mailslot.specs.Message.{is_message_user}
 use Rattle.mailslot.specs.Internal.Shape.{EndsText}
 

@@ -19,7 +19,7 @@ use Rattle.lent.proofs.Laws.OverAt.{laid_over, laid_more, over_laid}
 use Rattle.octets.specs.{Buffer.over, Lists.cut, Lists.holds, NameRule.without, NameRule.user_name_most}
 use Rattle.octets.proofs.Laws.Lists.{both_left, true_not_false, cut-after}
 use Rattle.reader.specs.Field.{stretch_of}
-use Rattle.unicode.specs.{UserName.is_user_name, Utf8.is_utf8, Utf16.utf8_from16}
+use Rattle.unicode_text.specs.{UserName.is_user_name, Utf8.is_utf8, Utf16.utf8_from16}
 use Rattle.answers.specs.declared.Refusal.{Refusal}
 use Rattle.mailslot.specs.declared.message.Message.{Message}
 use Rattle.mailslot.specs.declared.message.MessageRead.TheVariants as read

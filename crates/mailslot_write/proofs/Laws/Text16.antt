@@ -12,8 +12,8 @@ use Rattle.answers.specs.Try.{good}
 use Rattle.octets.specs.{Lists.all, Lists.holds, NameRule.without, Number.little, Number.little_octets, Text.within}
 use Rattle.octets.proofs.Laws.Lists.{both_left, both_right, true_not_false, none_not_some}
 use Rattle.octets.proofs.Laws.Text.{within_low, within-high}
-use Rattle.unicode.specs.Utf8.{Partial, bad, point, opens, Decoder, between, partway, on_decoded}
-use Rattle.unicode.specs.Utf16.{is_high, is_low, lead16, follow16, decode16, points_from16, points_of16}
+use Rattle.unicode_text.specs.Utf8.{Partial, bad, point, opens, Decoder, between, partway, on_decoded}
+use Rattle.unicode_text.specs.Utf16.{is_high, is_low, lead16, follow16, decode16, points_from16, points_of16}
 use Rattle.reader.specs.declared.text.Turn.TheVariants.{Go}
 use Rattle.reader.specs.Text.{unit_of, turn, read_text_from, read_text}
 use Rattle.reader.proofs.Laws.Field.{Left, left-next, left-length}

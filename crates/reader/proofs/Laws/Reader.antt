@@ -18,8 +18,8 @@ use Rattle.octets.specs.Lists.{cut}
 use Rattle.octets.proofs.Laws.Lists.{Every}
 use Rattle.octets.specs.Number.{little_octets, has}
 use Rattle.octets.proofs.Laws.Number.{length-little, little-back}
-use Rattle.unicode.specs.Utf16.{utf16, points_octets}
-use Rattle.unicode.proofs.Laws.Utf16.{Spoken}
+use Rattle.unicode_text.specs.Utf16.{utf16, points_octets}
+use Rattle.unicode_text.proofs.Laws.Utf16.{Spoken}
 use Rattle.reader.proofs.Laws.Field.{Left, left-start, left_after, left-next, left-length, left_cut, left-same, octets_here, stretch_here, fixed_here}
 use Rattle.reader.specs.Name.{read_name}
 use Rattle.reader.proofs.Laws.Name.{name_here}

@@ -11,9 +11,9 @@ use Rattle.answers.specs.declared.Refusal.{Refusal}
 use Rattle.answers.specs.Try.{Try, refused, good, ◌>>=◌}
 use Rattle.octets.proofs.Laws.Lists.{Every}
 use Rattle.octets.specs.Number.{little, little_octets}
-use Rattle.unicode.proofs.Laws.Utf8.{Scalar}
-use Rattle.unicode.specs.Utf16.{high_unit, low_unit, point_octets, points_octets, is_high, is_low}
-use Rattle.unicode.proofs.Laws.Utf16.{one_unit, two-units}
+use Rattle.unicode_text.proofs.Laws.Utf8.{Scalar}
+use Rattle.unicode_text.specs.Utf16.{high_unit, low_unit, point_octets, points_octets, is_high, is_low}
+use Rattle.unicode_text.proofs.Laws.Utf16.{one_unit, two-units}
 use Rattle.reader.specs.Field.{Read, read_octets}
 use Rattle.reader.proofs.Laws.Field.{Left, octets_here, left_after, left-next, left-length}
 use Rattle.reader.specs.declared.field.Stretch.{Stretch}

@@ -6,7 +6,7 @@ use Prim.Native.Nat.{ℕ, ◌+◌}
 use native.Mathlib.Omega.{arith}
 use lib.ListN.{length, length-append}
 use Rattle.octets.proofs.Laws.Number.{length-little}
-use Rattle.unicode.specs.Utf16.{utf16}
+use Rattle.unicode_text.specs.Utf16.{utf16}
 use Rattle.reply.specs.Reply.{Reply, text16, ending, opening, nt40_octets, response_head, ex_head, address_if}
 
 pub text-length : (s : List ℕ) → length (text16 s) ≡ length (utf16 s) + 2

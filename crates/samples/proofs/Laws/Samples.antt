@@ -13,12 +13,12 @@ use Rattle.octets.specs.Fold.{fold_pairs, fold_from, fold_table_lem, fold_point,
 use Rattle.octets.specs.Label.{parts, labels, joined}
 use Rattle.octets.specs.Lists.{all, any, first, keep, unique, pieces}
 use Rattle.octets.specs.NameRule.{is_dns_name, is_plain_name}
-use Rattle.unicode.specs.UserName.{is_user_name, is_account_name}
+use Rattle.unicode_text.specs.UserName.{is_user_name, is_account_name}
 use Rattle.octets.specs.Number.{little, big, little_octets, big_octets, has}
 use Rattle.octets.specs.Sid.{is_sid}
 use Rattle.octets.specs.Text.{same, lower}
-use Rattle.unicode.specs.Utf16.{point_octets, utf16}
-use Rattle.unicode.specs.Utf8.{lead, follow, points_from, is_utf8}
+use Rattle.unicode_text.specs.Utf16.{point_octets, utf16}
+use Rattle.unicode_text.specs.Utf8.{lead, follow, points_from, is_utf8}
 use Rattle.reader.specs.Field.{read_octets, read_stretch, read_fixed}
 use Rattle.reader.specs.Name.{read_name_from, read_name}
 use Rattle.reader.specs.Reader.{read_opcode, read_number, read_names, read_tokens, read_address, has_next_site, read_last, read_ex}

@@ -23,8 +23,8 @@ use Rattle.octets.proofs.Laws.Lists.{Every, every_all, all_every, every_weaken, 
 use Rattle.octets.proofs.Laws.NameRule.{Writable}
 use Rattle.octets.proofs.Laws.Text.{within_low, within-high}
 use Rattle.reply.specs.Reply.{Reply, u32, text16, ending, opening, nt40_octets, response_head, response_names, response_octets, ex_head, ex_names, address_if, ex_last, ex_octets, octets_in}
-use Rattle.unicode.specs.Utf16.{utf16}
-use Rattle.unicode.specs.Utf8.{points_from}
+use Rattle.unicode_text.specs.Utf16.{utf16}
+use Rattle.unicode_text.specs.Utf8.{points_from}
 use Rattle.demands.specs.Derivation.{ReplyIs}
 use Rattle.demands.proofs.Laws.Derivation.{every_answer, every_reply}
 use Rattle.demands.proofs.Laws.Forms.Ex.{ex_plain}

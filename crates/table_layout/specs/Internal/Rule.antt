@@ -1,7 +1,7 @@
 -- The rules of text fields, each as a test of the text.
 use Rattle.std.specs.Prelude.{Bool, true, false, List, ℕ}
 use Rattle.octets.specs.NameRule.{is_dns_name, is_netbios_name, is_site_name}
-use Rattle.unicode.specs.UserName.{is_account_name}
+use Rattle.unicode_text.specs.UserName.{is_account_name}
 use Rattle.table_layout.specs.declared.field.Rule.{Rule}
 use Rattle.table_layout.specs.declared.field.Rule.TheVariants.{Dns, Netbios, NetbiosOrEmpty, Site, Account}
 use Rattle.table_layout.specs.Layout.{is_context_netbios}

@@ -15,10 +15,10 @@ use Rattle.octets.specs.Lists.{all, any, keep, holds, pieces}
 use Rattle.octets.proofs.Laws.Lists.{Every, every_all, every_map, every_flat, every_keep, both_left, both_right, other_right, cut-length, pieces_wide}
 use Rattle.octets.specs.NameRule.{dns_name_most, printable, is_dns_name, is_netbios_name, is_site_name}
 use Rattle.octets.proofs.Laws.NameRule.{Writable, dns_writable, netbios_writable, site_writable, empty_writable}
-use Rattle.unicode.proofs.Laws.Utf16.{netbios_spoken_lem, empty_spoken}
+use Rattle.unicode_text.proofs.Laws.Utf16.{netbios_spoken_lem, empty_spoken}
 use Rattle.octets.specs.Text.{all_zero, within}
 use Rattle.octets.proofs.Laws.Text.{within_low}
-use Rattle.unicode.proofs.Laws.Utf16.{Spoken}
+use Rattle.unicode_text.proofs.Laws.Utf16.{Spoken}
 use Rattle.table.specs.declared.BlockPlace.{BlockPlace}
 use Rattle.table.specs.declared.field.TextField.{TextField}
 use Rattle.table.specs.declared.record.RecordKind.{RecordKind}

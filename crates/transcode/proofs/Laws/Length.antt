@@ -9,10 +9,10 @@ use lib.ListN.{length, length-append}
 use borrow.Author.Tests.{ltb-true}
 use Rattle.octets.specs.{Number.little, Text.within}
 use Rattle.octets.proofs.Laws.Lists.{none_not_some, cond_has}
-use Rattle.unicode.specs.Utf8.{Decoded, bad, point, more, Decoder, between, partway, on_decoded, utf8_of}
-use Rattle.unicode.specs.Utf16.{is_high, is_low, point_octets, points_octets, lead16, follow16, decode16, points_from16, points_of16, utf8_from16}
-use Rattle.unicode.proofs.Laws.Utf8.{units}
-use Rattle.unicode.proofs.Laws.Utf16.{point-length}
+use Rattle.unicode_text.specs.Utf8.{Decoded, bad, point, more, Decoder, between, partway, on_decoded, utf8_of}
+use Rattle.unicode_text.specs.Utf16.{is_high, is_low, point_octets, points_octets, lead16, follow16, decode16, points_from16, points_of16, utf8_from16}
+use Rattle.unicode_text.proofs.Laws.Utf8.{units}
+use Rattle.unicode_text.proofs.Laws.Utf16.{point-length}
 
 -- of one code point
 abbrev Sizes : ℕ → List ℕ → Type 0

@@ -12,11 +12,11 @@ use borrow.Author.Tests.{leb-true, leb-false, ltb-false, le-ltb}
 use Rattle.octets.specs.Number.{little, little_octets, u16_at}
 use Rattle.octets.proofs.Laws.Lists.{neither_left, neither_right, other_right}
 use Rattle.octets.proofs.Laws.Text.{within_range, without_range}
-use Rattle.unicode.specs.declared.utf8.PointAt.TheVariants.{Bad, Point}
-use Rattle.unicode.specs.Utf8.{Partial, bad, Decoder, between, partway, on_decoded}
-use Rattle.unicode.specs.Utf16.{lead16, follow16, decode16, points_from16, points_of16}
-use Rattle.unicode.proofs.Laws.OneText.{after_high_lem, lead_plain, lead_high, follow-low}
-use Rattle.unicode.proofs.Laws.Utf16.{one_unit_octets, two-units-octets}
+use Rattle.unicode_text.specs.declared.utf8.PointAt.TheVariants.{Bad, Point}
+use Rattle.unicode_text.specs.Utf8.{Partial, bad, Decoder, between, partway, on_decoded}
+use Rattle.unicode_text.specs.Utf16.{lead16, follow16, decode16, points_from16, points_of16}
+use Rattle.unicode_text.proofs.Laws.OneText.{after_high_lem, lead_plain, lead_high, follow-low}
+use Rattle.unicode_text.proofs.Laws.Utf16.{one_unit_octets, two-units-octets}
 use Rattle.transcode.specs.Internal.Point16.{PointRead16}
 
 -- a unit outside a range, or in it, by the test that the code makes

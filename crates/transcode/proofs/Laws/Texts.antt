@@ -10,8 +10,8 @@ use lib.ListN.{length, get_or}
 use borrow.Author.Tests.{le-leb, lt-ltb, ltb-true}
 use Rattle.octets.specs.{Lists.all, Lists.is_some, NameRule.without, NameRule.user_name_most}
 use Rattle.octets.proofs.Laws.Lists.{every_all}
-use Rattle.unicode.specs.{UserName.is_user_name, Utf8.points, Utf8.is_utf8, Utf8.utf8_of, Utf16.utf16, Utf16.points_of16, Utf16.utf8_from16}
-use Rattle.unicode.proofs.Laws.OneText.{text-back}
+use Rattle.unicode_text.specs.{UserName.is_user_name, Utf8.points, Utf8.is_utf8, Utf8.utf8_of, Utf16.utf16, Utf16.points_of16, Utf16.utf8_from16}
+use Rattle.unicode_text.proofs.Laws.OneText.{text-back}
 use Rattle.transcode.specs.Transcode.{are_octets, To8, Back8}
 use Rattle.transcode.proofs.Laws.{Utf8Back.points-back, Utf16Octets.points16_comes, Length.three_each, Zeros.zeros-said}
 

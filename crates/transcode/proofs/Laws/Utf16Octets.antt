@@ -9,10 +9,10 @@ use borrow.Author.Tests.{leb-false, le-leb}
 use Rattle.octets.specs.{Number.little, Number.little_octets, Text.within}
 use Rattle.octets.proofs.Laws.Lists.{Every, none_not_some, cond_has}
 use Rattle.octets.proofs.Laws.Text.{within_low, within-high}
-use Rattle.unicode.specs.Utf8.{Partial, Decoded, opens, Decoder, between, partway}
-use Rattle.unicode.specs.Utf16.{is_high, is_low, high_unit, low_unit, point_octets, points_octets, lead16, follow16, decode16, points_from16, points_of16}
-use Rattle.unicode.proofs.Laws.Codec.{Code, Comes, Before, After, turn_comes}
-use Rattle.unicode.proofs.Laws.Utf16.{one_unit_octets, two-units-octets}
+use Rattle.unicode_text.specs.Utf8.{Partial, Decoded, opens, Decoder, between, partway}
+use Rattle.unicode_text.specs.Utf16.{is_high, is_low, high_unit, low_unit, point_octets, points_octets, lead16, follow16, decode16, points_from16, points_of16}
+use Rattle.unicode_text.proofs.Laws.Codec.{Code, Comes, Before, After, turn_comes}
+use Rattle.unicode_text.proofs.Laws.Utf16.{one_unit_octets, two-units-octets}
 
 past_range : (low high n : ℕ) → within low high n ≡ false → low ≤ n → high < n
 past_range low high n e h = leb-false n high (rw (le-leb low n h) at e)

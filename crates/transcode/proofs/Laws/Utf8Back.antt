@@ -9,10 +9,10 @@ use lib.Dec.{eqb, ltb}
 use borrow.Author.Tests.{ltb-true, ltb-false, eqb-true, lt-ltb}
 use Rattle.octets.proofs.Laws.Lists.{Every, cond_has}
 use Rattle.octets.proofs.Laws.Text.{within_range}
-use Rattle.unicode.specs.Utf8.{lead, points_from, points, utf8_of}
-use Rattle.unicode.specs.Internal.Point.{SixBits}
-use Rattle.unicode.proofs.Laws.Codec.{Code, back-all}
-use Rattle.unicode.proofs.Laws.Point.{six-at, some-low, two-point, three_point, four_point}
+use Rattle.unicode_text.specs.Utf8.{lead, points_from, points, utf8_of}
+use Rattle.unicode_text.specs.Internal.Point.{SixBits}
+use Rattle.unicode_text.proofs.Laws.Codec.{Code, back-all}
+use Rattle.unicode_text.proofs.Laws.Point.{six-at, some-low, two-point, three_point, four_point}
 
 six-bits : (low high x r : ℕ) → low ≤ x → x ≤ high → r ≡ x % 64 → SixBits x low high r
 six-bits low high x r h k e = (λ q. (within_range low high x h k, e), λ q. absurd (omega arith))

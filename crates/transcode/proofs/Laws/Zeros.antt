@@ -9,7 +9,7 @@ use lib.Dec.{eqb, ltb}
 use borrow.Author.Tests.{ne_eqb, eqb-true, eqb-false}
 use Rattle.octets.specs.{Lists.all, Lists.holds, NameRule.without}
 use Rattle.octets.proofs.Laws.Lists.{Every, all_every, every_weaken, all_append, cond_has}
-use Rattle.unicode.specs.{Utf8.utf8_of, Utf16.points_of16, Utf16.utf8_from16}
+use Rattle.unicode_text.specs.{Utf8.utf8_of, Utf16.points_of16, Utf16.utf8_from16}
 
 some-octets : (c : ℕ) → 1 ≤ c → Every (λ x. 1 ≤ x) (utf8_of c)
 unfolding utf8_of

@@ -1,10 +1,10 @@
 -- The code point at an offset of a UTF-16LE text, and the offset after it.
 use Rattle.std.specs.Prelude.{◌≡◌, List, ◌∷◌, ℕ, ◌+◌, ◌≤◌, ◌<◌, length, drop}
 use Rattle.std.proofs.Math.Option.{none, map}
-use Rattle.unicode.specs.declared.utf8.PointAt.{PointAt}
-use Rattle.unicode.specs.declared.utf8.PointAt.TheVariants.{End, Bad, Point}
-use Rattle.unicode.specs.Internal.Point.{point_limit}
-use Rattle.unicode.specs.Utf16.{point_octets, points_of16}
+use Rattle.unicode_text.specs.declared.utf8.PointAt.{PointAt}
+use Rattle.unicode_text.specs.declared.utf8.PointAt.TheVariants.{End, Bad, Point}
+use Rattle.unicode_text.specs.Internal.Point.{point_limit}
+use Rattle.unicode_text.specs.Utf16.{point_octets, points_of16}
 
 -- what it says of the text's code points from the offset on
 abbrev pub PointRead16 : List ℕ → ℕ → PointAt → Type 0

@@ -1,7 +1,7 @@
 -- A UTF-16LE text in UTF-8, and what the code tells of its size.
 use Rattle.std.specs.Prelude.{◌≡◌, List, [], ℕ, ◌*◌, ◌≤◌, length}
 use Rattle.std.proofs.Math.Option.{none, some, map, get_or}
-use Rattle.unicode.specs.Utf16.{utf8_from16}
+use Rattle.unicode_text.specs.Utf16.{utf8_from16}
 use Rattle.transcode.specs.declared.to8.Size8.{Size8}
 use Rattle.transcode.specs.declared.to8.Size8.TheVariants.{NoText, Takes}
 

@@ -1,7 +1,7 @@
 use mathlib.Core.Path.{refl, sym, ◌∙◌}
 use native.Mathlib.Omega.{arith}
 use borrow.Author.Tests.{eqb-true}
-use Rattle.unicode.proofs.Laws.Point.{stand_two}
+use Rattle.unicode_text.proofs.Laws.Point.{stand_two}
 use Rattle.account_names.proofs.Laws.NameOrder.{points_alike, letters_alike}
 use borrow.Author.Rules.{rules}
 use Rattle.account_names.proofs.compare.alike_size.Statement.{statement}

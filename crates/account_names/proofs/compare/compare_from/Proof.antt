@@ -2,7 +2,7 @@ use mathlib.Core.Path.{◌≡◌, refl, subst, ◌∙◌}
 use Prim.Native.Nat.{ℕ, ◌+◌, ◌-◌, ◌≤◌, ◌<◌}
 use native.Mathlib.Omega.{arith}
 use lib.ListN.{length, get_or}
-use Rattle.unicode.specs.Internal.Point.{size_of}
+use Rattle.unicode_text.specs.Internal.Point.{size_of}
 use borrow.Author.Rules.{rules}
 use Rattle.account_names.specs.Internal.NameOrder.{RankRead, GoesOn}
 use Rattle.account_names.proofs.Laws.NameOrder.{rank_less, rank_greater, rank_next}

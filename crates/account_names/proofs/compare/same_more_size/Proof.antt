@@ -2,8 +2,8 @@ use mathlib.Core.Path.{◌≡◌, sym, subst, ◌∙◌}
 use Prim.Native.Nat.{◌+◌, ◌≤◌}
 use native.Mathlib.Omega.{arith}
 use lib.ListN.{get_or}
-use Rattle.unicode.specs.Internal.Point.{size_of}
-use Rattle.unicode.proofs.Laws.Point.{size_three, size_four}
+use Rattle.unicode_text.specs.Internal.Point.{size_of}
+use Rattle.unicode_text.proofs.Laws.Point.{size_three, size_four}
 use Rattle.account_names.specs.Internal.NameOrder.{Alike}
 use Rattle.account_names.proofs.Laws.NameOrder.{decoded_alike}
 use borrow.Author.Rules.{rules}

@@ -2,7 +2,7 @@ use mathlib.Core.Path.{refl, sym, ◌∙◌}
 use Prim.Native.Nat.{◌<◌}
 use native.Mathlib.Omega.{arith}
 use lib.ListN.{get_or}
-use Rattle.unicode.proofs.Laws.Point.{stand_two}
+use Rattle.unicode_text.proofs.Laws.Point.{stand_two}
 use Rattle.account_names.proofs.Laws.NameOrder.{decoded_alike}
 use borrow.Author.Rules.{rules}
 use Rattle.account_names.proofs.compare.same_two_size.Statement.{statement}

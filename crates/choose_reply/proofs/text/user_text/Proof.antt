@@ -3,7 +3,7 @@ use Prim.Native.Nat.{◌≤◌}
 use native.Mathlib.Omega.{arith}
 use borrow.Author.Tests.{not-false}
 use lib.ListN.{length}
-use Rattle.unicode.proofs.Laws.UserName.{user-name-short}
+use Rattle.unicode_text.proofs.Laws.UserName.{user-name-short}
 use Rattle.choose_reply.proofs.Laws.Lends.{cut-own}
 use borrow.Author.Rules.{rules}
 use Rattle.choose_reply.proofs.text.user_text.Statement.{statement}

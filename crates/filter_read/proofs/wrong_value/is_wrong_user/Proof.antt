@@ -3,7 +3,7 @@ use mathlib.Core.Bool.{not}
 use mathlib.Core.List.{List}
 use Prim.Native.Nat.{ℕ}
 use borrow.Author.Rules.{rules}
-use Rattle.unicode.specs.UserName.{is_user_name}
+use Rattle.unicode_text.specs.UserName.{is_user_name}
 use Rattle.filter_read.proofs.wrong_value.is_wrong_user.Statement.{statement}
 use Rattle.filter_read.proofs.wrong_value.is_wrong_user.Tie as tie
 

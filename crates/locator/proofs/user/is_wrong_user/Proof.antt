@@ -8,8 +8,8 @@ use lib.Dec.{eqb}
 use lib.ListN.{length}
 use Rattle.octets.specs.Label.{labels}
 use Rattle.octets.specs.Lists.{any, cut}
-use Rattle.unicode.specs.UserName.{is_user_name}
-use Rattle.unicode.proofs.Laws.UserName.{user-name-short}
+use Rattle.unicode_text.specs.UserName.{is_user_name}
+use Rattle.unicode_text.proofs.Laws.UserName.{user-name-short}
 use Rattle.locator.proofs.user.is_wrong_user.Statement.{statement}
 use Rattle.locator.proofs.user.is_wrong_user.Tie as tie
 

@@ -9,7 +9,7 @@ use Rattle.locator.proofs.Laws.Answer.{refusal-given, ping-refused, ping_answere
 use Rattle.mailslot.specs.Message.{message_in}
 use Rattle.octets.specs.Lists.{holds}
 use Rattle.table.specs.Table.{table_from}
-use Rattle.unicode.specs.UserName.{is_user_name}
+use Rattle.unicode_text.specs.UserName.{is_user_name}
 use Rattle.mailslot_answer.specs.Ping.{mailslot_ping}
 use Rattle.mailslot_answer.proofs.Laws.Ping.{read-good, read-refused, not_pinged, user_passes, pinged}
 use Rattle.mailslot_answer.proofs.accepted.answer_mailslot_accepted.Statement.{statement}

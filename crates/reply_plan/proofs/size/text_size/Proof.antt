@@ -4,7 +4,7 @@ use Prim.Native.Nat.{ℕ, ◌+◌, ◌≤◌}
 use native.Mathlib.Omega.{arith}
 use lib.ListN.{length, get_or}
 use Rattle.lent.proofs.Laws.Stretch.{stretch_short}
-use Rattle.unicode.specs.Utf16.{utf16}
+use Rattle.unicode_text.specs.Utf16.{utf16}
 use Rattle.reply.specs.Internal.RawReply.{no_stretch, slot_text}
 use Rattle.reply.proofs.Laws.Reply.{text-length}
 use borrow.Author.Rules.{rules}

@@ -6,8 +6,8 @@ use native.Mathlib.Omega.{arith}
 use lib.ListN.{length, length-set}
 use Rattle.octets.specs.Buffer.{over}
 use Rattle.octets.proofs.Laws.Buffer.{stored_one, stored-two, stored_three, stored_four}
-use Rattle.unicode.specs.Utf8.{utf8_of}
-use Rattle.unicode.proofs.Laws.Utf8.{of_one, of_two, of_three, of_four}
+use Rattle.unicode_text.specs.Utf8.{utf8_of}
+use Rattle.unicode_text.proofs.Laws.Utf8.{of_one, of_two, of_three, of_four}
 use Rattle.transcode.proofs.to8.put_point.Statement.{statement}
 use Rattle.transcode.proofs.to8.put_point.Tie as tie
 use Rattle.transcode.proofs.to8.put_point.Reads as reads

@@ -4,11 +4,11 @@ use mathlib.Core.Option.{map, map-eq-none_iff}
 use Prim.Native.Nat.{◌*◌, ◌-◌, ◌≤◌}
 use native.Mathlib.Omega.{arith}
 use lib.ListN.{length, drop}
-use Rattle.unicode.specs.{Utf8.utf8_of, Utf16.points_of16, Utf16.utf8_from16}
+use Rattle.unicode_text.specs.{Utf8.utf8_of, Utf16.points_of16, Utf16.utf8_from16}
 use Rattle.transcode.specs.Internal.Point16.{PointRead16}
 use Rattle.transcode.proofs.Laws.Point16.{end-points}
 use Rattle.transcode.proofs.Laws.Length.{three_a_unit}
-use Rattle.unicode.proofs.Laws.Writing.{size_left, size-start, size-next, size-end}
+use Rattle.unicode_text.proofs.Laws.Writing.{size_left, size-start, size-next, size-end}
 use Rattle.transcode.proofs.to8.utf8_size.Statement.{statement}
 use Rattle.transcode.proofs.to8.utf8_size.Tie as tie
 

@@ -1,7 +1,7 @@
 use mathlib.Core.Path.{refl, sym, ap}
 use native.Mathlib.Omega.{arith}
 use lib.ListN.{length}
-use Rattle.unicode.proofs.Laws.Utf8.{of_one, of_two, of_three, of_four}
+use Rattle.unicode_text.proofs.Laws.Utf8.{of_one, of_two, of_three, of_four}
 use Rattle.transcode.proofs.to8.width.Statement.{statement}
 use Rattle.transcode.proofs.to8.width.Tie as tie
 
