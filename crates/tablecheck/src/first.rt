@@ -10,7 +10,7 @@ use table_blocks::layout::block_layout;
 use table_check::check::good_check;
 
 // What each block is held to by itself, 2 and 3.
-#[derive(Drop)]
+#[derive(Clone, Copy)]
 pub enum BlockRule {
     Check,
     Layout,
