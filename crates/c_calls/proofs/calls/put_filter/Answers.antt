@@ -1,0 +1,10 @@
+use mathlib.Core.Path.{ap, ◌∙◌}
+use Rattle.answers.specs.Written.{written_number, written_length}
+use borrow.Author.Rules.{rules}
+use Rattle.c_calls.proofs.calls.put_filter.Goals as goal
+
+pub returns : goal.returns
+returns c =
+    let written = c.write_filter-written.ensures in
+    let e = rw c.request_of.ensures at written in
+    (c.written_number.ensures ∙ ap written_number e.0.same, (c.written_length.ensures ∙ ap written_length e.0.same, e.1))

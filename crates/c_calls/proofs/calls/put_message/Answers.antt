@@ -1,0 +1,9 @@
+use mathlib.Core.Path.{ap, ◌∙◌}
+use Rattle.answers.specs.Written.{written_number, written_length}
+use borrow.Author.Rules.{rules}
+use Rattle.c_calls.proofs.calls.put_message.Goals as goal
+
+pub returns : goal.returns
+returns c =
+    let e = c.message_written-written.ensures in
+    (c.written_number.ensures ∙ ap written_number e.0, (c.written_length.ensures ∙ ap written_length e.0, e.1))

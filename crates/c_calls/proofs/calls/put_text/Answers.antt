@@ -1,0 +1,9 @@
+use mathlib.Core.Path.{ap, ◌∙◌}
+use Rattle.reader_text.specs.Text.{text_number, text_length}
+use borrow.Author.Rules.{rules}
+use Rattle.c_calls.proofs.calls.put_text.Goals as goal
+
+pub returns : goal.returns
+returns c =
+    let e = c.name_text-name.ensures.same in
+    (c.text_number.ensures ∙ ap (λ t. text_number t.len) e, (ap (λ t. t.octets) e, c.text_length.ensures ∙ ap (λ t. text_length t.len) e))

@@ -1,0 +1,31 @@
+use mathlib.Core.Path.{sym, ap, ◌∙◌}
+use borrow.Author.Rules.{rules}
+use lib.ListN.{length}
+use Rattle.filter_read.specs.{Internal.RawPing.tried_ping, Value.ping_from}
+use Rattle.filter_read.proofs.Laws.Value.{ping-user}
+use Rattle.locator.proofs.Laws.Answer.{refusal-given, ping-refused, ping_answered, answer_of_lem, answer_promised}
+use Rattle.locator.proofs.accepted.answer_accepted.Goals as goal
+
+pub answer_over-requires : goal.answer_over-requires
+answer_over-requires c =
+    let s = c in
+    let a = s.args in
+    let read = sym c.read_ping.ensures ∙ ap (tried_ping a.filter.now) c.in-Ping.is in
+    record {
+      accepted = s.requires;
+      user_value = ping-user a.filter.now _ read;
+    }
+
+pub returns-in-Refused : goal.returns-in-Refused
+returns-in-Refused c =
+    let s = c in
+    let a = s.args in
+    let read = sym c.read_ping.ensures ∙ ap (tried_ping a.filter.now) c.in-Refused.is in
+    answer_promised _ _ (refusal-given _ _ a.reply.now (ping-refused ping_from a.image.now a.caller a.filter.now (length a.reply.now) _ _ s.requires read))
+
+pub returns-in-Ping : goal.returns-in-Ping
+returns-in-Ping c =
+    let s = c in
+    let a = s.args in
+    let read = sym c.read_ping.ensures ∙ ap (tried_ping a.filter.now) c.in-Ping.is in
+    answer_promised _ _ (answer_of_lem _ _ _ a.reply.now _ (ping_answered ping_from a.image.now a.caller a.filter.now (length a.reply.now) _ _ s.requires read) c.answer_over.ensures)

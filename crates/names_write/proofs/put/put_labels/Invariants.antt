@@ -1,0 +1,17 @@
+use mathlib.Core.Path.{◌≡◌, refl, sym, ap, ap₂, ◌∙◌}
+use mathlib.Core.List.{List, [], ◌∷◌, ◌++◌}
+use Prim.Native.Nat.{ℕ, ◌+◌, ◌-◌, ◌≤◌, ◌<◌}
+use native.Mathlib.Omega.{arith}
+use native.Mathlib.Numerals.{add-one}
+use lib.ListN.{length, get_or, take, set, length-set}
+use lib.Seq.{take-suc, length-take-le}
+use Rattle.octets.specs.Buffer.{over}
+use Rattle.octets.proofs.Laws.Buffer.{over_none, over-more}
+use Rattle.names.specs.Internal.Plan.{literal_octets}
+use Rattle.names_write.proofs.put.put_labels.Given as goal
+
+abbrev pub invariant-loop-i : goal.invariant-loop-i
+invariant-loop-i l = (l.i ≤ l.literal) × (length l.out ≡ length l.initial.out) × (l.out ≡ over (take l.i (literal_octets l.text)) l.initial.out)
+
+abbrev pub decreases-loop-i : goal.decreases-loop-i
+decreases-loop-i l = l.literal - l.i

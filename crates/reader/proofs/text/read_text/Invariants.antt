@@ -1,0 +1,14 @@
+use mathlib.Core.Path.{sym, ◌∙◌, subst}
+use Prim.Native.Nat.{◌-◌}
+use native.Mathlib.Omega.{arith}
+use borrow.Author.Rules.{rules}
+use lib.ListN.{length}
+use Rattle.reader.specs.Internal.Text.{StepWithin}
+use Rattle.reader.proofs.Laws.Text.{TextLeft, text-start, text_stop, text-refused, text_go}
+use Rattle.reader.proofs.text.read_text.Given as goal
+
+abbrev pub invariant-loop-next : goal.invariant-loop-next
+invariant-loop-next l = TextLeft l.reply l.start l.at l.pending
+
+abbrev pub decreases-loop-next : goal.decreases-loop-next
+decreases-loop-next l = length l.reply - l.at

@@ -1,0 +1,7 @@
+use Rattle.table.specs.Account.{account_of}
+use borrow.Author.Rules.{rules}
+use Rattle.table.proofs.account.name.Goals as goal
+
+pub returns : goal.returns
+unfolding account_of
+returns c = c.text_in.ensures

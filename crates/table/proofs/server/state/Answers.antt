@@ -1,0 +1,7 @@
+use Rattle.table.specs.Server.{server_of}
+use borrow.Author.Rules.{rules}
+use Rattle.table.proofs.server.state.Goals as goal
+
+pub returns : goal.returns
+unfolding server_of
+returns c = c.u32_in.ensures

@@ -1,0 +1,7 @@
+use Rattle.table.specs.Site.{site_of}
+use borrow.Author.Rules.{rules}
+use Rattle.table.proofs.site.next.Goals as goal
+
+pub returns : goal.returns
+unfolding site_of
+returns c = c.reference_in.ensures

@@ -1,0 +1,7 @@
+use Rattle.table.specs.Subnet.{subnet_of}
+use borrow.Author.Rules.{rules}
+use Rattle.table.proofs.subnet.address.Goals as goal
+
+pub returns : goal.returns
+unfolding subnet_of
+returns c = c.part.ensures

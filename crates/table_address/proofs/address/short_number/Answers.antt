@@ -1,0 +1,8 @@
+use native.Mathlib.Omega.{arith}
+use Rattle.table.specs.Address.{address_number}
+use borrow.Author.Rules.{rules}
+use Rattle.table_address.proofs.address.short_number.Goals as goal
+
+pub returns : goal.returns
+unfolding address_number
+returns c = omega arith

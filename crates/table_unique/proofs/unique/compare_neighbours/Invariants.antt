@@ -1,0 +1,17 @@
+use mathlib.Core.Path.{◌≡◌, refl, sym, ap, ◌∙◌}
+use Prim.Native.Nat.{ℕ, ◌-◌, ◌≤◌, ◌+◌}
+use native.Mathlib.Omega.{arith}
+use lib.ListN.{length, drop}
+use borrow.Author.Rules.{rules}
+use Rattle.account_names.specs.declared.compare.Ordering.{Ordering}
+use Rattle.account_names.specs.declared.compare.Ordering.TheVariants.{Less, Equal, Greater}
+use Rattle.table_unique.specs.Internal.Neighbours.{rising_then, neighbours_by}
+use Rattle.table_compare.specs.Internal.OrderKey.{compare_at}
+use Rattle.table_unique.proofs.Laws.Neighbours.{neighbours_as, neighbours_end}
+use Rattle.table_unique.proofs.unique.compare_neighbours.Given as goal
+
+abbrev pub invariant-loop-i : goal.invariant-loop-i
+invariant-loop-i l = (1 ≤ l.i) × (neighbours_by (compare_at l.order l.image) (drop (l.i - 1) l.offsets) ≡ neighbours_by (compare_at l.order l.image) l.offsets)
+
+abbrev pub decreases-loop-i : goal.decreases-loop-i
+decreases-loop-i l = length l.offsets - l.i
