@@ -17,11 +17,12 @@ read c =
 
 -- the code point that was decoded, with the offset after it
 decoded : (c : After-size_of)
+    → (let a = c.args in CodeRead a.s.now a.at (size_of (get_or a.s.now a.at 0)) c.point_of-point.result)
     → let a = c.args in
     PointRead a.s.now a.at (Point c.point_of-point.result (a.at + c.size_of.result))
-decoded c =
+decoded c r =
     let a = c.args in
-    subst (λ (size : ℕ). PointRead a.s.now a.at (Point c.point_of-point.result (a.at + size))) (sym c.size_of.ensures) ((read c.before.before).0 c.if-point-ge-NO_POINT.false)
+    subst (λ (size : ℕ). PointRead a.s.now a.at (Point c.point_of-point.result (a.at + size))) (sym c.size_of.ensures) (r.0 c.if-point-ge-NO_POINT.false)
 
 pub returns-then-lead-lt128 : goal.returns-then-lead-lt128
 returns-then-lead-lt128 c =
@@ -32,7 +33,7 @@ pub returns-then-point-ge-NO_POINT : goal.returns-then-point-ge-NO_POINT
 returns-then-point-ge-NO_POINT c = (read (goal.at.returns-then-point-ge-NO_POINT c).After-point_of-point).1 c.if-point-ge-NO_POINT.true
 
 pub overflow_add-result-2 : goal.overflow_add-result-2
-overflow_add-result-2 c = omega (arith, (decoded (goal.at.overflow_add-result-2 c).After-size_of).1)
+overflow_add-result-2 c = omega (arith, (decoded (goal.at.overflow_add-result-2 c).After-size_of (read (goal.at.overflow_add-result-2 c).After-point_of-point)).1)
 
 pub returns : goal.returns
-returns c = decoded (goal.at.returns c).After-size_of
+returns c = decoded (goal.at.returns c).After-size_of (read (goal.at.returns c).After-point_of-point)
