@@ -70,10 +70,9 @@ fn text_end(text: &[u8]) -> usize
 
 // An error's text as the system has it, at the front of out: how much.
 fn error_text(error: &io::Error, out: &mut [u8]) -> io::Result<usize> {
-    let size = out.len();
-    let mut rest = &mut *out;
-    write!(rest, "{error}")?;
-    let written = size - rest.len();
+    let mut cursor = Cursor::new(&mut *out);
+    write!(cursor, "{error}")?;
+    let written = cursor.position() as usize;
     Ok(text_end(part(out, 0, written)))
 }
 
