@@ -158,8 +158,8 @@ pub complete : {s : List ℕ} {run at c next : ℕ} {ls : List (List ℕ)} → W
 complete w zero b = absurd (omega arith)
 complete {s} {run} {at} (ends e) (suc k) b = from_end s run at k e
 complete {s} {run} {at} (reads {n = n} {c = c} {ls = ls} e h l w) (suc k) b =
-    rw (from-label s run at k n e h, complete w k (bound_read s run at n k h b)) (ap (λ (x : List ℕ). some (record { labels = x ∷ ls; pointers = c })) l)
-complete {s} {run} {at} (points {t = t} e h w) (suc k) b = rw (from-pointer s run at k t e h, complete w k (bound_jump s run at t k h b))
+    rw (from-label s run at k n e h, complete {at = at + 1 + n} w k (bound_read s run at n k h b)) (ap (λ (x : List ℕ). some (record { labels = x ∷ ls; pointers = c })) l)
+complete {s} {run} {at} (points {t = t} e h w) (suc k) b = rw (from-pointer s run at k t e h, complete {run = t} {at = t} w k (bound_jump s run at t k h b))
 
 pub finds : {s : List ℕ} {at c next : ℕ} {ls : List (List ℕ)} → Walks s at at ls c next → walk s at ≡ some (record { labels = ls; pointers = c })
 unfolding walk

@@ -63,11 +63,11 @@ accepts {s} {run} {at} (ends e) (suc k) spent pointers b room few = rw (from_end
 accepts {s} {run} {at} (reads {n = n} {c = c} {next = next} {l = l} {ls = ls} e h q w) (suc k) spent pointers b room few =
     let m : length l ≡ n = ap length (sym q) ∙ cut-length s (at + 1) n h in
     let p : 1 ≤ size ls = size_positive ls in
-    rw (from-label s run at spent pointers k n e h (omega arith), accepts w k (spent + 1 + n) pointers (bound_read s run at n k h b) (omega arith) few)
+    rw (from-label s run at spent pointers k n e h (omega arith), accepts {at = at + 1 + n} w k (spent + 1 + n) pointers (bound_read s run at n k h b) (omega arith) few)
     (ap (λ (x : List ℕ). Given (x ∷ ls) (pointers + c) next) q)
 accepts {s} {run} {at} (points {t = t} {c = c} {ls = ls} e h w) (suc k) spent pointers b room few =
     let z : pointers + 1 + c ≡ pointers + suc c = omega arith in
-    rw (from-pointer s run at spent pointers k t e h (omega arith), accepts w k spent (pointers + 1) (bound_jump s run at t k h b) room (omega arith))
+    rw (from-pointer s run at spent pointers k t e h (omega arith), accepts {run = t} {at = t} w k spent (pointers + 1) (bound_jump s run at t k h b) room (omega arith))
     (ap (λ (x : ℕ). Given ls x (at + 2)) z)
 
 written_out_size : (ls : List (List ℕ)) → length (written_out ls) ≡ size ls

@@ -1,4 +1,5 @@
 use mathlib.Core.Path.{◌≡◌, sym, ap, ◌∙◌}
+use mathlib.Core.Bool.{true}
 use mathlib.Core.List.{List}
 use Prim.Native.Nat.{ℕ, ◌+◌, ◌-◌, ◌≤◌}
 use native.Mathlib.Omega.{arith}
@@ -11,7 +12,7 @@ use Rattle.names.proofs.Laws.Plan.CommonTail.{offers_common}
 use Rattle.names.proofs.Laws.Plan.Tails.{offers_length}
 use Rattle.names.proofs.Laws.Plan.Search.{search_from, search_empty, search_start, search_end, search_here, search_next}
 use Rattle.names.proofs.plan.aim_in.Goals as goal
-use Rattle.names.proofs.plan.aim_in.Goals.{After-offers_tail, Then-offers_tail}
+use Rattle.names.proofs.plan.aim_in.Goals.{After-offers_tail}
 
 -- the tail that is offered
 module _ (c : After-offers_tail) where
@@ -27,11 +28,11 @@ module _ (c : After-offers_tail) where
       c.offers_tail.ensures ∙ offers_common p.earlier.now text p.literal c.common_tail-common.result before c.common_tail-common.ensures (omega arith)
 
 -- it is no longer than the name that offers it
-fits : (c : Then-offers_tail) → length (text c.before) - before c.before ≤ length c.args.earlier.now
-fits c =
+fits : (c : After-offers_tail) → c.offers_tail.result ≡ true → length (text c) - before c ≤ length c.args.earlier.now
+fits c t =
     let p = c.args in
-    let x : List ℕ = drop (before c.before) (text c.before) in
-    omega (arith, offers_length x p.earlier.now p.literal (sym (offered c.before) ∙ c.if-offers_tail.true), length-drop (before c.before) (text c.before))
+    let x : List ℕ = drop (before c) (text c) in
+    omega (arith, offers_length x p.earlier.now p.literal (sym (offered c) ∙ t), length-drop (before c) (text c))
 
 pub returns-then-text-eq0 : goal.returns-then-text-eq0
 returns-then-text-eq0 c =
@@ -53,7 +54,7 @@ pub offers_tail-requires : goal.offers_tail-requires
 offers_tail-requires c = c.common_tail-common.ensures.first
 
 pub overflow_sub-result : goal.overflow_sub-result
-overflow_sub-result c = fits (goal.at.overflow_sub-result c).Then-offers_tail
+overflow_sub-result c = fits (goal.at.overflow_sub-result c).After-offers_tail c.if-offers_tail.true
 
 pub overflow_add-result : goal.overflow_add-result
 overflow_add-result c = omega arith

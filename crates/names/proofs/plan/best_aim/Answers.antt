@@ -22,9 +22,8 @@ bounds-names-i c = omega arith
 pub aim_at-requires : goal.aim_at-requires
 aim_at-requires c =
     let p = c.args in
-    let g = c.well-formed in
     let fit = c.requires.1 in
-    fit_at p.table.now p.request.now p.t3 p.count c.loop-i.i fit c.loop-i-test.true (omega arith)
+    fit_at p.table.now p.request.now p.names p.count c.loop-i.i fit c.loop-i-test.true (omega arith)
 
 pub better-aim-requires : goal.better-aim-requires
 better-aim-requires c = tt
@@ -38,14 +37,13 @@ loop-i-smaller c = omega arith
 pub loop-i-preserved : goal.loop-i-preserved
 loop-i-preserved c =
     let p = c.args in
-    let g = c.well-formed in
     let l = c.loop-i in
     let a = c.aim_at in
     let s : List ℕ = p.text.now in (
       omega arith,
       c.better-aim.ensures
           ∙ ap₂ better_aim l.invariant.1 a.ensures.value
-          ∙ sym (search_more p.table.now p.request.now p.t3 l.i (labels s) (omega arith)),
+          ∙ sym (search_more p.table.now p.request.now p.names l.i (labels s) (omega arith)),
       subst (AimWithin (length s)) (sym c.better-aim.ensures) (better_within (length s) l.aim a.result l.invariant.2 a.ensures.aim_within),
     )
 
@@ -55,6 +53,6 @@ returns c =
     let l = c.loop-i in
     let e : l.i ≡ p.count = omega arith in
     record {
-      value = l.invariant.1 ∙ ap (λ (n : ℕ). first_aim (names_tails p.table.now p.request.now (take n p.t3)) (labels p.text.now)) e;
+      value = l.invariant.1 ∙ ap (λ (n : ℕ). first_aim (names_tails p.table.now p.request.now (take n p.names)) (labels p.text.now)) e;
       aim_within = l.invariant.2;
     }

@@ -59,7 +59,6 @@ loop-i-smaller c = omega arith
 pub loop-i-preserved : goal.loop-i-preserved
 loop-i-preserved c =
     let p = c.args in
-    let g = c.well-formed in
     let l = c.loop-i in
     let n = c.plan_name-name in
     let s = taken (goal.at.loop-i-preserved c).After-name_size-end in
@@ -67,7 +66,7 @@ loop-i-preserved c =
       omega arith,
       simp length-set l.invariant.1,
       fit-more p.table.now p.request.now l.names l.i n.result (omega arith) l.invariant.2 n.ensures.fit,
-      writes_more p.table.now p.request.now l.names l.i n.result (omega arith) p.t3 p.offset l.end (omega arith) l.invariant.3 l.invariant.4 n.ensures,
+      writes_more p.table.now p.request.now l.names l.i n.result (omega arith) p.texts p.offset l.end (omega arith) l.invariant.3 l.invariant.4 n.ensures,
       omega (arith, l.invariant.4),
       omega (arith, l.invariant.5, n.ensures.small),
     )
@@ -78,4 +77,4 @@ returns c =
     let p = c.args in
     let e : l.i ≡ p.count = omega arith in
     let plan : NamesPlan = record { names = l.names; end = l.end } in
-    subst (λ (n : ℕ). PlansOf p.table.now p.request.now p.t3 n p.offset plan) e (record { fit = l.invariant.2; writes = l.invariant.3; ends = l.invariant.4; small = l.invariant.5 })
+    subst (λ (n : ℕ). PlansOf p.table.now p.request.now p.texts n p.offset plan) e (record { fit = l.invariant.2; writes = l.invariant.3; ends = l.invariant.4; small = l.invariant.5 })

@@ -30,7 +30,7 @@ pub returns-in_default : goal.returns-in_default
 unfolding over
 returns-in_default c =
     let h : 1 ≤ length c.args.out.now = rw c.in_default.is at c.requires.0 in
-    rw c.in_default.is (refl, over-more [] c.args.out.now 0 0 refl h)
+    rw c.in_default.is (record { value = refl; out_after = over-more [] c.args.out.now 0 0 refl h })
 
 pub overflow_add-out : goal.overflow_add-out
 overflow_add-out c = omega (arith, low (goal.at.overflow_add-out c).In-Pointer)
@@ -48,9 +48,9 @@ returns c =
     let x : ℕ = (pointer_bits + offset (goal.at.returns c).In-Pointer) / 256 % 256 in
     let e : offset (goal.at.returns c).In-Pointer % 256 ≡ (pointer_bits + offset (goal.at.returns c).In-Pointer) % 256 = omega arith in
     let h = room (goal.at.returns c).In-Pointer in
-    rw c.in-Pointer.is (
-      refl,
-      ap (λ (l : List ℕ). set l 1 (offset (goal.at.returns c).In-Pointer % 256)) (over-more [] d 0 x refl (omega arith))
+    rw c.in-Pointer.is (record {
+      value = refl;
+      out_after = ap (λ (l : List ℕ). set l 1 (offset (goal.at.returns c).In-Pointer % 256)) (over-more [] d 0 x refl (omega arith))
           ∙ over-more (x ∷ []) d 1 (offset (goal.at.returns c).In-Pointer % 256) refl h
-          ∙ ap (λ (y : ℕ). over (x ∷ y ∷ []) d) e,
-    )
+          ∙ ap (λ (y : ℕ). over (x ∷ y ∷ []) d) e;
+    })

@@ -15,16 +15,16 @@ use Rattle.names_write.proofs.put.put_names.Goals.{In-loop-i}
 -- the octets that a turn writes have room
 module _ (c : In-loop-i) where
   abbrev name : PlannedName
-  name = get_or c.args.t4 c.loop-i.i blank_name
+  name = get_or c.args.names c.loop-i.i blank_name
 
-  here : c.loop-i.i < length c.args.t4
-  here = let g = c.well-formed in omega arith
+  here : c.loop-i.i < length c.args.names
+  here = omega arith
 
   fits : c.loop-i.at + length (name_octets c.args.table.now c.args.request.now name) ≤ length c.args.out.now
   fits =
       let p = c.args in
       let l = c.loop-i in
-      let w = octets-within p.table.now p.request.now p.t4 p.count l.i c.loop-i-test.true here in
+      let w = octets-within p.table.now p.request.now p.names p.count l.i c.loop-i-test.true here in
       omega (arith, l.invariant.2, c.requires.names_in_bounds)
 
 pub loop-i-init : goal.loop-i-init
@@ -50,7 +50,7 @@ put_name-at-requires c =
     let f = fits (goal.at.put_name-at-requires c).In-loop-i in
     let o = l.invariant.1 in
     record {
-      fit = fit_at p.table.now p.request.now p.t4 p.count l.i c.requires.count_bound.1 c.loop-i-test.true (here (goal.at.put_name-at-requires c).In-loop-i);
+      fit = fit_at p.table.now p.request.now p.names p.count l.i c.requires.count_bound.1 c.loop-i-test.true (here (goal.at.put_name-at-requires c).In-loop-i);
       name_in_bounds = simp (length-take, length-drop) (omega arith);
     }
 
@@ -69,9 +69,9 @@ loop-i-preserved c =
     let l = c.loop-i in
     let q = c.put_name-at in
     let f = fits (goal.at.loop-i-preserved c).In-loop-i in
-    let w : List ℕ = names_octets p.table.now p.request.now (take l.i p.t4) in
+    let w : List ℕ = names_octets p.table.now p.request.now (take l.i p.names) in
     let x : List ℕ = name_octets p.table.now p.request.now (name (goal.at.loop-i-preserved c).In-loop-i) in
-    let m = octets-more p.table.now p.request.now p.t4 l.i (here (goal.at.loop-i-preserved c).In-loop-i) in
+    let m = octets-more p.table.now p.request.now p.names l.i (here (goal.at.loop-i-preserved c).In-loop-i) in
     let o = over_lent w x q.new.out p.out.now l.out l.at l.invariant.3 (sym l.invariant.2) q.ensures.out_after in (
       omega arith,
       ap length o ∙ over-length (w ++ x) p.out.now (simp length-append (omega (arith, l.invariant.2))),
@@ -87,7 +87,7 @@ returns c =
     let p = c.args in
     let l = c.loop-i in
     let e : l.i ≡ p.count = omega arith in
-    let n = ap (λ (k : ℕ). names_octets p.table.now p.request.now (take k p.t4)) e in
+    let n = ap (λ (k : ℕ). names_octets p.table.now p.request.now (take k p.names)) e in
     record {
       value = l.invariant.2 ∙ ap length n;
       out_after = l.invariant.3 ∙ ap (λ (y : List ℕ). over y p.out.now) n;

@@ -12,7 +12,7 @@ use Rattle.reader_names.proofs.Laws.Label.{joined_length}
 use Rattle.reader_names.proofs.Laws.NameRead.{NameLeft, name-start, name-ends, name-refused, name-label, name-pointer}
 use borrow.Author.Rules.{rules}
 use Rattle.reader_names.proofs.read.read_name.Goals as goal
-use Rattle.reader_names.proofs.read.read_name.Goals.{After-name_step, In-Label, In-Pointer}
+use Rattle.reader_names.proofs.read.read_name.Goals.{After-name_step}
 
 -- the bounds of the step taken
 abbrev Kept : After-name_step → NameStep → Type 0
@@ -22,11 +22,11 @@ taken : (c : After-name_step) (x : NameStep) → c.name_step.result ≡ x
     → name_step c.args.reply.now c.loop-len.run c.loop-len.at c.loop-len.spent c.loop-len.pointers ≡ x
 taken c x e = sym c.name_step.ensures.value ∙ e
 
-label_kept : (c : In-Label) → Kept c.before.before.before (step.Label c.in-Label.len)
-label_kept c = subst (Kept c.before.before.before) c.in-Label.is c.name_step.ensures.step_within
+label_kept : (c : After-name_step) (n : ℕ) → c.name_step.result ≡ step.Label n → Kept c (step.Label n)
+label_kept c n e = subst (Kept c) e c.name_step.ensures.step_within
 
-pointer-kept : (c : In-Pointer) → Kept c.before.before.before (step.Pointer c.in-Pointer.aim)
-pointer-kept c = subst (Kept c.before.before.before) c.in-Pointer.is c.name_step.ensures.step_within
+pointer-kept : (c : After-name_step) (t : ℕ) → c.name_step.result ≡ step.Pointer t → Kept c (step.Pointer t)
+pointer-kept c t e = subst (Kept c) e c.name_step.ensures.step_within
 
 pub loop-len-init : goal.loop-len-init
 loop-len-init c = ([], name-start c.args.reply.now c.args.start 0)
@@ -36,7 +36,7 @@ name_step-requires c = (c.loop-len.invariant.1.short, c.loop-len.invariant.1.few
 
 pub overflow_add-at : goal.overflow_add-at
 overflow_add-at c =
-    let h = subst (Kept c.before.before.before) c.in-Ends.is c.name_step.ensures.step_within in
+    let h = subst (Kept (goal.at.overflow_add-at c).After-name_step) c.in-Ends.is c.name_step.ensures.step_within in
     omega arith
 
 pub returns-in-Ends : goal.returns-in-Ends
@@ -52,33 +52,33 @@ returns-in-Ends c =
     )
 
 pub overflow_add-at-in-Label : goal.overflow_add-at-in-Label
-overflow_add-at-in-Label c = let h = label_kept (goal.at.overflow_add-at-in-Label c).In-Label in omega arith
+overflow_add-at-in-Label c = let h = label_kept (goal.at.overflow_add-at-in-Label c).After-name_step c.in-Label.len c.in-Label.is in omega arith
 
 pub overflow_add-at-in-Label-2 : goal.overflow_add-at-in-Label-2
-overflow_add-at-in-Label-2 c = let h = label_kept (goal.at.overflow_add-at-in-Label-2 c).In-Label in omega arith
+overflow_add-at-in-Label-2 c = let h = label_kept (goal.at.overflow_add-at-in-Label-2 c).After-name_step c.in-Label.len c.in-Label.is in omega arith
 
 pub overflow_add-spent : goal.overflow_add-spent
-overflow_add-spent c = let h = label_kept (goal.at.overflow_add-spent c).In-Label in omega arith
+overflow_add-spent c = let h = label_kept (goal.at.overflow_add-spent c).After-name_step c.in-Label.len c.in-Label.is in omega arith
 
 pub overflow_add-spent-in-Label : goal.overflow_add-spent-in-Label
-overflow_add-spent-in-Label c = let h = label_kept (goal.at.overflow_add-spent-in-Label c).In-Label in omega arith
+overflow_add-spent-in-Label c = let h = label_kept (goal.at.overflow_add-spent-in-Label c).After-name_step c.in-Label.len c.in-Label.is in omega arith
 
 pub loop-len-smaller-in-Label : goal.loop-len-smaller-in-Label
-loop-len-smaller-in-Label c = let h = label_kept (goal.at.loop-len-smaller-in-Label c).In-Label in omega arith
+loop-len-smaller-in-Label c = let h = label_kept (goal.at.loop-len-smaller-in-Label c).After-name_step c.in-Label.len c.in-Label.is in omega arith
 
 pub loop-len-preserved-in-Label : goal.loop-len-preserved-in-Label
 loop-len-preserved-in-Label c =
     let a = c.args in
-    (_, name-label a.reply.now a.start c.loop-len.invariant.1 c.in-Label.len (taken (goal.at.loop-len-preserved-in-Label c).After-name_step _ c.in-Label.is) (label_kept (goal.at.loop-len-preserved-in-Label c).In-Label))
+    (_, name-label a.reply.now a.start c.loop-len.invariant.1 c.in-Label.len (taken (goal.at.loop-len-preserved-in-Label c).After-name_step _ c.in-Label.is) (label_kept (goal.at.loop-len-preserved-in-Label c).After-name_step c.in-Label.len c.in-Label.is))
 
 pub overflow_add-at-in-Pointer : goal.overflow_add-at-in-Pointer
-overflow_add-at-in-Pointer c = let h = pointer-kept (goal.at.overflow_add-at-in-Pointer c).In-Pointer in omega arith
+overflow_add-at-in-Pointer c = let h = pointer-kept (goal.at.overflow_add-at-in-Pointer c).After-name_step c.in-Pointer.aim c.in-Pointer.is in omega arith
 
 pub overflow_add-pointers : goal.overflow_add-pointers
-overflow_add-pointers c = let h = pointer-kept (goal.at.overflow_add-pointers c).In-Pointer in omega arith
+overflow_add-pointers c = let h = pointer-kept (goal.at.overflow_add-pointers c).After-name_step c.in-Pointer.aim c.in-Pointer.is in omega arith
 
 pub loop-len-smaller : goal.loop-len-smaller
-loop-len-smaller c = let h = pointer-kept (goal.at.loop-len-smaller c).In-Pointer in omega arith
+loop-len-smaller c = let h = pointer-kept (goal.at.loop-len-smaller c).After-name_step c.in-Pointer.aim c.in-Pointer.is in omega arith
 
 pub loop-len-preserved : goal.loop-len-preserved
 loop-len-preserved c =
@@ -87,7 +87,7 @@ loop-len-preserved c =
     let t : ℕ = c.in-Pointer.aim in (
       l.invariant.0,
       subst (NameLeft a.reply.now a.start l.invariant.0 t t l.spent (l.pointers + 1)) (sym c.field_end-next.ensures)
-          (name-pointer a.reply.now a.start l.invariant.1 t (taken (goal.at.loop-len-preserved c).After-name_step _ c.in-Pointer.is) (pointer-kept (goal.at.loop-len-preserved c).In-Pointer)),
+          (name-pointer a.reply.now a.start l.invariant.1 t (taken (goal.at.loop-len-preserved c).After-name_step _ c.in-Pointer.is) (pointer-kept (goal.at.loop-len-preserved c).After-name_step c.in-Pointer.aim c.in-Pointer.is)),
     )
 
 pub returns-in-Refused : goal.returns-in-Refused

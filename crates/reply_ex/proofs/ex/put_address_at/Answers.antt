@@ -14,24 +14,24 @@ use Rattle.reply.specs.Reply.{address_if}
 use Rattle.reply.proofs.Laws.Reply.{address-length}
 use borrow.Author.Rules.{rules}
 use Rattle.reply_ex.proofs.ex.put_address_at.Goals as goal
-use Rattle.reply_ex.proofs.ex.put_address_at.Goals.{Else-not-raw, Start}
+use Rattle.reply_ex.proofs.ex.put_address_at.Goals.{Else-not-raw}
 
-abbrev ipv4 : Start → List ℕ
+abbrev ipv4 : Else-not-raw → List ℕ
 ipv4 c = octets_at c.args.table.now c.args.request.now c.args.raw.«ipv4»
 
 asked : (c : Else-not-raw) → true ≡ c.args.raw.with_address
 asked c = sym (not-false c.args.raw.with_address c.if-not-raw.false)
 
-room : (c : Else-not-raw) → c.args.at + length (ipv4 c.before.before.before.before.before) + 13 ≤ length c.args.out.now
+room : (c : Else-not-raw) → c.args.at + length (ipv4 c) + 13 ≤ length c.args.out.now
 room c =
-    let e = ap (λ b. length (address_if b (ipv4 c.before.before.before.before.before))) (asked c) in
-    omega (arith, address-length (ipv4 c.before.before.before.before.before), c.requires)
+    let e = ap (λ b. length (address_if b (ipv4 c))) (asked c) in
+    omega (arith, address-length (ipv4 c), c.requires)
 
 pub returns-then-not-raw : goal.returns-then-not-raw
 returns-then-not-raw c =
     let a = c.args in
     let e : a.raw.with_address ≡ false = not-true a.raw.with_address c.if-not-raw.true in
-    rw e (sym (add-zero a.at), (laid_none a.at a.out.now (omega arith)).buffer)
+    rw e (record { value = sym (add-zero a.at); out_after = (laid_none a.at a.out.now (omega arith)).buffer })
 
 pub put_octets_at-at-requires : goal.put_octets_at-at-requires
 put_octets_at-at-requires c = omega (arith, room (goal.at.put_octets_at-at-requires c).Else-not-raw)
@@ -49,7 +49,7 @@ pub returns : goal.returns
 returns c =
     let b = c in
     let a = b.args in
-    let x : List ℕ = ipv4 (goal.at.returns b).Start in
+    let x : List ℕ = ipv4 (goal.at.returns b).Else-not-raw in
     let s = c.put_octets_at-at in
     let n = c.put_u32_at-at in
     let i = c.put_ipv4_at-at in

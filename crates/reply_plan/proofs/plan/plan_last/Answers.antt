@@ -45,7 +45,6 @@ returns c =
     let n = c.plan_name-name in
     let e : true ≡ a.with_next_site = sym (not-false a.with_next_site c.if-not-with_next_site.false-raw) in
     let r : Plan = record { «names» = set a.names 8 n.result; «length» = a.front + c.name_size.result + 8 } in
-    let g = c.well-formed in
     let l : 8 < length a.names = omega arith in
     subst (λ b. LastPlan T R a.names b a.next_site a.front r) e
     (last_planned T R a.names a.next_site a.front n.result c.name_size.result l n.ensures (taken (goal.at.returns c).After-name_size))

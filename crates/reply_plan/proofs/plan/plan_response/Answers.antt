@@ -27,7 +27,7 @@ returns c =
     let n = c.plan_names-planned in
     let head = o.result + g.result + 16 in
     let e : head ≡ length (response_head r) = omega (arith, response_head_length r, o.ensures, g.ensures) in
-    let l : length a.raw.«slots» ≡ 9 = simp length-map at s.well-formed.1.1.0.1.1.1.1.1.1.0.1.0.1 in
+    let l : length a.raw.«slots» ≡ 9 = omega arith in
     let w = slots_planned T R a.raw.«slots» 3 (length (response_head r)) head n.result (omega arith) e n.ensures in
     let p : ResponsePlan T R r n.result.«names» = record { fit = n.ensures.fit; writes = w } in
     record {

@@ -14,7 +14,7 @@ use Rattle.reply_plan.proofs.size.text_size.Goals.{After-slot_text}
 short : (c : After-slot_text) → length c.slot_text.result.now ≤ 255
 short c =
     let a = c.args in
-    omega (arith, ap length c.slot_text.ensures, stretch_short a.table.now a.request.now (get_or a.t3 a.slot no_stretch), c.requires.1)
+    omega (arith, ap length c.slot_text.ensures, stretch_short a.table.now a.request.now (get_or a.slots a.slot no_stretch), c.requires.1)
 
 pub offset_bounds-slots-slot : goal.offset_bounds-slots-slot
 offset_bounds-slots-slot c = omega arith
@@ -32,4 +32,4 @@ pub returns : goal.returns
 returns c =
     let a = c.args in
     let e = ap (λ (x : List ℕ). length (utf16 x)) c.slot_text.ensures in
-    (ap (λ (k : ℕ). k + 2) (c.utf16_size.ensures.0 ∙ e) ∙ sym (text-length (slot_text a.table.now a.request.now a.t3 a.slot)), omega (arith, short (goal.at.returns c).After-slot_text))
+    (ap (λ (k : ℕ). k + 2) (c.utf16_size.ensures.0 ∙ e) ∙ sym (text-length (slot_text a.table.now a.request.now a.slots a.slot)), omega (arith, short (goal.at.returns c).After-slot_text))
