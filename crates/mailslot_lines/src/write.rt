@@ -9,6 +9,8 @@ use line_words::words::{
 use mailslot::message::Message;
 use mailslot_write::write::write_message;
 use octets::part::part;
+use std::io;
+use std::io::Write;
 
 // The words by their numbers.
 const ROOM: usize = 1;
@@ -51,20 +53,30 @@ fn message_in(line: &[u8], source: &mut [u8]) -> Message {
     }
 }
 
-fn write_into(source: &[u8], message: Message, out: &mut [u8], room: usize)
+fn write_into<W: Write>(
+    to: &mut W,
+    source: &[u8],
+    message: Message,
+    out: &mut [u8],
+    room: usize,
+) -> io::Result<()>
     requires { room ≤ length out.old }
 {
     let start = 0;
     let written = write_message(source, message, &mut out[start..room]);
-    say_written(b"mailwrite", written, part(out, start, room));
+    say_written(to, b"mailwrite", written, part(out, start, room))
 }
 
-pub fn answer_mailwrite_line(line: &[u8], space: &mut [u8]) {
+pub fn answer_mailwrite_line<W: Write>(
+    to: &mut W,
+    line: &[u8],
+    space: &mut [u8],
+) -> io::Result<()> {
     if !is_room(word(line, ROOM)) | !are_fields(line) {
-        say_unknown();
-        return;
+        say_unknown(to)?;
+        return Ok(());
     }
     let message = message_in(line, space);
     let mut out = filled();
-    write_into(space, message, &mut out, room_of(word(line, ROOM)));
+    write_into(to, space, message, &mut out, room_of(word(line, ROOM)))
 }

@@ -7,6 +7,8 @@ use console::say::{say, say_hex};
 use line_words::words::{say_numbers, say_unknown, word};
 use octets::part::part;
 use reader_names::look::{Look, look_at};
+use std::io;
+use std::io::Write;
 
 // What the walk does at an offset it visits.
 #[derive(Drop)]
@@ -71,52 +73,52 @@ fn walk_from(reply: &[u8], start: usize) -> Found {
             WalkStep::Ends => return Found::Name { pointers, labels },
             WalkStep::Label(len) => {
                 at = at + 1 + len;
-                labels = std::num::wrapping_add_u64(labels, 1);
+                labels = labels.wrapping_add(1);
             }
             WalkStep::Pointer(aim) => {
                 run = aim;
                 at = aim;
-                pointers = std::num::wrapping_add_u64(pointers, 1);
+                pointers = pointers.wrapping_add(1);
             }
             WalkStep::Lost => return Found::Nothing,
         }
     }
 }
 
-fn say_labels(reply: &[u8], start: usize) {
+fn say_labels<W: Write>(to: &mut W, reply: &[u8], start: usize) -> io::Result<()> {
     let mut run = start;
     let mut at = start;
     loop {
         match walk_step(reply, run, at) {
-            WalkStep::Ends => return,
+            WalkStep::Ends => return Ok(()),
             WalkStep::Label(len) => {
-                say(b" ");
-                say_hex(part(reply, at + 1, len));
+                say(to, b" ")?;
+                say_hex(to, part(reply, at + 1, len))?;
                 at = at + 1 + len;
             }
             WalkStep::Pointer(aim) => {
                 run = aim;
                 at = aim;
             }
-            WalkStep::Lost => return,
+            WalkStep::Lost => return Ok(()),
         }
     }
 }
 
-fn say_walked(reply: &[u8], start: usize) {
+fn say_walked<W: Write>(to: &mut W, reply: &[u8], start: usize) -> io::Result<()> {
     match walk_from(reply, start) {
-        Found::Nothing => say(b"walk none"),
+        Found::Nothing => say(to, b"walk none"),
         Found::Name { pointers, labels } => {
             let numbers = [pointers, labels];
-            say_numbers(b"walk", &numbers);
-            say_labels(reply, start);
+            say_numbers(to, b"walk", &numbers)?;
+            say_labels(to, reply, start)
         }
     }
 }
 
-pub fn answer_walk(line: &[u8], reply: &[u8]) {
+pub fn answer_walk<W: Write>(to: &mut W, line: &[u8], reply: &[u8]) -> io::Result<()> {
     match decimal_of(word(line, 1)) {
-        Decimal::Bad => say_unknown(),
-        Decimal::Value(start) => say_walked(reply, start as usize),
+        Decimal::Bad => say_unknown(to),
+        Decimal::Value(start) => say_walked(to, reply, start as usize),
     }
 }

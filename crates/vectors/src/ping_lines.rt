@@ -11,19 +11,21 @@ use locator::{Answer, answer_number};
 use mailslot_answer::answer::answer_mailslot;
 use octets::part::part;
 use octets::text::same_octets;
+use std::io;
+use std::io::Write;
 use table::Caller;
 
-fn say_answer(kind: &[u8], answer: Answer, reply: &[u8]) {
+fn say_answer<W: Write>(to: &mut W, kind: &[u8], answer: Answer, reply: &[u8]) -> io::Result<()> {
     let members = answer_members(answer);
     let numbers = [
         answer_number(answer) as u64,
         members[0] as u64,
         members[1] as u64,
     ];
-    say_numbers(kind, &numbers);
-    say(b" ");
-    say(word(b"none nt40 response ex", members[2]));
-    say_octets(reply);
+    say_numbers(to, kind, &numbers)?;
+    say(to, b" ")?;
+    say(to, word(b"none nt40 response ex", members[2]))?;
+    say_octets(to, reply)
 }
 
 // The answer of the call that a kind of line is for.
@@ -40,19 +42,20 @@ fn answer_of<'a>(
     answer_mailslot(image, caller, octets, reply)
 }
 
-fn answer_into<'a>(
+fn answer_into<'a, W: Write>(
+    to: &mut W,
     kind: &[u8],
     image: &'a [u8],
     caller: Caller,
     octets: &'a [u8],
     reply: &mut [u8],
     room: usize,
-)
+) -> io::Result<()>
     requires { room ≤ length reply.old }
 {
     let start = 0;
     let answer = answer_of(kind, image, caller, octets, &mut reply[start..room]);
-    say_answer(kind, answer, part(reply, start, room));
+    say_answer(to, kind, answer, part(reply, start, room))
 }
 
 fn caller_of(text: &[u8]) -> Caller {
@@ -61,19 +64,25 @@ fn caller_of(text: &[u8]) -> Caller {
     Caller { address }
 }
 
-pub fn answer_ping_line<'a>(line: &[u8], image: &'a [u8], octets: &'a [u8]) {
+pub fn answer_ping_line<'a, W: Write>(
+    to: &mut W,
+    line: &[u8],
+    image: &'a [u8],
+    octets: &'a [u8],
+) -> io::Result<()> {
     let client = word(line, 1);
     if !is_four_octets(client) | !is_room(word(line, 3)) {
-        say_unknown();
-        return;
+        say_unknown(to)?;
+        return Ok(());
     }
     let mut reply = filled();
     answer_into(
+        to,
         word(line, 0),
         image,
         caller_of(client),
         octets,
         &mut reply,
         room_of(word(line, 3)),
-    );
+    )
 }

@@ -8,6 +8,8 @@ use line_words::text::{is_text, take_text};
 use line_words::words::{say_unknown, say_written, word};
 use octets::part::part;
 use octets::text::same_octets;
+use std::io;
+use std::io::Write;
 
 const ROOM: usize = 1;
 
@@ -56,23 +58,29 @@ fn request_in(line: &[u8], source: &mut [u8]) -> RequestWords {
     RequestWords::Request(request)
 }
 
-fn write_into(source: &[u8], request: Request, out: &mut [u8], room: usize)
+fn write_into<W: Write>(
+    to: &mut W,
+    source: &[u8],
+    request: Request,
+    out: &mut [u8],
+    room: usize,
+) -> io::Result<()>
     requires { room ≤ length out.old }
 {
     let start = 0;
     let written = write_filter(source, request, &mut out[start..room]);
-    say_written(b"write", written, part(out, start, room));
+    say_written(to, b"write", written, part(out, start, room))
 }
 
-pub fn answer_write(line: &[u8], space: &mut [u8]) {
+pub fn answer_write<W: Write>(to: &mut W, line: &[u8], space: &mut [u8]) -> io::Result<()> {
     if !is_room(word(line, ROOM)) {
-        say_unknown();
-        return;
+        say_unknown(to)?;
+        return Ok(());
     }
     let RequestWords::Request(request) = request_in(line, space) else {
-        say_unknown();
-        return;
+        say_unknown(to)?;
+        return Ok(());
     };
     let mut out = filled();
-    write_into(space, request, &mut out, room_of(word(line, ROOM)));
+    write_into(to, space, request, &mut out, room_of(word(line, ROOM)))
 }

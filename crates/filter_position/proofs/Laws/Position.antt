@@ -10,7 +10,7 @@ use lib.Dec.{eqb, ltb}
 use lib.ListN.{length, get_or}
 use Rattle.octets.specs.Lists.{cut}
 use Rattle.octets.specs.Number.{big}
-use Rattle.filter_position.specs.declared.position.ElementLength.TheVariants as length
+use Rattle.filter_position.specs.declared.position.ElementLength.TheVariants as element_length
 use Rattle.filter_position.specs.declared.position.Equality.TheVariants as equality
 use Rattle.filter_position.specs.declared.position.Filter.{Filter}
 use Rattle.filter_position.specs.declared.position.Filter.TheVariants as filter
@@ -42,15 +42,15 @@ ends-within tag start n end h = rw (le-leb (start + n) end h)
 
 module _ (s : List ℕ) (at end : ℕ) where
   -- a length by its first octet: how many more it takes, where the contents start, and how many there are
-  pub length_of_lem : (w start len : ℕ) → length_width (get_or s (at + 1) 0) ≡ some w → at + 2 + w ≡ start → length_value s (at + 1) w ≡ len → start ≤ end → length_at s at end ≡ length.Of start len
+  pub length_of_lem : (w start len : ℕ) → length_width (get_or s (at + 1) 0) ≡ some w → at + 2 + w ≡ start → length_value s (at + 1) w ≡ len → start ≤ end → length_at s at end ≡ element_length.Of start len
   unfolding length_at Option-elim
   length_of_lem w start len e q v h = rw (length_at, e, q, v, le-ltb end start h)
 
-  pub length_cut : (w : ℕ) → length_width (get_or s (at + 1) 0) ≡ some w → end < at + 2 + w → length_at s at end ≡ length.Wrong
+  pub length_cut : (w : ℕ) → length_width (get_or s (at + 1) 0) ≡ some w → end < at + 2 + w → length_at s at end ≡ element_length.Wrong
   unfolding length_at Option-elim
   length_cut w e h = rw (length_at, e, lt-ltb end (at + 2 + w) h)
 
-  pub length_none : length_width (get_or s (at + 1) 0) ≡ none → length_at s at end ≡ length.Wrong
+  pub length_none : length_width (get_or s (at + 1) 0) ≡ none → length_at s at end ≡ element_length.Wrong
   unfolding length_at Option-elim
   length_none e = rw (length_at, e)
 
@@ -65,11 +65,11 @@ module _ (s : List ℕ) (at end : ℕ) where
   unfolding element_at
   element-short h = rw (element_at, lt-ltb end (at + 2) h)
 
-  pub element_known : (start len : ℕ) → at + 2 ≤ end → length_at s at end ≡ length.Of start len → element_at s at end ≡ element_of (get_or s at 0) start len end
+  pub element_known : (start len : ℕ) → at + 2 ≤ end → length_at s at end ≡ element_length.Of start len → element_at s at end ≡ element_of (get_or s at 0) start len end
   unfolding element_at length_at Option-elim bind
   element_known start len h e = rw (element_at, le-ltb end (at + 2) h) (by (length_width (get_or s (at + 1) 0)) e)
     where
-      within : (w : ℕ) (t : Bool) → cond t length.Wrong (length.Of (at + 2 + w) (length_value s (at + 1) w)) ≡ length.Of start len
+      within : (w : ℕ) (t : Bool) → cond t element_length.Wrong (element_length.Of (at + 2 + w) (length_value s (at + 1) w)) ≡ element_length.Of start len
           → cond t none (element_of (get_or s at 0) (at + 2 + w) (length_value s (at + 1) w) end) ≡ element_of (get_or s at 0) start len end
       within w true q = let z : ◌≡◌ {A = ℕ} 0 1 = cc in absurd (omega arith)
       within w false q =
@@ -77,21 +77,21 @@ module _ (s : List ℕ) (at end : ℕ) where
           let n : length_value s (at + 1) w ≡ len = cc in
           rw (a, n)
 
-      by : (o : Option ℕ) → Option-elim o length.Wrong (λ w. cond (ltb end (at + 2 + w)) length.Wrong (length.Of (at + 2 + w) (length_value s (at + 1) w))) ≡ length.Of start len
+      by : (o : Option ℕ) → Option-elim o element_length.Wrong (λ w. cond (ltb end (at + 2 + w)) element_length.Wrong (element_length.Of (at + 2 + w) (length_value s (at + 1) w))) ≡ element_length.Of start len
           → bind o (λ w. cond (ltb end (at + 2 + w)) none (element_of (get_or s at 0) (at + 2 + w) (length_value s (at + 1) w) end)) ≡ element_of (get_or s at 0) start len end
       by none q = let z : ◌≡◌ {A = ℕ} 0 1 = cc in absurd (omega arith)
       by (some w) q = within w (ltb end (at + 2 + w)) q
 
-  pub element-unknown : at + 2 ≤ end → length_at s at end ≡ length.Wrong → element_at s at end ≡ none
+  pub element-unknown : at + 2 ≤ end → length_at s at end ≡ element_length.Wrong → element_at s at end ≡ none
   unfolding element_at length_at Option-elim bind
   element-unknown h e = rw (element_at, le-ltb end (at + 2) h) (by (length_width (get_or s (at + 1) 0)) e)
     where
-      within : (w : ℕ) (t : Bool) → cond t length.Wrong (length.Of (at + 2 + w) (length_value s (at + 1) w)) ≡ length.Wrong
+      within : (w : ℕ) (t : Bool) → cond t element_length.Wrong (element_length.Of (at + 2 + w) (length_value s (at + 1) w)) ≡ element_length.Wrong
           → cond t none (element_of (get_or s at 0) (at + 2 + w) (length_value s (at + 1) w) end) ≡ none
       within w true q = refl
       within w false q = let z : ◌≡◌ {A = ℕ} 0 1 = cc in absurd (omega arith)
 
-      by : (o : Option ℕ) → Option-elim o length.Wrong (λ w. cond (ltb end (at + 2 + w)) length.Wrong (length.Of (at + 2 + w) (length_value s (at + 1) w))) ≡ length.Wrong
+      by : (o : Option ℕ) → Option-elim o element_length.Wrong (λ w. cond (ltb end (at + 2 + w)) element_length.Wrong (element_length.Of (at + 2 + w) (length_value s (at + 1) w))) ≡ element_length.Wrong
           → bind o (λ w. cond (ltb end (at + 2 + w)) none (element_of (get_or s at 0) (at + 2 + w) (length_value s (at + 1) w) end)) ≡ none
       by none q = refl
       by (some w) q = within w (ltb end (at + 2 + w)) q

@@ -1,6 +1,6 @@
 -- What lies at a position, by the definitions of the filter.
 use Rattle.std.specs.Prelude.{◌≡◌, true, false, cond, List, [], ◌∷◌, ℕ, ◌+◌, ◌≤◌, ◌<◌, eqb, ltb, get_or}
-use Rattle.std.proofs.Math.Option.{Option, none, some, map, Option·elim}
+use Rattle.std.proofs.Math.Option.{Option, none, some, map, Option-elim}
 use Rattle.filter_position.specs.declared.position.Equality.{Equality}
 use Rattle.filter_position.specs.declared.position.Equality.TheVariants as equality
 use Rattle.filter_position.specs.declared.position.Filter.{Filter}
@@ -8,7 +8,7 @@ use Rattle.filter_position.specs.declared.position.Filter.TheVariants as filter
 use Rattle.filter_position.specs.declared.position.RawClause.{RawClause}
 use Rattle.filter_position.specs.declared.position.Position.{Position}
 use Rattle.filter_position.specs.declared.position.ElementLength.{ElementLength}
-use Rattle.filter_position.specs.declared.position.ElementLength.TheVariants as length
+use Rattle.filter_position.specs.declared.position.ElementLength.TheVariants as element_length
 use Rattle.filter_position.specs.declared.position.FilterRead.{FilterRead}
 use Rattle.filter_position.specs.declared.position.FilterRead.TheVariants as read
 use Rattle.filter_position.specs.declared.position.Tagged.{Tagged}
@@ -24,13 +24,13 @@ Inside n p = (p.at ≤ p.end) × (p.end ≤ n)
 
 unfoldable pub length_at : List ℕ → ℕ → ℕ → ElementLength
 length_at s at end =
-    Option·elim (length_width (get_or s (at + 1) 0)) length.Wrong (λ w.
-    cond (ltb end (at + 2 + w)) length.Wrong (length.Of (at + 2 + w) (length_value s (at + 1) w)))
+    Option-elim (length_width (get_or s (at + 1) 0)) element_length.Wrong (λ w.
+    cond (ltb end (at + 2 + w)) element_length.Wrong (element_length.Of (at + 2 + w) (length_value s (at + 1) w)))
 
 -- contents start past the tag and a length octet, and before the end of what is around; a length is of two octets at most
 abbrev pub LengthWithin : ℕ → ℕ → ElementLength → Type 0
-LengthWithin at end length.Wrong = Unit {0}
-LengthWithin at end (length.Of start len) = (at + 2 ≤ start) × (start ≤ end) × (len < 65536)
+LengthWithin at end element_length.Wrong = Unit {0}
+LengthWithin at end (element_length.Of start len) = (at + 2 ≤ start) × (start ≤ end) × (len < 65536)
 
 -- an element as the positions of its contents and of what comes after it
 
@@ -69,7 +69,7 @@ read_to rest none = read.Wrong
 read_to rest (some f) = read.Good f rest
 
 unfoldable pub filter_at : List ℕ → ℕ → ℕ → FilterRead
-filter_at s at end = Option·elim (element_at s at end) read.Wrong (λ e. read_to (record { at = e.next; end = end }) (filter_in s e))
+filter_at s at end = Option-elim (element_at s at end) read.Wrong (λ e. read_to (record { at = e.next; end = end }) (filter_in s e))
 
 abbrev pub FilterInside : ℕ → Filter → Type 0
 FilterInside n (filter.Clause f) = ClauseInside n f

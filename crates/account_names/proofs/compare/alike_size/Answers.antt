@@ -35,8 +35,8 @@ returns-then-points_alike c =
     let x = c.point_of_two.ensures in
     let y = c.point_of_two-then-are_below-2.ensures in
     points_alike p.a.now p.b.now p.i p.j 2 _ _
-    ((x.0 (x.1 alike.0) p.a.now p.i (stand_two p.a.now p.i _ _ (omega arith) refl c.octet_at.ensures below.0)).0 alike.0)
-    ((y.0 (y.1 alike.1) p.b.now p.j (stand_two p.b.now p.j _ _ (omega arith) refl c.octet_at-then-are_below-2.ensures below.1)).0 alike.1)
+    ((x.code_of (x.le_lead alike.0) p.a.now p.i (stand_two p.a.now p.i _ _ (omega arith) refl c.octet_at.ensures below.0)).0 alike.0)
+    ((y.code_of (y.le_lead alike.1) p.b.now p.j (stand_two p.b.now p.j _ _ (omega arith) refl c.octet_at-then-are_below-2.ensures below.1)).0 alike.1)
     alike.2
 
 pub returns-then-are_below-2 : goal.returns-then-are_below-2

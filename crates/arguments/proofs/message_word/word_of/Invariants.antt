@@ -6,4 +6,4 @@ abbrev pub invariant-loop-word : goal.invariant-loop-word
 invariant-loop-word l = Unit {0}
 
 abbrev pub decreases-loop-word : goal.decreases-loop-word
-decreases-loop-word l = 7 - word
+decreases-loop-word l = 7 - l.word

@@ -1,6 +1,4 @@
-use lib.ListN.{length}
-use Prim.Native.Nat.{◌-◌, ◌≤◌}
-use borrow.Author.Rules.{rules}
+use Rattle.std.proofs.Common.{length, ◌-◌, ◌≤◌}
 use Rattle.console.proofs.field.field_end.Given as goal
 
 abbrev pub invariant-loop-i : goal.invariant-loop-i

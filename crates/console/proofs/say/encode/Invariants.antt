@@ -1,8 +1,4 @@
-use lib.ListN.{length, length-set}
-use mathlib.Core.Path.{◌≡◌}
-use Prim.Native.Nat.{◌-◌, ◌*◌, ◌≤◌}
-use native.Mathlib.Omega.{arith}
-use borrow.Author.Rules.{rules}
+use Rattle.std.proofs.Common.{length, ◌-◌, ◌≤◌, ◌≡◌, ◌*◌}
 use Rattle.console.proofs.say.encode.Given as goal
 
 abbrev pub invariant-loop-i : goal.invariant-loop-i

@@ -3,9 +3,8 @@ use mathlib.Core.Bool.{not}
 use mathlib.Core.Option.{none, some}
 use Prim.Native.Nat.{ℕ}
 use native.Mathlib.Omega.{arith}
-use borrow.Author.Rules.{rules}
 use borrow.Author.Tests.{eq-eqb, ne_eqb}
-use lib.ListN.{length, set, length-set}
+use lib.ListN.{set, length-set}
 use Rattle.octets.specs.Lists.{cut}
 use Rattle.filter.specs.Internal.ClauseNames.{clause_name_at}
 use Rattle.filter_gather.specs.Internal.Gather.{name_spelled, added}

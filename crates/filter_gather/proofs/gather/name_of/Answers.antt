@@ -1,6 +1,5 @@
 use mathlib.Core.Path.{sym, ap, ◌∙◌}
 use Prim.Native.Nat.{◌≤◌, ◌<◌}
-use borrow.Author.Rules.{rules}
 use Rattle.filter.specs.Internal.ClauseNames.{clause_name_at}
 use Rattle.filter_gather.specs.declared.gather.SpelledName.TheVariants.{Known}
 use Rattle.filter_gather.specs.Internal.Gather.{spelled_as, name_spelled}

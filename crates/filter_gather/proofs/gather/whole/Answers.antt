@@ -1,5 +1,4 @@
 use mathlib.Core.Path.{sym, ap, ◌∙◌}
-use borrow.Author.Rules.{rules}
 use Rattle.filter_gather.specs.Internal.Gather.{gathered_from}
 use Rattle.filter_gather.specs.Internal.Seen.{decoded}
 use Rattle.filter_position.proofs.Laws.Position.{whole_wrong, whole-short, whole-filled}

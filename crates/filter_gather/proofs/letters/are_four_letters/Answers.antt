@@ -1,7 +1,6 @@
 use mathlib.Core.Path.{ap₂}
 use mathlib.Core.Bool.{◌&&◌}
 use Rattle.filter_gather.specs.Internal.Letters.{letters_at}
-use borrow.Author.Rules.{rules}
 use Rattle.filter_gather.proofs.letters.are_four_letters.Goals as goal
 
 pub returns : goal.returns

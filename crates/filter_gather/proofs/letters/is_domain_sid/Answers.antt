@@ -2,7 +2,6 @@ use mathlib.Core.Path.{sym, ap₂, ◌∙◌}
 use mathlib.Core.Bool.{◌&&◌}
 use Rattle.octets.specs.Text.{lower}
 use Rattle.filter_gather.proofs.Laws.Letters.{letters_three}
-use borrow.Author.Rules.{rules}
 use Rattle.filter_gather.proofs.letters.is_domain_sid.Goals as goal
 
 pub returns : goal.returns

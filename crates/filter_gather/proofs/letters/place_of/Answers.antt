@@ -2,7 +2,6 @@ use mathlib.Core.Path.{sym, ap, ◌∙◌}
 use mathlib.Core.Bool.{Bool, cond}
 use Rattle.octets.specs.Text.{lower}
 use Rattle.filter_gather.proofs.Laws.Letters.{placed_3, placed_4, placed_5, placed_9, placed_10, placed_11, placed_none}
-use borrow.Author.Rules.{rules}
 use Rattle.filter_gather.proofs.letters.place_of.Goals as goal
 
 pub returns-then-len-eq3 : goal.returns-then-len-eq3

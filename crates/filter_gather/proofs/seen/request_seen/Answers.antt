@@ -1,5 +1,4 @@
 use Rattle.filter_gather.specs.Internal.Seen.{decoded}
-use borrow.Author.Rules.{rules}
 use Rattle.filter_gather.proofs.seen.request_seen.Goals as goal
 
 pub returns : goal.returns
@@ -13,3 +12,4 @@ returns c = λ i. record {
   domain_sid = c.clause_seen-6.ensures i;
   domain_guid = c.clause_seen-7.ensures i;
   nt_ver = c.clause_seen-8.ensures i;
+}

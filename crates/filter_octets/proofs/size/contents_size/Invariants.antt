@@ -1,14 +1,8 @@
-use mathlib.Core.Path.{◌≡◌, ap, ◌∙◌}
+use mathlib.Core.Path.{◌≡◌}
 use Prim.Native.Nat.{◌+◌, ◌-◌, ◌≤◌, min}
-use native.Mathlib.Omega.{arith}
-use lib.ListN.{length, drop, get_or}
-use Rattle.filter.specs.declared.request.ClauseName.{ClauseName}
-use Rattle.filter.specs.declared.request.Clause.{Clause}
-use Rattle.filter.specs.declared.request.ClauseName.TheVariants.{NtVer}
-use Rattle.filter.specs.Request.{clause_names, clause, octets_of}
-use Rattle.filter_octets.specs.Octets.{equality_for}
+use lib.ListN.{length, drop}
+use Rattle.filter.specs.Request.{clause_names}
 use Rattle.filter_octets.specs.Internal.Size.{contents}
-use Rattle.filter_octets.proofs.Laws.Size.{contents-size-next, contents-end}
 use Rattle.filter_octets.proofs.size.contents_size.Given as goal
 
 abbrev pub invariant-loop-i : goal.invariant-loop-i

@@ -2,7 +2,6 @@ use mathlib.Core.Path.{refl, sym, ◌∙◌}
 use Prim.Native.Nat.{ℕ, ◌+◌}
 use native.Mathlib.Omega.{arith}
 use borrow.Author.Tests.{lt-ltb}
-use borrow.Author.Rules.{rules}
 use lib.ListN.{get_or}
 use Rattle.octets.proofs.Laws.Number.{big-one}
 use Rattle.filter_position.proofs.Laws.Position.{width_one, width_two, width_none, length_of_lem, length_cut, length_none, value-at}

@@ -1,18 +1,10 @@
-use mathlib.Core.Path.{◌≡◌, refl, sym, ap, ◌∙◌}
-use mathlib.Core.List.{List, [], ◌++◌}
-use Prim.Native.Nat.{ℕ, ◌+◌, ◌-◌, ◌≤◌}
-use native.Mathlib.Omega.{arith}
-use borrow.Author.Rules.{rules}
-use lib.ListN.{length, drop, take, get_or, length-take, length-drop, length-append}
+use mathlib.Core.Path.{◌≡◌}
+use mathlib.Core.List.{List, ◌++◌}
+use Prim.Native.Nat.{ℕ, ◌-◌, ◌≤◌}
+use lib.ListN.{length, drop}
 use Rattle.octets.specs.Buffer.{over}
-use Rattle.octets.proofs.Laws.Buffer.{over_none, over_lent, over-length}
-use Rattle.filter.specs.declared.request.Clause.{Clause}
-use Rattle.filter.specs.declared.request.ClauseName.{ClauseName}
-use Rattle.filter.specs.declared.request.ClauseName.TheVariants.{NtVer}
-use Rattle.filter.specs.Request.{clause_names, clause, octets_of}
-use Rattle.filter_octets.specs.Octets.{equality_for}
+use Rattle.filter.specs.Request.{clause_names}
 use Rattle.filter_octets.specs.Internal.Size.{contents}
-use Rattle.filter_octets.proofs.Laws.Size.{written_next, written-within, written_fits, written_all}
 use Rattle.filter_put.proofs.put.put_clauses.Given as goal
 
 abbrev pub invariant-loop-i : goal.invariant-loop-i

@@ -3,7 +3,6 @@ use mathlib.Core.List.{List}
 use mathlib.Core.Option.{Option, some}
 use Prim.Native.Nat.{ℕ, ◌+◌}
 use native.Mathlib.Omega.{arith}
-use borrow.Author.Rules.{rules}
 use lib.ListN.{length}
 use Rattle.octets.specs.Buffer.{over}
 use Rattle.octets.proofs.Laws.Buffer.{over_none}
@@ -37,7 +36,7 @@ module _ (c : After-element_size-2) where
 pub returns-in_default : goal.returns-in_default
 returns-in_default c =
     let p = c.args in
-    rw c.in_default.is (refl, sym (over_none p.out.now))
+    rw c.in_default.is (record { value = refl; out_after = sym (over_none p.out.now) })
 
 pub put_pair-requires : goal.put_pair-requires
 put_pair-requires c =

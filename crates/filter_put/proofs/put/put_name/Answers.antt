@@ -2,7 +2,6 @@ use mathlib.Core.Path.{◌≡◌, ap, ◌∙◌}
 use mathlib.Core.List.{List}
 use Prim.Native.Nat.{ℕ}
 use native.Mathlib.Omega.{arith}
-use borrow.Author.Rules.{rules}
 use lib.ListN.{length}
 use Rattle.octets.specs.Buffer.{over}
 use Rattle.filter_position.specs.Filter.{string_tag}
@@ -26,6 +25,6 @@ returns c =
     let e = spelled (goal.at.returns c).After-part in
     let w = c.put_string.ensures in
     record {
-      value = w.0 ∙ ap (λ (x : List ℕ). element_size (length x)) e;
-      out_after = w.1 ∙ ap (λ (x : List ℕ). over (element string_tag x) c.args.out.now) e;
+      value = w.value ∙ ap (λ (x : List ℕ). element_size (length x)) e;
+      out_after = w.out_after ∙ ap (λ (x : List ℕ). over (element string_tag x) c.args.out.now) e;
     }

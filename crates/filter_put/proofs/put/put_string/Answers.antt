@@ -1,6 +1,5 @@
 use mathlib.Core.Path.{sym, ap, ◌∙◌}
 use Prim.Native.Nat.{ℕ, ◌+◌}
-use borrow.Author.Rules.{rules}
 use lib.ListN.{length}
 use Rattle.lent.proofs.Laws.OverAt.{laid_over, laid_more, over_laid}
 use Rattle.filter_position.specs.Filter.{string_tag}

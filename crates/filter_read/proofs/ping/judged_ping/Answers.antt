@@ -12,7 +12,6 @@ use Rattle.filter_gather.specs.Internal.Seen.{decoded}
 use Rattle.filter_read.specs.Internal.WrongValue.{wrong_number, wrong_user}
 use Rattle.filter_read.specs.Value.{wrong_value_lem, version_asked, ping_in}
 use Rattle.filter_read.proofs.Laws.WrongValue.{version-right, aac-right}
-use borrow.Author.Rules.{rules}
 use Rattle.filter_read.proofs.ping.judged_ping.Goals as goal
 use Rattle.filter_read.proofs.ping.judged_ping.Goals.{After-has_wrong_value}
 

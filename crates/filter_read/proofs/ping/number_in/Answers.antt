@@ -1,5 +1,4 @@
 use borrow.Author.Tests.{not-false}
-use borrow.Author.Rules.{rules}
 use Rattle.filter_read.proofs.ping.number_in.Goals as goal
 
 pub clause_number-requires : goal.clause_number-requires

@@ -1,5 +1,4 @@
 use mathlib.Core.Path.{◌≡◌, refl, sym, ap, ◌∙◌}
-use borrow.Author.Rules.{rules}
 use Rattle.answers.specs.Try.{Try, ◌>>=◌}
 use Rattle.filter.specs.declared.request.Request.{Request}
 use Rattle.filter_gather.specs.Internal.Seen.{decoded}
@@ -11,9 +10,9 @@ use Rattle.filter_read.proofs.ping.read_ping.Goals.{After-read_clauses}
 
 -- what reading the filter gives, once it is known what was gathered
 told : (c : After-read_clauses) (x : ClausesRead) → c.read_clauses.result ≡ x
-    → (request_read x (decoded c.read_clauses.new.seen.0) >>= ping_in c.args.filter.now) ≡ ping_from c.args.filter.now
+    → (request_read x (decoded c.read_clauses.new.seen) >>= ping_in c.args.filter.now) ≡ ping_from c.args.filter.now
 unfolding ping_from
-told c x e = ap (λ (t : Try Request). t >>= ping_in c.args.filter.now) (sym (c.read_clauses.ensures ∙ ap (λ (y : ClausesRead). request_read y (decoded c.read_clauses.new.seen.0)) e))
+told c x e = ap (λ (t : Try Request). t >>= ping_in c.args.filter.now) (sym (c.read_clauses.ensures ∙ ap (λ (y : ClausesRead). request_read y (decoded c.read_clauses.new.seen)) e))
 
 pub read_clauses-requires : goal.read_clauses-requires
 unfolding decoded

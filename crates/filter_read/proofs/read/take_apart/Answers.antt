@@ -1,5 +1,4 @@
 use mathlib.Core.Path.{◌≡◌, refl, sym, ap, ◌∙◌}
-use borrow.Author.Rules.{rules}
 use Rattle.filter_gather.specs.Internal.Seen.{decoded}
 use Rattle.filter_read.specs.declared.clauses.ClausesRead.{ClausesRead}
 use Rattle.filter_read.specs.declared.read.Taken.TheVariants as taken
@@ -10,8 +9,8 @@ use Rattle.filter_read.proofs.read.take_apart.Goals as goal
 use Rattle.filter_read.proofs.read.take_apart.Goals.{After-read_clauses}
 
 -- what taking the filter apart gives, once it is known what was read
-told : (c : After-read_clauses) (x : ClausesRead) → c.read_clauses.result ≡ x → taken_as (request_read x (decoded c.read_clauses.new.seen.0)) ≡ taken_as (request_in c.args.s.now)
-told c x e = sym (ap taken_as c.read_clauses.ensures ∙ ap (λ (y : ClausesRead). taken_as (request_read y (decoded c.read_clauses.new.seen.0))) e)
+told : (c : After-read_clauses) (x : ClausesRead) → c.read_clauses.result ≡ x → taken_as (request_read x (decoded c.read_clauses.new.seen)) ≡ taken_as (request_in c.args.s.now)
+told c x e = sym (ap taken_as c.read_clauses.ensures ∙ ap (λ (y : ClausesRead). taken_as (request_read y (decoded c.read_clauses.new.seen))) e)
 
 pub read_clauses-requires : goal.read_clauses-requires
 unfolding decoded

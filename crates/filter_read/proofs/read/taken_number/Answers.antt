@@ -1,6 +1,5 @@
 use Rattle.filter_read.specs.Taken.{taken_number}
 use mathlib.Core.Path.{◌∙◌, ap, sym}
-use borrow.Author.Rules.{rules}
 use Rattle.filter_read.proofs.read.taken_number.Goals as goal
 
 pub returns-in-Refused : goal.returns-in-Refused

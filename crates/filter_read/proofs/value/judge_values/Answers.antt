@@ -1,7 +1,6 @@
 use mathlib.Core.Path.{◌≡◌, sym, ap, ◌∙◌}
 use mathlib.Core.Bool.{false}
 use borrow.Author.Tests.{not-false}
-use borrow.Author.Rules.{rules}
 use Rattle.filter_read.specs.declared.value.Judged.TheVariants.{Version}
 use Rattle.filter_read.specs.Value.{wrong_value_lem, version_asked, ping_in}
 use Rattle.filter_read.proofs.Laws.Value.{judge_values_promised}

@@ -1,6 +1,5 @@
 use mathlib.Core.Path.{ap₂}
 use mathlib.Core.Bool.{◌||◌}
-use borrow.Author.Rules.{rules}
 use Rattle.filter_read.proofs.wrong_value.has_wrong_value.Goals as goal
 
 pub returns : goal.returns

@@ -2,7 +2,6 @@ use mathlib.Core.Path.{ap, ◌∙◌}
 use mathlib.Core.Bool.{not}
 use mathlib.Core.List.{List}
 use Prim.Native.Nat.{ℕ}
-use borrow.Author.Rules.{rules}
 use Rattle.unicode_text.specs.UserName.{is_user_name}
 use Rattle.filter_read.proofs.wrong_value.is_wrong_user.Goals as goal
 

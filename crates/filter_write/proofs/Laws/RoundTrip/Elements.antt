@@ -10,7 +10,7 @@ use lib.ListN.{length, get_or, take, drop, length-append}
 use lib.Seq.{get_or-drop, drop-drop, drop-append_seam, take-append_seam}
 use Rattle.octets.specs.Lists.{cut}
 use Rattle.octets.specs.Number.{little, big}
-use Rattle.filter_position.specs.declared.position.ElementLength.TheVariants as length
+use Rattle.filter_position.specs.declared.position.ElementLength.TheVariants as element_length
 use Rattle.filter_position.specs.declared.position.RawClause.{RawClause}
 use Rattle.filter.specs.declared.request.ClauseName.{ClauseName}
 use Rattle.filter.specs.Request.{spelling}
@@ -49,10 +49,10 @@ module _ (s : List ℕ) (at end tag : ℕ) (xs rest : List ℕ) (here : drop at 
       (octet s (tag ∷ first ∷ (more ++ (xs ++ rest))) at 1 d, after s (tag ∷ first ∷ []) (more ++ (xs ++ rest)) at 2 d refl)
 
   -- the length is read as it was written
-  pub length_back : n < 65536 → at + head_size n ≤ end → length_at s at end ≡ length.Of (at + head_size n) n
+  pub length_back : n < 65536 → at + head_size n ≤ end → length_at s at end ≡ element_length.Of (at + head_size n) n
   unfolding big little
   length_back below fits =
-      by_size n (length_at s at end ≡ length.Of (at + head_size n) n)
+      by_size n (length_at s at end ≡ element_length.Of (at + head_size n) n)
       (λ h.
       let o = by_octets n [] (octets-one n h) in
       let w : length_width (get_or s (at + 1) 0) ≡ some 0 = ap length_width o.0 ∙ rw (lt-ltb n 0x80 h) in

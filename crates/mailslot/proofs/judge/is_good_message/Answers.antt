@@ -7,12 +7,10 @@ use Rattle.mailslot.proofs.judge.is_good_message.Goals as goal
 
 pub returns : goal.returns
 returns c =
-    let start = c in
-    let a = start.args in
-    let fields = start.well-formed.1.0 in
+    let a = c.args in
     rw (
       c.is_computer_name.ensures ∙ ap is_computer_name c.part.ensures,
       c.is_message_user.ensures ∙ ap is_message_user c.part-2.ensures,
       c.is_mailslot_name.ensures ∙ ap is_mailslot_name c.part-3.ensures,
       c.is_message_sid.ensures ∙ ap is_message_sid c.part-4.ensures,
-    ) (good_by_parts a.source.now a.message (omega arith) (omega (arith, fields.1.1.1.1.0)) (omega (arith, fields.1.1.1.1.1.1)))
+    ) (good_by_parts a.source.now a.message (omega arith) (omega arith) (omega arith))

@@ -25,7 +25,7 @@ module _ (c : Start) where
 
 -- the SID that is written, at the offset where it is
 module _ (c : After-stretch_octets) where
-  padded-is : padded_sid c.put_head-at.result c.stretch_octets.result.now ≡ padded c.before.before.before.before.before.before.before.before.before
+  padded-is : padded_sid c.put_head-at.result c.stretch_octets.result.now ≡ padded_sid (length (message_head c.args.source.now c.args.message)) (stretch_of c.args.source.now c.args.message.sid)
   padded-is = ap₂ padded_sid c.put_head-at.ensures.value c.stretch_octets.ensures
 
 pub put_head-at-requires : goal.put_head-at-requires

@@ -26,7 +26,7 @@ judged : (c : After-record_layout)
     ≡ c.record_layout.result
 judged c =
     let p = c.args in
-    ap (λ (w : ℕ). record_layout p.kind (cut p.b.now (w * c.loop-i.i) w)) (sym (width_is c.before.before.before.before))
+    ap (λ (w : ℕ). record_layout p.kind (cut p.b.now (w * c.loop-i.i) w)) (sym (ap (λ (f : RecordFormat). f.width) c.format_of-format.ensures))
     ∙ ap (record_layout p.kind) (sym c.part.ensures)
     ∙ sym c.record_layout.ensures
 

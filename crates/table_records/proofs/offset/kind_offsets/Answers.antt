@@ -36,7 +36,7 @@ loop-i-preserved-then-kind_of-kind c =
     let l = c.loop-i in
     let add = c.add_offsets-count in
     let e = sym (c.kind_of.ensures ∙ ap (λ (b : List ℕ). get_or b 0 0) c.block_at.ensures) ∙ c.if-kind_of-kind.true in
-    (add.auto.1.1.1.1.0 ∙ l.invariant.0, omega arith, omega (arith, one_more a.n l.i, add.ensures.upper_bound, l.invariant.2), step_in a.kind a.n a.w a.image.now l.i (omega arith) (take l.count l.out) _ (omega arith) (eq-eqb _ _ e) add.ensures.out_after ∙ l.invariant.3)
+    (add.auto.out ∙ l.invariant.0, omega arith, omega (arith, one_more a.n l.i, add.ensures.upper_bound, l.invariant.2), step_in a.kind a.n a.w a.image.now l.i (omega arith) (take l.count l.out) _ (omega arith) (eq-eqb _ _ e) add.ensures.out_after ∙ l.invariant.3)
 
 pub loop-i-preserved : goal.loop-i-preserved
 loop-i-preserved c =

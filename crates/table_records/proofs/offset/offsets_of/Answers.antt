@@ -15,6 +15,6 @@ returns c =
     let a = c.args in
     let done = rw c.format_of-format.ensures at c.kind_offsets.ensures in
     record {
-      out_after = done.0 ∙ used_records a.kind (blocks_of a.image.now);
-      upper_bound = done.1;
+      out_after = done.out_after ∙ used_records a.kind (blocks_of a.image.now);
+      upper_bound = done.upper_bound;
     }

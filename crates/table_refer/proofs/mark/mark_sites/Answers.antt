@@ -43,7 +43,7 @@ loop-left-preserved c =
     let l = c.loop-left in
     let at = c in
     let m = c.mark in
-    (omega arith, m.auto.0 ∙ l.invariant.1, subst (λ (s : List ℕ). Seen s a.image.now a.sites.now (l.left - 1)) (sym m.ensures) (seen_once l.marks a.image.now a.sites.now (l.left - 1) at.number-number.result (omega arith) (number (goal.at.loop-left-preserved at).After-number-number) (seen (goal.at.loop-left-preserved at).After-number-number) (sym c.is_marked.ensures ∙ c.if-is_marked.false) (omega arith)))
+    (omega arith, m.auto.marks ∙ l.invariant.1, subst (λ (s : List ℕ). Seen s a.image.now a.sites.now (l.left - 1)) (sym m.ensures) (seen_once l.marks a.image.now a.sites.now (l.left - 1) at.number-number.result (omega arith) (number (goal.at.loop-left-preserved at).After-number-number) (seen (goal.at.loop-left-preserved at).After-number-number) (sym c.is_marked.ensures ∙ c.if-is_marked.false) (omega arith)))
 
 pub returns : goal.returns
 returns c =

@@ -9,4 +9,4 @@ returns-then-accounts-lt2 c = few-unique _ _ c.if-accounts-lt2.true
 
 pub are_unique-requires : goal.are_unique-requires
 unfolding fold_pairs fold_from fold_table_lem
-are_unique-requires c κs e = refl
+are_unique-requires c e = refl

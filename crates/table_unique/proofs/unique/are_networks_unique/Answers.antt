@@ -5,4 +5,4 @@ use borrow.Author.Rules.{rules}
 use Rattle.table_unique.proofs.unique.are_networks_unique.Goals as goal
 
 pub are_unique-requires : goal.are_unique-requires
-are_unique-requires c κs e = absurd (let z : ◌≡◌ {A = ℕ} 0 1 = cc in omega arith)
+are_unique-requires c e = absurd (let z : ◌≡◌ {A = ℕ} 0 1 = cc in omega arith)

@@ -19,7 +19,7 @@ are_sites_referred-requires c =
     let m = c.mark_sites in
     record {
       block_size_in_bounds = (s.requires.0, s.requires.1);
-      all_of = (s.requires.2, site_marks s.args.image.now s.args.sites.now s.requires.2 m.new.marks.1.0 m.auto.1.1.0 (m.ensures.marked (not-false _ c.if-not-mark_sites.false-raw)));
+      all_of = (s.requires.2, site_marks s.args.image.now s.args.sites.now s.requires.2 m.new.marks m.auto.marks (m.ensures.marked (not-false _ c.if-not-mark_sites.false-raw)));
     }
 
 pub returns : goal.returns

@@ -5,9 +5,9 @@ use borrow.Author.Rules.{rules}
 use Rattle.table_whole.proofs.whole.are_subnets_unique.Goals as goal
 
 pub slice_bounds-are_networks_unique-end : goal.slice_bounds-are_networks_unique-end
-slice_bounds-are_networks_unique-end c = let o = c.offsets_of-count in found_count o.result 5376 o.new.out.1.0 o.auto.1.1.0 o.ensures.upper_bound
+slice_bounds-are_networks_unique-end c = let o = c.offsets_of-count in found_count o.result 5376 o.new.out o.auto.out o.ensures.upper_bound
 
 pub returns : goal.returns
 returns c =
     let o = c.offsets_of-count in
-    c.are_networks_unique.ensures ∙ subnets-unique c.args.image.now (take o.result o.new.out.1.0) o.ensures.out_after
+    c.are_networks_unique.ensures ∙ subnets-unique c.args.image.now (take o.result o.new.out) o.ensures.out_after

@@ -7,18 +7,18 @@ use Rattle.table_whole.proofs.whole.is_context_half_good.Goals as goal
 use Rattle.table_whole.proofs.whole.is_context_half_good.Goals.{After-offsets_of-count}
 
 -- how many were found
-count : (c : After-offsets_of-count) → c.offsets_of-count.result ≡ length (take c.offsets_of-count.result c.offsets_of-count.new.out.1.0)
-count c = let o = c.offsets_of-count in found_count o.result 128 o.new.out.1.0 o.auto.1.1.0 o.ensures.upper_bound
+count : (c : After-offsets_of-count) → c.offsets_of-count.result ≡ length (take c.offsets_of-count.result c.offsets_of-count.new.out)
+count c = let o = c.offsets_of-count in found_count o.result 128 o.new.out o.auto.out o.ensures.upper_bound
 
 pub returns-then-count-eq0 : goal.returns-then-count-eq0
 returns-then-count-eq0 c =
     let o = c.offsets_of-count in
-    no_context c.args.image.now (take o.result o.new.out.1.0) o.ensures.out_after (sym (count (goal.at.returns-then-count-eq0 c).After-offsets_of-count) ∙ c.if-count-eq0.true)
+    no_context c.args.image.now (take o.result o.new.out) o.ensures.out_after (sym (count (goal.at.returns-then-count-eq0 c).After-offsets_of-count) ∙ c.if-count-eq0.true)
 
 pub returns-then-count-gt16 : goal.returns-then-count-gt16
 returns-then-count-gt16 c =
     let o = c.offsets_of-count in
-    many-contexts c.args.image.now (take o.result o.new.out.1.0) o.ensures.out_after (subst (λ (n : ℕ). 16 < n) (count (goal.at.returns-then-count-gt16 c).After-offsets_of-count) c.if-count-gt16.true)
+    many-contexts c.args.image.now (take o.result o.new.out) o.ensures.out_after (subst (λ (n : ℕ). 16 < n) (count (goal.at.returns-then-count-gt16 c).After-offsets_of-count) c.if-count-gt16.true)
 
 pub slice_bounds-are_contexts_good-end : goal.slice_bounds-are_contexts_good-end
 slice_bounds-are_contexts_good-end c = count (goal.at.slice_bounds-are_contexts_good-end c).After-offsets_of-count
@@ -27,4 +27,4 @@ pub returns : goal.returns
 returns c =
     let o = c.offsets_of-count in
     c.are_contexts_good.ensures
-    ∙ some-contexts c.args.image.now (take o.result o.new.out.1.0) o.ensures.out_after (λ z. c.if-count-eq0.false (count (goal.at.returns c).After-offsets_of-count ∙ z)) (subst (λ (n : ℕ). n ≤ 16) (count (goal.at.returns c).After-offsets_of-count) c.if-count-gt16.false)
+    ∙ some-contexts c.args.image.now (take o.result o.new.out) o.ensures.out_after (λ z. c.if-count-eq0.false (count (goal.at.returns c).After-offsets_of-count ∙ z)) (subst (λ (n : ℕ). n ≤ 16) (count (goal.at.returns c).After-offsets_of-count) c.if-count-gt16.false)

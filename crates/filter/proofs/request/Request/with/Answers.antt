@@ -1,4 +1,3 @@
-use borrow.Author.Rules.{rules}
 use Rattle.octets.specs.Text.{same, lower}
 use Rattle.filter.proofs.request.Request.with.Goals as goal
 

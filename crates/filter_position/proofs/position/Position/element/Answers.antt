@@ -1,7 +1,6 @@
 use mathlib.Core.Path.{refl, sym, ap, ◌∙◌}
 use Prim.Native.Nat.{◌+◌, ◌≤◌}
 use native.Mathlib.Omega.{arith}
-use borrow.Author.Rules.{rules}
 use lib.ListN.{get_or}
 use Rattle.filter_position.specs.Internal.Position.{tagged_as}
 use Rattle.filter_position.proofs.Laws.Position.{element-short, element_known, element-unknown, ends-past, ends-within}

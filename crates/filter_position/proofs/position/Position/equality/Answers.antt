@@ -2,7 +2,6 @@ use mathlib.Core.Path.{◌≡◌, sym, ap₂, ◌∙◌}
 use mathlib.Core.Option.{none, some, bind}
 use native.Mathlib.Omega.{arith}
 use borrow.Author.Tests.{eq-eqb, ne_eqb}
-use borrow.Author.Rules.{rules}
 use Rattle.filter_position.specs.Filter.{element_at, equality}
 use Rattle.filter_position.proofs.Laws.Position.{tagged_none, tagged_some}
 use Rattle.filter_position.proofs.position.Position.equality.Goals as goal
@@ -22,12 +21,13 @@ value-at c =
     let w = rw c.in-Element.is at c.element.ensures.tagged_within in
     ap₂ (element_at c.args.s.now) w.2 (sym w.4)
 
--- the value, as the definition has it
-value-seen : (c : In-Element-element) → element_at c.args.s.now c.in-Element.inside.end c.args.self.end
+-- the value, as the definition has it, where it stands where the name ends
+value-seen : (c : In-Element-element) → element_at c.args.s.now c.in-Element.inside.end c.args.self.end ≡ element_at c.args.s.now c.in-Element.rest.at c.in-Element.rest.end
+    → element_at c.args.s.now c.in-Element.inside.end c.args.self.end
     ≡ some (record { tag = c.in-Element-element.value_tag; start = c.in-Element-element.value.at; next = c.in-Element-element.value.end })
-value-seen c =
-    let g = c.value_tag-1.given in
-    value-at c.befo.rest.end (element_at c.args.s.now c.in-Element.rest.at c.in-Element.rest.end) c.in-Element-element.value_tag c.in-Element-element.value c.in-Element-element.after (sym c.element-2.ensures.value ∙ c.in-Element-element.is)
+value-seen c e =
+    e
+    ∙ tagged_some c.in-Element.rest.end (element_at c.args.s.now c.in-Element.rest.at c.in-Element.rest.end) c.in-Element-element.value_tag c.in-Element-element.value c.in-Element-element.after (sym c.element-2.ensures.value ∙ c.in-Element-element.is)
 
 pub returns-in_default : goal.returns-in_default
 unfolding equality bind
@@ -69,7 +69,7 @@ pub returns-then-value_tag-ne-STRING_TAG : goal.returns-then-value_tag-ne-STRING
 unfolding equality bind
 returns-then-value_tag-ne-STRING_TAG c =
     let e = name-seen (goal.at.returns-then-value_tag-ne-STRING_TAG c).Else-tag-ne-STRING_TAG in
-    let v = value-seen (goal.at.returns-then-value_tag-ne-STRING_TAG c).In-Element-element in
+    let v = value-seen (goal.at.returns-then-value_tag-ne-STRING_TAG c).In-Element-element (value-at (goal.at.returns-then-value_tag-ne-STRING_TAG c).Else-tag-ne-STRING_TAG) in
     record {
       value = rw (equality, e, eq-eqb _ _ c.if-tag-ne-STRING_TAG.false, v, ne_eqb _ _ c.if-value_tag-ne-STRING_TAG.true);
       equality_within = tt;
@@ -82,7 +82,7 @@ returns-then-after-end c =
     let w = rw c.in-Element-element.is at c.element-2.ensures.tagged_within in
     let n : c.in-Element-element.value.end ≡ p.self.end → ⊥ = λ q. c.if-after-end.true (sym w.2 ∙ q) in
     record {
-      value = rw (equality, name-seen (goal.at.returns-then-after-end c).Else-tag-ne-STRING_TAG, eq-eqb _ _ c.if-tag-ne-STRING_TAG.false, value-seen (goal.at.returns-then-after-end c).In-Element-element, eq-eqb _ _ c.if-value_tag-ne-STRING_TAG.false, ne_eqb _ _ n);
+      value = rw (equality, name-seen (goal.at.returns-then-after-end c).Else-tag-ne-STRING_TAG, eq-eqb _ _ c.if-tag-ne-STRING_TAG.false, value-seen (goal.at.returns-then-after-end c).In-Element-element (value-at (goal.at.returns-then-after-end c).Else-tag-ne-STRING_TAG), eq-eqb _ _ c.if-value_tag-ne-STRING_TAG.false, ne_eqb _ _ n);
       equality_within = tt;
     }
 
@@ -104,6 +104,6 @@ returns c =
     let n : c.in-Element-element.value.end ≡ p.self.end = w.2 ∙ c.if-after-end.false in
     let a = rw c.in-Element.is at c.element.ensures.tagged_within in
     record {
-      value = rw (equality, name-seen (goal.at.returns c).Else-tag-ne-STRING_TAG, eq-eqb _ _ c.if-tag-ne-STRING_TAG.false, value-seen (goal.at.returns c).In-Element-element, eq-eqb _ _ c.if-value_tag-ne-STRING_TAG.false, eq-eqb _ _ n);
+      value = rw (equality, name-seen (goal.at.returns c).Else-tag-ne-STRING_TAG, eq-eqb _ _ c.if-tag-ne-STRING_TAG.false, value-seen (goal.at.returns c).In-Element-element (value-at (goal.at.returns c).Else-tag-ne-STRING_TAG), eq-eqb _ _ c.if-value_tag-ne-STRING_TAG.false, eq-eqb _ _ n);
       equality_within = (omega arith, omega arith, omega arith);
     }

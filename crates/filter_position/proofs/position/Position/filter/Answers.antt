@@ -1,6 +1,5 @@
 use mathlib.Core.Path.{sym, ◌∙◌}
 use native.Mathlib.Omega.{arith}
-use borrow.Author.Rules.{rules}
 use Rattle.filter_position.proofs.Laws.Position.{filter_none, filter-clause, filter_wrong, filter_other, filter_and}
 use Rattle.filter_position.proofs.position.Position.filter.Goals as goal
 
