@@ -7,6 +7,10 @@ use Rattle.names.specs.Internal.Plan.{empty_stretch}
 use borrow.Author.Rules.{rules}
 use Rattle.bench.proofs.name_texts.Goals as goal
 
+-- texts whose stretches are short, one after the other
+record Short (texts : List Stretch) : Type 0 where
+  short : (k : ℕ) → (get_or texts k empty_stretch).«len» ≤ 255
+
 none-short : Short []
 none-short = record { short = λ k. omega arith }
 

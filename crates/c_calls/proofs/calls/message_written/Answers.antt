@@ -11,12 +11,16 @@ returns-in-Message c =
     let written = c.write_message.ensures in
     let e = rw given at written in
     record {
-      value = e.0.same;
-      write_message_leaves = e.1;
+      value = e.write_message_returns.same;
+      write_message_leaves = e.write_message_leaves;
     }
 
 pub returns-in-Wide : goal.returns-in-Wide
 returns-in-Wide c =
     let a = c.args in
     let wide = subst (GivenBy a.members.now) c.in-Wide.is c.message_given.ensures in
-    bad_unwritten a.source.now (message_of a.members.now) a.out.now (wide a.source.now)
+    let w = bad_unwritten a.source.now (message_of a.members.now) a.out.now (wide a.source.now) in
+    record {
+      value = w.0;
+      write_message_leaves = w.1;
+    }

@@ -7,4 +7,8 @@ pub returns : goal.returns
 returns c =
     let written = c.write_filter-written.ensures in
     let e = rw c.request_of.ensures at written in
-    (c.written_number.ensures ∙ ap written_number e.0.same, (c.written_length.ensures ∙ ap written_length e.0.same, e.1))
+    record {
+      value = c.written_number.ensures ∙ ap written_number e.write_filter_returns.same;
+      length_after = c.written_length.ensures ∙ ap written_length e.write_filter_returns.same;
+      write_filter_leaves = e.write_filter_leaves;
+    }

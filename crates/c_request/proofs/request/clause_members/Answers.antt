@@ -1,6 +1,5 @@
 use mathlib.Core.Path.{ap, sym}
 use Rattle.c_request.specs.Request.{clause_members}
-use borrow.Author.Rules.{rules}
 use Rattle.c_request.proofs.request.clause_members.Goals as goal
 
 pub returns-in-Absent : goal.returns-in-Absent

@@ -1,6 +1,5 @@
 use mathlib.Core.Path.{ap, sym, ◌∙◌}
 use Rattle.c_request.specs.Request.{taken_members}
-use borrow.Author.Rules.{rules}
 use Rattle.c_request.proofs.request.taken_members.Goals as goal
 
 pub returns-in-Request : goal.returns-in-Request

@@ -13,3 +13,4 @@ returns c = (
     c.has_bits-3.ensures,
   ),
   omega arith,
+)

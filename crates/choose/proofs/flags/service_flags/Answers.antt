@@ -17,3 +17,4 @@ returns c = (
     c.has_bits-5.ensures,
   ),
   omega arith,
+)

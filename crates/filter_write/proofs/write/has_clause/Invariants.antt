@@ -1,12 +1,7 @@
-use mathlib.Core.Path.{◌≡◌, refl, sym, ap, ◌∙◌}
-use mathlib.Core.Bool.{true, false}
+use mathlib.Core.Path.{◌≡◌}
 use Prim.Native.Nat.{◌-◌, ◌≤◌}
-use native.Mathlib.Omega.{arith}
-use lib.ListN.{drop, get_or}
+use lib.ListN.{drop}
 use Rattle.octets.specs.Lists.{any}
-use Rattle.octets.proofs.Laws.Lists.{any-holds, any_next, any-end}
-use Rattle.filter.specs.declared.request.ClauseName.{ClauseName}
-use Rattle.filter.specs.declared.request.ClauseName.TheVariants.{NtVer}
 use Rattle.filter.specs.Request.{clause_names, clause, is_present}
 use Rattle.filter_write.proofs.write.has_clause.Given as goal
 

@@ -23,21 +23,21 @@ pub returns-then-top-eq0 : goal.returns-then-top-eq0
 returns-then-top-eq0 c =
     let a = c.args in
     let x : ℕ = get_or a.reply.now a.at 0 in
-    let m : bit_and x 0xC0 ≡ x / 64 * 64 = top_bits x (omega (arith, c.shared_slice_known-2-1.given a.at)) in
+    let m : bit_and x 0xC0 ≡ x / 64 * 64 = top_bits x (omega (arith, c.type_inv.reply a.at)) in
     sym (look_label a.reply.now a.at c.wide.result (omega arith, sym c.wide.ensures.0, omega (arith, c.wide.ensures.0), omega (arith, c.wide.ensures.0)))
 
 pub returns-then-top : goal.returns-then-top
 returns-then-top c =
     let a = c.args in
     let x : ℕ = get_or a.reply.now a.at 0 in
-    let m : bit_and x 0xC0 ≡ x / 64 * 64 = top_bits x (omega (arith, c.shared_slice_known-2-1.given a.at)) in
+    let m : bit_and x 0xC0 ≡ x / 64 * 64 = top_bits x (omega (arith, c.type_inv.reply a.at)) in
     sym (look_reserved a.reply.now a.at (omega arith) (λ q. omega arith) (λ q. omega arith))
 
 pub returns-then-reply-at-lt2 : goal.returns-then-reply-at-lt2
 returns-then-reply-at-lt2 c =
     let a = c.args in
     let x : ℕ = get_or a.reply.now a.at 0 in
-    let m : bit_and x 0xC0 ≡ x / 64 * 64 = top_bits x (omega (arith, c.shared_slice_known-2-1.given a.at)) in
+    let m : bit_and x 0xC0 ≡ x / 64 * 64 = top_bits x (omega (arith, c.type_inv.reply a.at)) in
     sym (look_half a.reply.now a.at (omega arith) (omega arith) (omega arith))
 
 pub overflow_cast-result-2 : goal.overflow_cast-result-2
@@ -47,6 +47,6 @@ pub returns : goal.returns
 returns c =
     let a = c.args in
     let x : ℕ = get_or a.reply.now a.at 0 in
-    let m : bit_and x 0xC0 ≡ x / 64 * 64 = top_bits x (omega (arith, c.shared_slice_known-2-1.given a.at)) in
+    let m : bit_and x 0xC0 ≡ x / 64 * 64 = top_bits x (omega (arith, c.type_inv.reply a.at)) in
     let t : aim a.reply.now a.at ≡ bit_and c.big_u16_at.result 0x3FFF = ap (λ (n : ℕ). n % 0x4000) (sym c.big_u16_at.ensures) ∙ sym (offset-bits c.big_u16_at.result) in
     sym (look_pointer a.reply.now a.at (bit_and c.big_u16_at.result 0x3FFF) (omega arith, omega arith, t))

@@ -11,7 +11,7 @@ use Rattle.reader_older.proofs.opening.read_nt40.Goals as goal
 
 -- the fields that an opening makes
 abbrev fields_of : Opening → Fields
-fields_of o = nt40 (record { opcode = o.opcode; server = o.server-1; user = o.user-1; domain = o.domain-1; version = nt40_version })
+fields_of o = nt40 (record { opcode = o.opcode; server = o.server; user = o.user; domain = o.domain; version = nt40_version })
 
 pub returns-in-Refused : goal.returns-in-Refused
 unfolding read_nt40

@@ -10,7 +10,7 @@ pub put_octets-requires : goal.put_octets-requires
 put_octets-requires c = omega arith
 
 pub shape_of-text-then-spent-eq0 : goal.shape_of-text-then-spent-eq0
-shape_of-text-then-spent-eq0 c = c.put_octets.auto.0
+shape_of-text-then-spent-eq0 c = c.put_octets.auto.out
 
 pub returns-then-spent-eq0 : goal.returns-then-spent-eq0
 unfolding over_at
@@ -20,7 +20,7 @@ pub put_octets_at-requires : goal.put_octets_at-requires
 put_octets_at-requires c = simp length-set c.requires
 
 pub shape_of-text : goal.shape_of-text
-shape_of-text c = c.put_octets_at.auto.0 ∙ simp length-set
+shape_of-text c = c.put_octets_at.auto.out ∙ simp length-set
 
 pub returns : goal.returns
 returns c =
