@@ -16,15 +16,15 @@ use Rattle.table_find.specs.Internal.Found.{LiesIn, site_at}
 use Rattle.table_find.specs.Internal.Key.{is_site}
 use Rattle.table_lookup.proofs.Laws.ClientSite.{no_site, lone-site, several_sites}
 use Rattle.table_lookup.proofs.lookup.client_site.Goals as goal
-use Rattle.table_lookup.proofs.lookup.client_site.Goals.{After-first_site-2, In-At-2}
+use Rattle.table_lookup.proofs.lookup.client_site.Goals.{After-first_site-2}
 
 -- the first site, where it stands
-first-there : (c : In-At-2)
+first-there : (c : After-first_site-2)
     → some (site_of (cut c.args.image.now c.in-At.offset site_format.width))
     ≡ first (is_site Any) (table_from c.args.image.now).sites
 first-there c = ap (site_at c.args.image.now) (sym c.in-At.is) ∙ c.first_site.ensures.result_value
 
-lies-there : (c : In-At-2) → c.in-At.offset + site_format.width ≤ length c.args.image.now
+lies-there : (c : After-first_site-2) → c.in-At.offset + site_format.width ≤ length c.args.image.now
 lies-there c = subst (LiesIn c.args.image.now kind.Site) c.in-At.is c.first_site.ensures.lies_in
 
 -- the first site of another number
@@ -54,7 +54,7 @@ returns-in-At-first_site c =
     let t = table_from a.image.now in
     let other = ap (site_at a.image.now) (sym c.in-At-first_site.is) ∙ another (goal.at.returns-in-At-first_site c).After-first_site-2 in
     record {
-      result_value = c.site_by_subnet.ensures.result_value ∙ several_sites t a.caller t.sites _ _ (first-there (goal.at.returns-in-At-first_site c).In-At-2) other;
+      result_value = c.site_by_subnet.ensures.result_value ∙ several_sites t a.caller t.sites _ _ (first-there (goal.at.returns-in-At-first_site c).After-first_site-2) other;
       lies_in = c.site_by_subnet.ensures.lies_in;
     }
 
@@ -66,6 +66,6 @@ returns-in-Nothing c =
     let p = c in
     let none_other = ap (site_at a.image.now) (sym c.in-Nothing.is) ∙ another (goal.at.returns-in-Nothing c).After-first_site-2 in
     record {
-      result_value = lone-site t a.caller t.sites _ (accepted-whole a.image.now c.requires).sites (first-there (goal.at.returns-in-Nothing p).In-At-2) none_other;
-      lies_in = lies-there (goal.at.returns-in-Nothing p).In-At-2;
+      result_value = lone-site t a.caller t.sites _ (accepted-whole a.image.now c.requires).sites (first-there (goal.at.returns-in-Nothing p).After-first_site-2) none_other;
+      lies_in = lies-there (goal.at.returns-in-Nothing p).After-first_site-2;
     }
