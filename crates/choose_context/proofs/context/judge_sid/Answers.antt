@@ -9,7 +9,6 @@ use Rattle.table.specs.Context.{Context, context_of, context_format}
 use Rattle.table.specs.Table.{table_from}
 use Rattle.choose_context.specs.Internal.Used.{sid_judged}
 use mathlib.Core.Path.{◌≡◌, refl, sym, ap, ◌∙◌}
-use borrow.Author.Rules.{rules}
 use Rattle.choose_context.proofs.context.judge_sid.Goals as goal
 use Rattle.choose_context.proofs.context.judge_sid.Goals.{After-holds_sid}
 
