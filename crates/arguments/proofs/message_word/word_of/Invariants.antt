@@ -1,5 +1,4 @@
 use Prim.Native.Nat.{◌-◌}
-use borrow.Author.Rules.{rules}
 use Rattle.arguments.proofs.message_word.word_of.Given as goal
 
 abbrev pub invariant-loop-word : goal.invariant-loop-word

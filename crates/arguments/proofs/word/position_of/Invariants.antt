@@ -1,6 +1,5 @@
 use lib.ListN.{length}
 use Prim.Native.Nat.{◌-◌}
-use borrow.Author.Rules.{rules}
 use Rattle.arguments.proofs.word.position_of.Given as goal
 
 abbrev pub invariant-loop-i : goal.invariant-loop-i

@@ -4,7 +4,6 @@ use Prim.Native.Nat.{ℕ}
 use Rattle.octets.specs.Label.{labels}
 use Rattle.names.specs.Internal.Plan.{first_aim, tails_from, name_tails}
 use Rattle.names.proofs.Laws.Plan.{text-short}
-use borrow.Author.Rules.{rules}
 use Rattle.names.proofs.plan.aim_at.Goals as goal
 
 pub aim_in-requires : goal.aim_in-requires

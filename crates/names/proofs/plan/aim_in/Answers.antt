@@ -3,10 +3,9 @@ use mathlib.Core.Bool.{true}
 use mathlib.Core.List.{List}
 use Prim.Native.Nat.{ℕ, ◌+◌, ◌-◌, ◌≤◌}
 use native.Mathlib.Omega.{arith}
-use borrow.Author.Rules.{rules}
 use lib.ListN.{length, drop, length-drop}
 use Rattle.octets.specs.Label.{labels}
-use Rattle.names.specs.Internal.Plan.{tails_from, first_aim, offers_tail}
+use Rattle.names.specs.Internal.Plan.{tails_from, offers_tail}
 use Rattle.names.specs.declared.plan.Aim.TheVariants.{At}
 use Rattle.names.proofs.Laws.Plan.CommonTail.{offers_common}
 use Rattle.names.proofs.Laws.Plan.Tails.{offers_length}

@@ -1,15 +1,9 @@
-use mathlib.Core.Path.{◌≡◌, sym, ap, ◌∙◌}
-use mathlib.Core.List.{List}
-use Prim.Native.Nat.{ℕ, ◌+◌, ◌-◌, ◌≤◌}
-use native.Mathlib.Omega.{arith}
-use borrow.Author.Rules.{rules}
-use lib.ListN.{length, drop, length-drop}
+use mathlib.Core.Path.{◌≡◌}
+use Prim.Native.Nat.{◌+◌, ◌-◌, ◌≤◌}
+use lib.ListN.{length}
 use Rattle.octets.specs.Label.{labels}
-use Rattle.names.specs.Internal.Plan.{tails_from, first_aim, offers_tail}
-use Rattle.names.specs.declared.plan.Aim.TheVariants.{At}
-use Rattle.names.proofs.Laws.Plan.CommonTail.{offers_common}
-use Rattle.names.proofs.Laws.Plan.Tails.{offers_length}
-use Rattle.names.proofs.Laws.Plan.Search.{search_from, search_empty, search_start, search_end, search_here, search_next}
+use Rattle.names.specs.Internal.Plan.{tails_from, first_aim}
+use Rattle.names.proofs.Laws.Plan.Search.{search_from}
 use Rattle.names.proofs.plan.aim_in.Given as goal
 
 abbrev pub invariant-loop-before : goal.invariant-loop-before

@@ -1,12 +1,8 @@
-use mathlib.Core.Path.{◌≡◌, sym, ap, ap₂, ◌∙◌, subst}
-use mathlib.Core.List.{List, flat_map}
-use Prim.Native.Nat.{ℕ, ◌-◌, ◌≤◌}
-use native.Mathlib.Omega.{arith}
+use mathlib.Core.Path.{◌≡◌}
+use Prim.Native.Nat.{◌-◌, ◌≤◌}
 use lib.ListN.{length, take}
 use Rattle.octets.specs.Label.{labels}
-use Rattle.names.specs.Internal.Plan.{first_aim, better_aim, AimWithin, names_tails}
-use Rattle.names.proofs.Laws.Plan.{fit_at, search_more}
-use Rattle.names.proofs.Laws.Plan.Search.{search_none, better_within}
+use Rattle.names.specs.Internal.Plan.{first_aim, AimWithin, names_tails}
 use Rattle.names.proofs.plan.best_aim.Given as goal
 
 abbrev pub invariant-loop-i : goal.invariant-loop-i

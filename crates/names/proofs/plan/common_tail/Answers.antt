@@ -1,9 +1,8 @@
 use mathlib.Core.Path.{◌≡◌, sym, ap₂, ◌∙◌}
 use mathlib.Core.List.{List, ◌∷◌}
-use Prim.Native.Nat.{ℕ, ◌+◌, ◌-◌, ◌≤◌, ◌<◌}
+use Prim.Native.Nat.{ℕ, ◌-◌, ◌≤◌}
 use native.Mathlib.Omega.{arith}
-use lib.ListN.{length, get_or, drop, drop_of_length-le}
-use Rattle.names.specs.Internal.Plan.{CommonTail}
+use lib.ListN.{length, get_or, drop_of_length-le}
 use Rattle.names.proofs.Laws.Plan.CommonTail.{tail_more}
 use Rattle.names.proofs.plan.common_tail.Goals as goal
 

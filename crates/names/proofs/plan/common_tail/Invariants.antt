@@ -1,10 +1,6 @@
-use mathlib.Core.Path.{◌≡◌, sym, ap₂, ◌∙◌}
-use mathlib.Core.List.{List, ◌∷◌}
-use Prim.Native.Nat.{ℕ, ◌+◌, ◌-◌, ◌≤◌, ◌<◌}
-use native.Mathlib.Omega.{arith}
-use lib.ListN.{length, get_or, drop, drop_of_length-le}
-use Rattle.names.specs.Internal.Plan.{CommonTail}
-use Rattle.names.proofs.Laws.Plan.CommonTail.{tail_more}
+use mathlib.Core.Path.{◌≡◌}
+use Prim.Native.Nat.{◌-◌, ◌≤◌}
+use lib.ListN.{length, drop}
 use Rattle.names.proofs.plan.common_tail.Given as goal
 
 abbrev pub invariant-loop-n : goal.invariant-loop-n

@@ -1,8 +1,5 @@
-use mathlib.Core.Path.{◌≡◌, refl}
-use Prim.Native.Nat.{◌+◌, ◌-◌, ◌≤◌}
+use mathlib.Core.Path.{refl}
 use native.Mathlib.Omega.{arith}
-use lib.ListN.{length, drop}
-use Rattle.names.specs.Internal.Plan.{to_dot}
 use Rattle.names.proofs.Laws.Plan.Labels.{dot_here, dot_next, dot_end}
 use Rattle.names.proofs.plan.label_end.Goals as goal
 

@@ -1,9 +1,7 @@
-use mathlib.Core.Path.{◌≡◌, refl}
+use mathlib.Core.Path.{◌≡◌}
 use Prim.Native.Nat.{◌+◌, ◌-◌, ◌≤◌}
-use native.Mathlib.Omega.{arith}
 use lib.ListN.{length, drop}
 use Rattle.names.specs.Internal.Plan.{to_dot}
-use Rattle.names.proofs.Laws.Plan.Labels.{dot_here, dot_next, dot_end}
 use Rattle.names.proofs.plan.label_end.Given as goal
 
 abbrev pub invariant-loop-end : goal.invariant-loop-end

@@ -1,5 +1,4 @@
 use Rattle.names.proofs.Laws.Plan.Labels.{some_size}
-use borrow.Author.Rules.{rules}
 use Rattle.names.proofs.plan.literal_size.Goals as goal
 
 pub returns : goal.returns

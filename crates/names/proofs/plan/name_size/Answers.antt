@@ -1,6 +1,5 @@
 use Rattle.octets.specs.Number.{big_octets, little_octets}
 use Rattle.names.specs.Name.{pointer_to}
-use borrow.Author.Rules.{rules}
 use Rattle.names.proofs.plan.name_size.Goals as goal
 
 pub returns-in-Zero : goal.returns-in-Zero

@@ -1,6 +1,4 @@
-use mathlib.Core.Path.{sym, ◌∙◌}
 use borrow.Author.Tests.{lt-leb, le-leb, lt-ltb, le-ltb}
-use borrow.Author.Rules.{rules}
 use Rattle.names.proofs.plan.offers_tail.Goals as goal
 
 pub returns-then-common-size : goal.returns-then-common-size

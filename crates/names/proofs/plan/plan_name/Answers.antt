@@ -6,7 +6,6 @@ use Rattle.octets.specs.Label.{labels}
 use Rattle.names.specs.Name.{Tail}
 use Rattle.names.specs.Internal.Plan.{first_aim, AimWithin, names_tails, plan_by, PlanOf}
 use Rattle.names.proofs.Laws.Plan.{text-short, plan_of}
-use borrow.Author.Rules.{rules}
 use Rattle.names.proofs.plan.plan_name.Goals as goal
 
 pub planned-requires : goal.planned-requires

@@ -1,12 +1,11 @@
 use mathlib.Core.Path.{◌≡◌, refl, sym, ◌∙◌, subst}
-use mathlib.Core.List.{[], flat_map, map}
-use Prim.Native.Nat.{ℕ, ◌+◌, ◌-◌, ◌*◌, ◌≤◌}
+use mathlib.Core.List.{flat_map}
+use Prim.Native.Nat.{ℕ}
 use native.Mathlib.Omega.{arith}
-use lib.ListN.{length, take, length-set}
-use Rattle.lent.specs.Internal.Stretch.{octets_at}
+use lib.ListN.{length, length-set}
 use Rattle.names.specs.declared.plan.NamesPlan.{NamesPlan}
 use Rattle.names.specs.Name.{write_names}
-use Rattle.names.specs.Internal.Plan.{AllFit, PlansOf, name_octets, names_octets, writings_of}
+use Rattle.names.specs.Internal.Plan.{PlansOf, name_octets}
 use Rattle.names.proofs.Laws.Plan.{literal_short, name-length, length_more, fit-more, writes_more}
 use Rattle.names.proofs.plan.plan_names.Goals as goal
 use Rattle.names.proofs.plan.plan_names.Goals.{After-name_size-end}

@@ -1,13 +1,10 @@
-use mathlib.Core.Path.{◌≡◌, refl, sym, ◌∙◌, subst}
-use mathlib.Core.List.{[], flat_map, map}
-use Prim.Native.Nat.{ℕ, ◌+◌, ◌-◌, ◌*◌, ◌≤◌}
-use native.Mathlib.Omega.{arith}
-use lib.ListN.{length, take, length-set}
+use mathlib.Core.Path.{◌≡◌}
+use mathlib.Core.List.{[], map}
+use Prim.Native.Nat.{◌+◌, ◌-◌, ◌*◌, ◌≤◌}
+use lib.ListN.{length, take}
 use Rattle.lent.specs.Internal.Stretch.{octets_at}
-use Rattle.names.specs.declared.plan.NamesPlan.{NamesPlan}
 use Rattle.names.specs.Name.{write_names}
-use Rattle.names.specs.Internal.Plan.{AllFit, PlansOf, name_octets, names_octets, writings_of}
-use Rattle.names.proofs.Laws.Plan.{literal_short, name-length, length_more, fit-more, writes_more}
+use Rattle.names.specs.Internal.Plan.{AllFit, names_octets, writings_of}
 use Rattle.names.proofs.plan.plan_names.Given as goal
 
 abbrev pub invariant-loop-i : goal.invariant-loop-i

@@ -1,7 +1,6 @@
 use mathlib.Core.Path.{ap}
 use Prim.Native.Nat.{ℕ}
 use Rattle.names.specs.declared.plan.Ending.TheVariants.{Zero}
-use borrow.Author.Rules.{rules}
 use Rattle.names.proofs.plan.planned.Goals as goal
 
 pub returns-in_default : goal.returns-in_default

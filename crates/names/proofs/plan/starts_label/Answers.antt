@@ -2,7 +2,6 @@ use mathlib.Core.Path.{ap}
 use Prim.Native.Nat.{ℕ}
 use lib.Dec.{eqb}
 use Rattle.names.proofs.Laws.Plan.Labels.{after_front}
-use borrow.Author.Rules.{rules}
 use Rattle.names.proofs.plan.starts_label.Goals as goal
 
 pub returns-then-at-eq0 : goal.returns-then-at-eq0

@@ -1,4 +1,4 @@
-use Rattle.std.proofs.Common.{◌+◌, length, arith, rules, le-leb}
+use Rattle.std.proofs.Common.{◌+◌, length, arith, le-leb}
 use borrow.Author.Tests.{lt-leb}
 use Rattle.reply_lines.proofs.walk.is_whole.Goals as goal
 

@@ -1,4 +1,4 @@
-use Rattle.std.proofs.Common.{length, subst, arith, rules}
+use Rattle.std.proofs.Common.{length, subst, arith}
 use Rattle.names.proofs.Laws.Walk.{bound, bound_read, bound_jump}
 use Rattle.reply_lines.specs.Internal.Walk.{StepWithin}
 use Rattle.reply_lines.proofs.walk.walk_from.Goals as goal

@@ -1,6 +1,4 @@
-use Rattle.std.proofs.Common.{length, subst, arith, rules}
-use Rattle.names.proofs.Laws.Walk.{bound, bound_read, bound_jump}
-use Rattle.reply_lines.specs.Internal.Walk.{StepWithin}
+use Rattle.names.proofs.Laws.Walk.{bound}
 use Rattle.reply_lines.proofs.walk.walk_from.Given as goal
 
 abbrev pub invariant-loop-len : goal.invariant-loop-len

@@ -1,4 +1,4 @@
-use Rattle.std.proofs.Common.{◌+◌, length, sym, ◌∙◌, rules, leb-true}
+use Rattle.std.proofs.Common.{◌+◌, length, sym, ◌∙◌, leb-true}
 use Rattle.reply_lines.proofs.walk.walk_step.Goals as goal
 
 pub returns-then-is_whole : goal.returns-then-is_whole
