@@ -1,6 +1,5 @@
 use mathlib.Core.Path.{ap, sym, ◌∙◌}
 use Rattle.reader_text.specs.Text.{text_number}
-use borrow.Author.Rules.{rules}
 use Rattle.reader_text.proofs.text_number.Goals as goal
 
 pub returns-in-Refused : goal.returns-in-Refused

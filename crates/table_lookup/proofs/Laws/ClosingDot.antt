@@ -26,7 +26,7 @@ use Rattle.table_whole.specs.Whole.{contexts_unique}
 use Rattle.table_whole.proofs.Laws.Judgement.{GoodContext, GoodTable, judged-good, judged-whole}
 use Rattle.table_lookup.specs.Lookup.{context_by_dns_name}
 use Rattle.table_lookup.specs.NearestSubnet.{Among}
-use Rattle.table_lookup.specs.ClosingDot.{ClosingDotIn, ClosingDot}
+use Rattle.table_lookup.specs.ClosingDot.{ClosingDot}
 use Rattle.table_lookup.proofs.Laws.NearestSubnet.{every_among, any-among}
 
 -- ---- a context's own name

@@ -1,10 +1,8 @@
 -- Two accounts of one context with names that are the same as a third are alike, and 4 refuses them.
-use mathlib.Core.Path.{◌≡◌, refl, sym, ap, ap₂, subst, ◌∙◌}
+use mathlib.Core.Path.{◌≡◌, refl, sym, ap, ap₂, ◌∙◌}
 use mathlib.Core.Bool.{Bool, true, false, not, ◌&&◌, false≢true}
 use mathlib.Core.List.{List, [], ◌∷◌}
-use mathlib.Core.Option.{Option, none, some}
 use Prim.Native.Nat.{ℕ}
-use lib.Dec.{eqb}
 use borrow.Author.Tests.{eqb-true, eq-eqb, not-true}
 use Rattle.octets.specs.Lists.{any, first, first_or, keep, keep_if, unique}
 use Rattle.octets.proofs.Laws.Lists.{both_left, both_right, neither_left, neither_right}

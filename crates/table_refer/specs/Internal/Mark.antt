@@ -5,7 +5,7 @@ use Rattle.octets.specs.Lists.{any, unique}
 use Rattle.table.specs.declared.SiteNumber.{SiteNumber}
 use Rattle.table.specs.declared.record.RecordKind.TheVariants as kind
 use Rattle.table.specs.Countings.{same_site_lem}
-use Rattle.table.specs.Site.{Site, site_of}
+use Rattle.table.specs.Site.{site_of}
 use Rattle.table.specs.Internal.RecordAt.{record_at}
 
 abbrev pub marks_size : ℕ

@@ -1,7 +1,6 @@
 use mathlib.Core.Path.{subst}
 use Rattle.c_calls.proofs.Laws.Wide.{bad_unwritten}
 use Rattle.c_mailslot.specs.{Internal.Given.GivenBy, Message.message_of}
-use borrow.Author.Rules.{rules}
 use Rattle.c_calls.proofs.calls.message_written.Goals as goal
 
 pub returns-in-Message : goal.returns-in-Message

@@ -1,6 +1,5 @@
 use mathlib.Core.Path.{ap}
 use Rattle.c_calls.specs.Calls.{check_members}
-use borrow.Author.Rules.{rules}
 use Rattle.c_calls.proofs.calls.put_check.Goals as goal
 
 pub returns : goal.returns

@@ -1,6 +1,5 @@
 use mathlib.Core.Path.{ap, ◌∙◌}
 use Rattle.answers.specs.Written.{written_number, written_length}
-use borrow.Author.Rules.{rules}
 use Rattle.c_calls.proofs.calls.put_filter.Goals as goal
 
 pub returns : goal.returns

@@ -1,7 +1,6 @@
 use mathlib.Core.Path.{ap, ◌∙◌}
 use Rattle.c_mailslot.specs.Message.{message_members}
 use Rattle.mailslot.specs.Read.{message_number}
-use borrow.Author.Rules.{rules}
 use Rattle.c_calls.proofs.calls.put_message_members.Goals as goal
 
 pub returns : goal.returns

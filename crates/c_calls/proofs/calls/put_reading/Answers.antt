@@ -1,7 +1,6 @@
 use mathlib.Core.Path.{ap, ◌∙◌}
 use Rattle.reader_forms.specs.Reading.{reading_number}
 use Rattle.c_reading.specs.Reading.{reading_members}
-use borrow.Author.Rules.{rules}
 use Rattle.c_calls.proofs.calls.put_reading.Goals as goal
 
 pub returns : goal.returns

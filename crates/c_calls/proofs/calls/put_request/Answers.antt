@@ -1,7 +1,6 @@
 use mathlib.Core.Path.{ap, ◌∙◌}
 use Rattle.filter_read.specs.Taken.{taken_number}
 use Rattle.c_request.specs.Request.{taken_members}
-use borrow.Author.Rules.{rules}
 use Rattle.c_calls.proofs.calls.put_request.Goals as goal
 
 pub returns : goal.returns

@@ -1,6 +1,5 @@
 use mathlib.Core.Path.{ap, ◌∙◌}
 use Rattle.reader_text.specs.Text.{text_number, text_length}
-use borrow.Author.Rules.{rules}
 use Rattle.c_calls.proofs.calls.put_text.Goals as goal
 
 pub returns : goal.returns

@@ -2,7 +2,6 @@ use mathlib.Core.Path.{ap, ◌∙◌}
 use mathlib.Core.Option.{get_or}
 use Rattle.filter_read.specs.declared.value.Judged.{Judged}
 use Rattle.filter_read.specs.Value.{ping_in, judged_values, judged_number, judged_version}
-use borrow.Author.Rules.{rules}
 use Rattle.c_calls.proofs.calls.put_version.Goals as goal
 
 pub returns : goal.returns

@@ -1,6 +1,5 @@
 use lib.Dec.{eqb}
 use Rattle.c_mailslot.proofs.Laws.Message.{sid_of_three}
-use borrow.Author.Rules.{rules}
 use Rattle.c_mailslot.proofs.message.good_members.Goals as goal
 
 pub returns : goal.returns

@@ -1,5 +1,4 @@
 use Rattle.c_mailslot.proofs.Laws.Wide.{wide_repeat, wide_bits, wide_version}
-use borrow.Author.Rules.{rules}
 use Rattle.c_mailslot.proofs.message.message_given.Goals as goal
 
 pub returns-then-repeat-gt65535 : goal.returns-then-repeat-gt65535

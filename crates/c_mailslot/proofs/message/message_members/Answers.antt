@@ -1,6 +1,5 @@
 use mathlib.Core.Path.{ap, sym, ◌∙◌}
 use Rattle.c_mailslot.specs.Message.{message_members}
-use borrow.Author.Rules.{rules}
 use Rattle.c_mailslot.proofs.message.message_members.Goals as goal
 
 pub returns-in-Read : goal.returns-in-Read

@@ -1,5 +1,4 @@
 use borrow.Author.Tests.{eq-eqb, ne_eqb}
-use borrow.Author.Rules.{rules}
 use Rattle.c_mailslot.proofs.message.stretch_at.Goals as goal
 
 pub returns-then-members-at-eq0 : goal.returns-then-members-at-eq0

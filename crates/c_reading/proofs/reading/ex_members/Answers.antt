@@ -1,5 +1,4 @@
 use Rattle.c_reading.proofs.Laws.Reading.{ex_laid}
-use borrow.Author.Rules.{rules}
 use Rattle.c_reading.proofs.reading.ex_members.Goals as goal
 
 pub returns : goal.returns

@@ -1,4 +1,3 @@
-use borrow.Author.Rules.{rules}
 use Rattle.c_reading.proofs.reading.nt40_members.Goals as goal
 
 pub returns : goal.returns

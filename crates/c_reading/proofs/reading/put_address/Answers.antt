@@ -1,6 +1,5 @@
 use mathlib.Core.Path.{ap, sym, ◌∙◌}
 use Rattle.c_reading.specs.Internal.Put.{address_put}
-use borrow.Author.Rules.{rules}
 use Rattle.c_reading.proofs.reading.put_address.Goals as goal
 
 pub returns-in-At : goal.returns-in-At

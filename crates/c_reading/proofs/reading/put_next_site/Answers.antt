@@ -1,6 +1,5 @@
 use mathlib.Core.Path.{ap, sym, ◌∙◌}
 use Rattle.c_reading.specs.Internal.Put.{next_site_put}
-use borrow.Author.Rules.{rules}
 use Rattle.c_reading.proofs.reading.put_next_site.Goals as goal
 
 pub returns-in-Name : goal.returns-in-Name

@@ -1,4 +1,3 @@
-use borrow.Author.Rules.{rules}
 use Rattle.c_reading.proofs.reading.put_texts.Goals as goal
 
 pub returns : goal.returns

@@ -1,7 +1,6 @@
 use mathlib.Core.Path.{ap, sym, ◌∙◌}
 use Rattle.reader_forms.specs.declared.reading.Reading.TheVariants.{Read}
 use Rattle.c_reading.specs.Reading.{reading_members}
-use borrow.Author.Rules.{rules}
 use Rattle.c_reading.proofs.reading.reading_members.Goals as goal
 
 pub returns-in-Nt40 : goal.returns-in-Nt40

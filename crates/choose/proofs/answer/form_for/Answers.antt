@@ -1,6 +1,5 @@
 use mathlib.Core.Path.{ap, ◌∙◌}
 use native.Mathlib.Omega.{arith}
-use borrow.Author.Rules.{rules}
 use Rattle.table.specs.Server.{Server}
 use Rattle.table_whole.proofs.Laws.Judgement.{accepted_bounds}
 use Rattle.choose.specs.Choose.{form_of}

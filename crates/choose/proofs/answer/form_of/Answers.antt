@@ -3,7 +3,6 @@ use mathlib.Core.Bool.{Bool, cond}
 use Rattle.answers.specs.declared.Form.TheVariants.{Nt40, Response}
 use Rattle.table.specs.Server.{server_of}
 use Rattle.choose.specs.Choose.{form_of}
-use borrow.Author.Rules.{rules}
 use Rattle.choose.proofs.answer.form_of.Goals as goal
 use Rattle.choose.proofs.answer.form_of.Goals.{After-has_bits-5}
 

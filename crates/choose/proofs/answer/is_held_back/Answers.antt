@@ -1,5 +1,4 @@
 use Rattle.choose.specs.Choose.{is_held_back}
-use borrow.Author.Rules.{rules}
 use Rattle.choose.proofs.answer.is_held_back.Goals as goal
 
 pub returns : goal.returns

@@ -1,5 +1,4 @@
 use Rattle.choose.specs.Choose.{is_known, is_user_unknown}
-use borrow.Author.Rules.{rules}
 use Rattle.choose.proofs.answer.is_user_unknown.Goals as goal
 
 pub returns-in_default : goal.returns-in_default

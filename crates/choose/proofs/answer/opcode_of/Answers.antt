@@ -1,5 +1,4 @@
 use Rattle.choose.specs.Choose.{opcode_of}
-use borrow.Author.Rules.{rules}
 use Rattle.choose.proofs.answer.opcode_of.Goals as goal
 
 pub returns-in-Nt40 : goal.returns-in-Nt40

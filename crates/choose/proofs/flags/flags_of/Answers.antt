@@ -1,4 +1,3 @@
-use borrow.Author.Rules.{rules}
 use Rattle.choose.proofs.flags.flags_of.Goals as goal
 
 pub returns-in-Response : goal.returns-in-Response

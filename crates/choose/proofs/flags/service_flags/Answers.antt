@@ -1,5 +1,4 @@
 use native.Mathlib.Omega.{arith}
-use borrow.Author.Rules.{rules}
 use Rattle.choose.proofs.flags.service_flags.Goals as goal
 
 pub returns : goal.returns

@@ -8,7 +8,6 @@ use Rattle.table.specs.Table.{table_from}
 use Rattle.choose.specs.Choose.{names_application}
 use Rattle.choose_context.specs.Internal.Used.{asked_as, AskedIn, UsedIn, after_names_lem}
 use Rattle.choose_context.proofs.Laws.Used.{asked_application}
-use borrow.Author.Rules.{rules}
 use Rattle.choose_context.proofs.context.after_guid.Goals as goal
 
 pub preferred_of-requires-in-Held : goal.preferred_of-requires-in-Held

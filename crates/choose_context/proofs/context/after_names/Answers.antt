@@ -1,7 +1,6 @@
 use mathlib.Core.Path.{subst}
 use Rattle.table.specs.declared.record.RecordKind.TheVariants as kind
 use Rattle.table_find.specs.Internal.Found.{LiesIn}
-use borrow.Author.Rules.{rules}
 use Rattle.choose_context.proofs.context.after_names.Goals as goal
 
 pub returns-in_default : goal.returns-in_default

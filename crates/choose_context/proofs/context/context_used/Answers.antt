@@ -3,7 +3,6 @@ use Rattle.filter_read.specs.Internal.RawPing.{ping_at}
 use Rattle.table.specs.Table.{table_from}
 use Rattle.choose_context.specs.Internal.Used.{AskedIn}
 use Rattle.choose_context.proofs.Laws.Used.{once-guid}
-use borrow.Author.Rules.{rules}
 use Rattle.choose_context.proofs.context.context_used.Goals as goal
 
 pub after_guid-requires-in-Held : goal.after_guid-requires-in-Held

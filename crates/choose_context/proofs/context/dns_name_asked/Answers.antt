@@ -1,6 +1,5 @@
 use borrow.Author.Tests.{eq-eqb, ne_eqb}
 use Rattle.choose_context.proofs.Laws.Used.{held_as, held_in}
-use borrow.Author.Rules.{rules}
 use Rattle.choose_context.proofs.context.dns_name_asked.Goals as goal
 
 pub returns-then-name-eq0 : goal.returns-then-name-eq0

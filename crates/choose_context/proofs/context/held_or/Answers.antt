@@ -1,4 +1,3 @@
-use borrow.Author.Rules.{rules}
 use Rattle.choose_context.proofs.context.held_or.Goals as goal
 
 pub returns-in-At : goal.returns-in-At

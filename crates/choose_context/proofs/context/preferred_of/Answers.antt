@@ -1,4 +1,3 @@
-use borrow.Author.Rules.{rules}
 use Rattle.choose_context.proofs.context.preferred_of.Goals as goal
 
 pub returns : goal.returns

@@ -1,6 +1,5 @@
 use native.Mathlib.Omega.{arith}
 use Rattle.table_whole.proofs.Laws.Judgement.{accepted_bounds}
-use borrow.Author.Rules.{rules}
 use Rattle.choose_reply.proofs.chosen.flags_for.Goals as goal
 
 pub server_of-body-requires : goal.server_of-body-requires

@@ -17,7 +17,6 @@ use Rattle.choose.specs.Internal.Flags.{flags_by}
 use Rattle.choose.proofs.Laws.Flags.{flags_by_lem}
 use Rattle.choose_reply.specs.Internal.Lends.{name_of}
 use Rattle.choose_reply.proofs.Laws.Lends.{server-body, next_there}
-use borrow.Author.Rules.{rules}
 use Rattle.choose_reply.proofs.chosen.reply_for.Goals as goal
 
 pub returns : goal.returns

@@ -8,7 +8,6 @@ use Rattle.table.specs.Table.{table_from}
 use Rattle.table_lookup.specs.Lookup.{site_by_number}
 use Rattle.choose_reply.specs.Internal.Lends.{name_of}
 use Rattle.choose_reply.proofs.Laws.Lends.{no_slots, slot_then, lends_same, server-body, forest-body}
-use borrow.Author.Rules.{rules}
 use Rattle.choose_reply.proofs.chosen.slots_for.Goals as goal
 
 pub server_of-requires : goal.server_of-requires

@@ -3,7 +3,6 @@ use native.Mathlib.Omega.{arith}
 use Rattle.table.specs.declared.record.RecordKind.TheVariants as kind
 use Rattle.table.specs.Site.{site_of}
 use Rattle.table_find.specs.Internal.Found.{LiesIn}
-use borrow.Author.Rules.{rules}
 use Rattle.choose_reply.proofs.text.site_name.Goals as goal
 
 pub text_stretch-requires : goal.text_stretch-requires

@@ -6,7 +6,6 @@ use lib.ListN.{length, get_or, length-take}
 use Rattle.octets.specs.Lists.{cut}
 use Rattle.table.specs.Field.{text_at}
 use Rattle.choose_reply.proofs.Laws.Lends.{cut-within}
-use borrow.Author.Rules.{rules}
 use Rattle.choose_reply.proofs.text.text_stretch.Goals as goal
 
 pub returns : goal.returns

@@ -5,7 +5,6 @@ use borrow.Author.Tests.{not-false}
 use lib.ListN.{length}
 use Rattle.unicode_text.proofs.Laws.UserName.{user-name-short}
 use Rattle.choose_reply.proofs.Laws.Lends.{cut-own}
-use borrow.Author.Rules.{rules}
 use Rattle.choose_reply.proofs.text.user_text.Goals as goal
 
 pub returns-in_default : goal.returns-in_default

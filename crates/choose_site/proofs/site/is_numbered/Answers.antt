@@ -1,4 +1,3 @@
-use borrow.Author.Rules.{rules}
 use Rattle.choose_site.proofs.site.is_numbered.Goals as goal
 
 pub returns-in-At : goal.returns-in-At

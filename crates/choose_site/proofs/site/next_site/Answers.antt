@@ -14,7 +14,6 @@ use Rattle.table.specs.Table.{table_from}
 use Rattle.table_whole.proofs.Laws.Judgement.{accepted_bounds}
 use Rattle.table_lookup.specs.Lookup.{site_if_any}
 use Rattle.choose_site.proofs.Laws.NextSite.{next_unasked, next_of_none, next_of}
-use borrow.Author.Rules.{rules}
 use Rattle.choose_site.proofs.site.next_site.Goals as goal
 use Rattle.choose_site.proofs.site.next_site.Goals.{After-has_bits-2}
 

@@ -2,7 +2,6 @@ use mathlib.Core.Path.{◌≡◌, refl, sym, ap, subst, ◌∙◌}
 use mathlib.Core.Bool.{false}
 use mathlib.Core.List.{List}
 use Prim.Native.Nat.{ℕ, ◌<◌}
-use borrow.Author.Rules.{rules}
 use lib.ListN.{length}
 use Rattle.answers.specs.declared.Form.{Form}
 use Rattle.answers.specs.declared.Refusal.TheVariants.{UserLabelEmpty}
@@ -18,7 +17,6 @@ use Rattle.reply_write.specs.declared.fit.Fitted.{Fitted}
 use Rattle.reply_write.specs.Internal.Fit.{FittedTo, octets_fitted}
 use Rattle.table.specs.Context.{Context, context_of, context_format}
 use Rattle.table.specs.Table.{Table, table_from}
-use Rattle.locator.specs.declared.Answer.{Answer}
 use Rattle.locator.specs.declared.Answer.TheVariants as answer
 use Rattle.locator.specs.Answer.{Outcome, wrong_user, answer_as, octets_written}
 use Rattle.locator.proofs.Laws.Answer.{refusal-given, user-refused, room_refused, reply_given}
@@ -51,9 +49,9 @@ module _ (c : After-reply_for-raw) where
   said = reply_in c.args.image.now c.args.source.now c.reply_for-raw.result
 
   abbrev octets : List ℕ
-  octets = octets_in (form c.before.before.before) said
+  octets = octets_in c.form_for-form.result said
 
-  user-good : false ≡ wrong_user (form c.before.before.before) (ping c.before.before.before)
+  user-good : false ≡ wrong_user c.form_for-form.result (ping_at c.args.source.now c.args.ping)
   unfolding wrong_user
   user-good = sym c.if-is_wrong_user.false ∙ c.is_wrong_user.ensures
 
@@ -61,7 +59,7 @@ pub form_for-form-requires : goal.form_for-form-requires
 form_for-form-requires c = c.requires.accepted.0
 
 pub is_wrong_user-requires : goal.is_wrong_user-requires
-is_wrong_user-requires c = c.requires.application_value.1
+is_wrong_user-requires c = c.requires.user_value
 
 pub returns-then-is_wrong_user : goal.returns-then-is_wrong_user
 unfolding wrong_user
@@ -69,14 +67,15 @@ returns-then-is_wrong_user c =
     let a = c.args in
     let f = c in
     let chosen : Reply = reply_for (table (goal.at.returns-then-is_wrong_user f).After-form_for-form) a.caller (ping (goal.at.returns-then-is_wrong_user f).After-form_for-form) (used (goal.at.returns-then-is_wrong_user f).After-form_for-form) (form (goal.at.returns-then-is_wrong_user f).After-form_for-form) in
-    refusal-given _ UserLabelEmpty a.reply.now
-    (user-refused (table (goal.at.returns-then-is_wrong_user f).After-form_for-form) a.caller (ping (goal.at.returns-then-is_wrong_user f).After-form_for-form) (room (goal.at.returns-then-is_wrong_user f).After-form_for-form) (used (goal.at.returns-then-is_wrong_user f).After-form_for-form) (form (goal.at.returns-then-is_wrong_user f).After-form_for-form) chosen (form-chosen (goal.at.returns-then-is_wrong_user f).After-form_for-form) refl (sym c.if-is_wrong_user.true ∙ c.is_wrong_user.ensures))
+    let w = refusal-given _ UserLabelEmpty a.reply.now
+    (user-refused (table (goal.at.returns-then-is_wrong_user f).After-form_for-form) a.caller (ping (goal.at.returns-then-is_wrong_user f).After-form_for-form) (room (goal.at.returns-then-is_wrong_user f).After-form_for-form) (used (goal.at.returns-then-is_wrong_user f).After-form_for-form) (form (goal.at.returns-then-is_wrong_user f).After-form_for-form) chosen (form-chosen (goal.at.returns-then-is_wrong_user f).After-form_for-form) refl (sym c.if-is_wrong_user.true ∙ c.is_wrong_user.ensures)) in
+    record { value = w.0; reply_after = w.1 }
 
 pub reply_for-raw-requires : goal.reply_for-raw-requires
 reply_for-raw-requires c = let q = c.requires in
     record {
-      accepted = (q.0.0, q.0.1, q.1.1);
-      application_value = q.1.0;
+      accepted = (q.accepted.0, q.accepted.1, q.user_value);
+      application_value = q.application_value;
     }
 
 pub fit_reply-requires : goal.fit_reply-requires
@@ -89,11 +88,11 @@ returns-in-NoRoom c =
     let f = g in
     let told = c.in-NoRoom.is in
     let fit = c.fit_reply.ensures in
-    let short : room (goal.at.returns-in-NoRoom f).After-form_for-form < length (octets (goal.at.returns-in-NoRoom g).After-reply_for-raw) = subst (FittedTo (octets (goal.at.returns-in-NoRoom g).After-reply_for-raw) (room (goal.at.returns-in-NoRoom f).After-form_for-form)) told fit.0 in
+    let short : room (goal.at.returns-in-NoRoom f).After-form_for-form < length (octets (goal.at.returns-in-NoRoom g).After-reply_for-raw) = subst (FittedTo (octets (goal.at.returns-in-NoRoom g).After-reply_for-raw) (room (goal.at.returns-in-NoRoom f).After-form_for-form)) told fit.fitted_to in
     let e = room_refused (table (goal.at.returns-in-NoRoom f).After-form_for-form) a.caller (ping (goal.at.returns-in-NoRoom f).After-form_for-form) (room (goal.at.returns-in-NoRoom f).After-form_for-form) (used (goal.at.returns-in-NoRoom f).After-form_for-form) (form (goal.at.returns-in-NoRoom f).After-form_for-form) (said (goal.at.returns-in-NoRoom g).After-reply_for-raw) (form-chosen (goal.at.returns-in-NoRoom f).After-form_for-form) g.reply_for-raw.ensures.result_value (user-good (goal.at.returns-in-NoRoom g).After-reply_for-raw) short in
     record {
       value = ap answer_as (sym e);
-      reply_after = fit.1 ∙ ap (λ (r : Fitted). over (octets_fitted (octets (goal.at.returns-in-NoRoom g).After-reply_for-raw) r) a.reply.now) told ∙ ap (λ (o : Try Outcome). over (octets_written o) a.reply.now) (sym e);
+      reply_after = fit.out_after ∙ ap (λ (r : Fitted). over (octets_fitted (octets (goal.at.returns-in-NoRoom g).After-reply_for-raw) r) a.reply.now) told ∙ ap (λ (o : Try Outcome). over (octets_written o) a.reply.now) (sym e);
     }
 
 pub returns-in-Length : goal.returns-in-Length
@@ -103,10 +102,10 @@ returns-in-Length c =
     let f = g in
     let told = c.in-Length.is in
     let fit = c.fit_reply.ensures in
-    let whole = subst (FittedTo (octets (goal.at.returns-in-Length g).After-reply_for-raw) (room (goal.at.returns-in-Length f).After-form_for-form)) told fit.0 in
+    let whole = subst (FittedTo (octets (goal.at.returns-in-Length g).After-reply_for-raw) (room (goal.at.returns-in-Length f).After-form_for-form)) told fit.fitted_to in
     let e = reply_given (table (goal.at.returns-in-Length f).After-form_for-form) a.caller (ping (goal.at.returns-in-Length f).After-form_for-form) (room (goal.at.returns-in-Length f).After-form_for-form) (used (goal.at.returns-in-Length f).After-form_for-form) (form (goal.at.returns-in-Length f).After-form_for-form) (said (goal.at.returns-in-Length g).After-reply_for-raw) (form-chosen (goal.at.returns-in-Length f).After-form_for-form) g.reply_for-raw.ensures.result_value (user-good (goal.at.returns-in-Length g).After-reply_for-raw) whole.1 in
     let n = c.number.ensures ∙ ap (λ (x : List ℕ). (context_of x).number) c.part.ensures in
     record {
       value = (λ i. answer.Answered (whole.0 i) (n i) (form (goal.at.returns-in-Length f).After-form_for-form)) ∙ ap answer_as (sym e);
-      reply_after = fit.1 ∙ ap (λ (r : Fitted). over (octets_fitted (octets (goal.at.returns-in-Length g).After-reply_for-raw) r) a.reply.now) told ∙ ap (λ (o : Try Outcome). over (octets_written o) a.reply.now) (sym e);
+      reply_after = fit.out_after ∙ ap (λ (r : Fitted). over (octets_fitted (octets (goal.at.returns-in-Length g).After-reply_for-raw) r) a.reply.now) told ∙ ap (λ (o : Try Outcome). over (octets_written o) a.reply.now) (sym e);
     }

@@ -1,10 +1,11 @@
 use mathlib.Core.Path.{refl, sym, ap, ◌∙◌}
 use mathlib.Core.Bool.{not}
 use Prim.Native.Nat.{ℕ}
-use borrow.Author.Rules.{rules}
 use lib.ListN.{length}
 use Rattle.filter_read.specs.Value.{Ping}
 use Rattle.locator.specs.Answer.{answer_over}
+use Rattle.locator.specs.declared.Answer.TheVariants as answer
+use Rattle.mailslot_answer.specs.Answer.{AnswerMailslotReturns, AnswerMailslotLeaves}
 use Rattle.locator.proofs.Laws.Answer.{refusal-given, ping-refused, ping_answered, answer_of_lem, answer_promised}
 use Rattle.mailslot.specs.Message.{message_in}
 use Rattle.octets.specs.Lists.{holds}
@@ -34,7 +35,9 @@ returns-in-Refused c =
     let s = c in
     let a = s.args in
     let refused = read-refused (message_in a.message.now) _ (sym c.in-Refused.is ∙ c.read_message.ensures.same) in
-    answer_promised _ _ (refusal-given _ _ a.reply.now (ping-refused mailslot_ping a.image.now a.caller a.message.now (length a.reply.now) _ _ s.requires (not_pinged a.message.now _ refused)))
+    let w : AnswerMailslotReturns a.image.now a.caller a.message.now a.reply.now (answer.Refused c.in-Refused.refusal) × AnswerMailslotLeaves a.image.now a.caller a.message.now a.reply.now a.reply.now =
+    answer_promised _ _ (refusal-given _ _ a.reply.now (ping-refused mailslot_ping a.image.now a.caller a.message.now (length a.reply.now) _ _ s.requires (not_pinged a.message.now _ refused))) in
+    record { answer_mailslot_returns = w.0; answer_mailslot_leaves = w.1 }
 
 pub returns-in-Read : goal.returns-in-Read
 returns-in-Read c =
@@ -43,5 +46,7 @@ returns-in-Read c =
     let read = read-good (message_in a.message.now) _ (sym c.in-Read.is ∙ c.read_message.ensures.same) in
     let room : ℕ = length a.reply.now in
     let answered = ping_answered mailslot_ping a.image.now a.caller a.message.now room _ _ s.requires (pinged a.message.now _ read) in
+    let w : AnswerMailslotReturns a.image.now a.caller a.message.now a.reply.now c.answer_over.result × AnswerMailslotLeaves a.image.now a.caller a.message.now a.reply.now c.answer_over.new.reply =
     answer_promised _ _
-    (answer_of_lem _ _ _ a.reply.now _ (answered ∙ ap (λ (p : Ping). answer_over (table_from a.image.now) a.caller p room) (sym c.put_ping-ping.ensures)) c.answer_over.ensures)
+    (answer_of_lem _ _ _ a.reply.now _ (answered ∙ ap (λ (p : Ping). answer_over (table_from a.image.now) a.caller p room) (sym c.put_ping-ping.ensures)) (c.answer_over.ensures.value, c.answer_over.ensures.reply_after)) in
+    record { answer_mailslot_returns = w.0; answer_mailslot_leaves = w.1 }

@@ -4,7 +4,6 @@ use native.Mathlib.Omega.{arith}
 use lib.ListN.{drop}
 use Rattle.names.specs.Internal.Plan.{to_dot}
 use Rattle.names.proofs.Laws.Plan.Labels.{literal_within, literal_at, front_starts, after_front}
-use borrow.Author.Rules.{rules}
 use Rattle.names_write.proofs.put.literal_octet.Goals as goal
 
 pub starts_label-requires : goal.starts_label-requires

@@ -7,7 +7,6 @@ use Rattle.octets.specs.Buffer.{over}
 use Rattle.octets.specs.Number.{big_octets, little_octets}
 use Rattle.octets.proofs.Laws.Buffer.{over-more}
 use Rattle.names.specs.Name.{pointer_to, pointer_bits, pointer_limit}
-use borrow.Author.Rules.{rules}
 use Rattle.names_write.proofs.put.put_ending.Goals as goal
 use Rattle.names_write.proofs.put.put_ending.Goals.{In-Pointer}
 

@@ -9,7 +9,6 @@ use Rattle.octets.proofs.Laws.Buffer.{over_lent}
 use Rattle.lent.specs.Internal.Stretch.{octets_at}
 use Rattle.names.specs.Internal.Plan.{literal_octets, ending_octets, name_octets}
 use Rattle.names.proofs.Laws.Plan.{text-short, name-length}
-use borrow.Author.Rules.{rules}
 use Rattle.names_write.proofs.put.put_name.Goals as goal
 
 pub put_labels-requires : goal.put_labels-requires

@@ -1,4 +1,3 @@
-use borrow.Author.Rules.{rules}
 use Rattle.octets.specs.Number.{little_octets}
 use Rattle.reader.proofs.field.fixed_u16_at.Goals as goal
 

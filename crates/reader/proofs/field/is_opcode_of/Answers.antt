@@ -1,4 +1,3 @@
-use borrow.Author.Rules.{rules}
 use Rattle.reader.proofs.field.is_opcode_of.Goals as goal
 
 pub returns-in-Nt40 : goal.returns-in-Nt40

@@ -1,10 +1,8 @@
 use mathlib.Core.Path.{sym, ◌∙◌, subst}
-use Prim.Native.Nat.{◌-◌}
 use native.Mathlib.Omega.{arith}
-use borrow.Author.Rules.{rules}
 use lib.ListN.{length}
 use Rattle.reader.specs.Internal.Text.{StepWithin}
-use Rattle.reader.proofs.Laws.Text.{TextLeft, text-start, text_stop, text-refused, text_go}
+use Rattle.reader.proofs.Laws.Text.{text-start, text_stop, text-refused, text_go}
 use Rattle.reader.proofs.text.read_text.Goals as goal
 
 pub loop-next-init : goal.loop-next-init

@@ -1,10 +1,6 @@
-use mathlib.Core.Path.{sym, ◌∙◌, subst}
 use Prim.Native.Nat.{◌-◌}
-use native.Mathlib.Omega.{arith}
-use borrow.Author.Rules.{rules}
 use lib.ListN.{length}
-use Rattle.reader.specs.Internal.Text.{StepWithin}
-use Rattle.reader.proofs.Laws.Text.{TextLeft, text-start, text_stop, text-refused, text_go}
+use Rattle.reader.proofs.Laws.Text.{TextLeft}
 use Rattle.reader.proofs.text.read_text.Given as goal
 
 abbrev pub invariant-loop-next : goal.invariant-loop-next

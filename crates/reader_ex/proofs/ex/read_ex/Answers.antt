@@ -19,7 +19,6 @@ use Rattle.reader_ex.specs.Internal.Ex.{HeadIs, HeadOf}
 use Rattle.reader_last.specs.Internal.Address.{AddressOf}
 use Rattle.reader_last.specs.Internal.Last.{LastOf}
 use Rattle.reader_ex.proofs.Laws.Ex.{names-refused, address-refused, last-refused, said, parts-read, parts_said}
-use borrow.Author.Rules.{rules}
 use Rattle.reader_ex.proofs.ex.read_ex.Goals as goal
 use Rattle.reader_ex.proofs.ex.read_ex.Goals.{In-Address, In-Head, In-Last, In-Next}
 

@@ -2,7 +2,6 @@ use Rattle.octets.specs.Lists.{cut}
 use Rattle.reader.specs.Reader.{read_ex}
 use Rattle.reader.specs.Internal.Field.{field_in, number_in, opcode_in}
 use Rattle.reader.proofs.Laws.Field.{told, stretch_told}
-use borrow.Author.Rules.{rules}
 use Rattle.reader_ex.proofs.ex.read_head.Goals as goal
 
 pub returns-in-Refused : goal.returns-in-Refused

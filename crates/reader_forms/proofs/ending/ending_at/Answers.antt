@@ -1,7 +1,6 @@
 use Rattle.octets.specs.Lists.{cut}
 use Rattle.reader.specs.Internal.Field.{field_in}
 use Rattle.reader.proofs.Laws.Field.{told}
-use borrow.Author.Rules.{rules}
 use Rattle.reader_forms.proofs.ending.ending_at.Goals as goal
 
 pub returns-in-Next : goal.returns-in-Next

@@ -4,7 +4,6 @@ use Rattle.octets.specs.Lists.{cut}
 use Rattle.reader.specs.Reader.{read_tokens}
 use Rattle.reader.specs.Internal.Field.{field_in}
 use Rattle.reader.proofs.Laws.Field.{told}
-use borrow.Author.Rules.{rules}
 use Rattle.reader_forms.proofs.ending.tokens_at.Goals as goal
 
 pub returns-in-Refused : goal.returns-in-Refused

@@ -1,6 +1,5 @@
 use mathlib.Core.Path.{◌∙◌, ap, sym}
 use Rattle.reader_forms.specs.Reading.{reading_number}
-use borrow.Author.Rules.{rules}
 use Rattle.reader_forms.proofs.reading.reading_number.Goals as goal
 
 pub returns-in-Refused : goal.returns-in-Refused

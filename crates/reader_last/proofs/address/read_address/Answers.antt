@@ -6,7 +6,6 @@ use Rattle.octets.specs.Lists.{cut}
 use Rattle.reader.specs.Reader.{read_address}
 use Rattle.reader.specs.Internal.Field.{field_in}
 use Rattle.reader.proofs.Laws.Field.{told, stretch_told}
-use borrow.Author.Rules.{rules}
 use Rattle.reader_last.proofs.address.read_address.Goals as goal
 
 pub returns-then-not-asked : goal.returns-then-not-asked

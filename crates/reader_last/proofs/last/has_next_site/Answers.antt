@@ -2,7 +2,6 @@ use borrow.Author.Tests.{le-leb, lt-leb}
 use native.Mathlib.Omega.{arith}
 use lib.ListN.{length}
 use Rattle.reader.specs.Reader.{has_next_site}
-use borrow.Author.Rules.{rules}
 use Rattle.reader_last.proofs.last.has_next_site.Goals as goal
 
 pub returns-then-reply-lt-ENDING_SIZE : goal.returns-then-reply-lt-ENDING_SIZE

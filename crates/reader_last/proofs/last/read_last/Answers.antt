@@ -7,7 +7,6 @@ use Rattle.reader.specs.Reader.{read_last}
 use Rattle.reader.specs.Internal.Field.{field_in}
 use Rattle.reader.proofs.Laws.Field.{told}
 use Rattle.reader_last.specs.Internal.Last.{LastOf}
-use borrow.Author.Rules.{rules}
 use Rattle.reader_last.proofs.last.read_last.Goals as goal
 
 pub returns-then-present : goal.returns-then-present

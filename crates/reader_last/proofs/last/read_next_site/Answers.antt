@@ -8,7 +8,6 @@ use Rattle.reader.proofs.Laws.Field.{told}
 use Rattle.reader_names.specs.declared.NameAt.{NameAt}
 use Rattle.reader_names.specs.Internal.NameRead.{NameOf}
 use Rattle.reader_forms.specs.declared.reading.NextSite.TheVariants.{Name}
-use borrow.Author.Rules.{rules}
 use Rattle.reader_last.proofs.last.read_next_site.Goals as goal
 
 pub returns-in-Refused : goal.returns-in-Refused

@@ -1,9 +1,7 @@
 use mathlib.Core.Path.{refl, subst}
-use Prim.Native.Nat.{◌-◌}
 use native.Mathlib.Omega.{arith}
 use Rattle.reader_names.specs.Internal.NameRead.{NameOf}
-use Rattle.reader_names.proofs.Laws.NamesRead.{NamesLeft, names-start, names-refused, names_more, names-end}
-use borrow.Author.Rules.{rules}
+use Rattle.reader_names.proofs.Laws.NamesRead.{names-start, names-refused, names_more, names-end}
 use Rattle.reader_names.proofs.list.read_names.Goals as goal
 
 pub loop-i-init : goal.loop-i-init

@@ -6,7 +6,6 @@ use lib.Bits.{bit_and}
 use Rattle.names.specs.Walk.{aim}
 use Rattle.names.proofs.Laws.Walk.{look_end, look_label, look_pointer}
 use Rattle.reader_names.proofs.Laws.Look.{top_bits, offset-bits, look_past, look_reserved, look_half}
-use borrow.Author.Rules.{rules}
 use Rattle.reader_names.proofs.look.look_at.Goals as goal
 
 pub returns-then-reply-at : goal.returns-then-reply-at

@@ -1,6 +1,6 @@
 use mathlib.Core.Path.{◌≡◌, sym, ap, ◌∙◌, subst}
 use mathlib.Core.List.{List, []}
-use Prim.Native.Nat.{ℕ, ◌+◌, ◌-◌}
+use Prim.Native.Nat.{ℕ, ◌+◌}
 use native.Mathlib.Omega.{arith}
 use lib.ListN.{length}
 use Rattle.answers.specs.Try.{good}
@@ -10,7 +10,6 @@ use Rattle.reader_names.specs.declared.step.NameStep.TheVariants as step
 use Rattle.reader_names.specs.Internal.Step.{name_step, StepWithin}
 use Rattle.reader_names.proofs.Laws.Label.{joined_length}
 use Rattle.reader_names.proofs.Laws.NameRead.{NameLeft, name-start, name-ends, name-refused, name-label, name-pointer}
-use borrow.Author.Rules.{rules}
 use Rattle.reader_names.proofs.read.read_name.Goals as goal
 use Rattle.reader_names.proofs.read.read_name.Goals.{After-name_step}
 

@@ -3,7 +3,6 @@ use borrow.Author.Tests.{lt-ltb, le-ltb}
 use native.Mathlib.Omega.{arith}
 use lib.ListN.{length}
 use Rattle.reader_names.specs.Internal.Step.{label_step}
-use borrow.Author.Rules.{rules}
 use Rattle.reader_names.proofs.step.label_step.Goals as goal
 
 pub returns-then-spent-len-gt-WRITTEN_MOST : goal.returns-then-spent-len-gt-WRITTEN_MOST

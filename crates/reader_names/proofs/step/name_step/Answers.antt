@@ -7,7 +7,6 @@ use Rattle.reader.proofs.Laws.Field.{told}
 use Rattle.reader_names.specs.Internal.Look.{look_in}
 use Rattle.reader_names.specs.Internal.Step.{name_step, StepWithin}
 use Rattle.reader_names.proofs.Laws.Step.{label-within, pointer-within}
-use borrow.Author.Rules.{rules}
 use Rattle.reader_names.proofs.step.name_step.Goals as goal
 
 pub label_step-requires : goal.label_step-requires

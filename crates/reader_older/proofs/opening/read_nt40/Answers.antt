@@ -6,7 +6,6 @@ use Rattle.reader_older.specs.declared.opening.Opening.{Opening}
 use Rattle.reader_forms.specs.Reading.{reading_as}
 use Rattle.reader_forms.specs.Internal.Ending.{ending_in}
 use Rattle.reader_older.specs.Internal.Opening.{opening_in}
-use borrow.Author.Rules.{rules}
 use Rattle.reader_older.proofs.opening.read_nt40.Goals as goal
 
 -- the fields that an opening makes

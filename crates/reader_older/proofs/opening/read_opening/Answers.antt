@@ -2,7 +2,6 @@ use Rattle.reader.specs.Reader.{read_opening}
 use Rattle.reader.specs.Internal.Field.{opcode_in}
 use Rattle.reader.specs.Internal.Text.{text_in}
 use Rattle.reader.proofs.Laws.Field.{told}
-use borrow.Author.Rules.{rules}
 use Rattle.reader_older.proofs.opening.read_opening.Goals as goal
 
 pub returns-in-Refused : goal.returns-in-Refused

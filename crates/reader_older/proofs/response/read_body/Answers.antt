@@ -4,7 +4,6 @@ use Rattle.reader.specs.Internal.Field.{field_in, number_in}
 use Rattle.reader.proofs.Laws.Field.{told, stretch_told}
 use Rattle.reader_names.specs.Internal.NamesRead.{NamesAre}
 use Rattle.reader_forms.proofs.Laws.Reading.{name-at}
-use borrow.Author.Rules.{rules}
 use Rattle.reader_older.proofs.response.read_body.Goals as goal
 
 pub returns-in-Refused : goal.returns-in-Refused

@@ -3,7 +3,6 @@ use Rattle.reader.specs.Reader.{read_response}
 use Rattle.reader.specs.Internal.Field.{field_in}
 use Rattle.reader.proofs.Laws.Field.{told, stretch_told}
 use Rattle.reader_older.specs.Internal.Opening.{opening_in}
-use borrow.Author.Rules.{rules}
 use Rattle.reader_older.proofs.response.read_head.Goals as goal
 
 pub returns-in-Refused : goal.returns-in-Refused

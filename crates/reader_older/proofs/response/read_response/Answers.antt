@@ -10,7 +10,6 @@ use Rattle.reader_forms.specs.Internal.Ending.{ending_in}
 use Rattle.reader_older.specs.Internal.Response.{HeadOf, BodyOf}
 use Rattle.reader_older.proofs.Laws.Response.{said, parts-read, parts_said}
 use lib.ListN.{length}
-use borrow.Author.Rules.{rules}
 use Rattle.reader_older.proofs.response.read_response.Goals as goal
 
 pub returns-in-Refused : goal.returns-in-Refused

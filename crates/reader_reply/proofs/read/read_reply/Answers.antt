@@ -1,4 +1,3 @@
-use borrow.Author.Rules.{rules}
 use Rattle.reader_forms.proofs.Laws.Reading.{read_reply_promised}
 use Rattle.reader_reply.proofs.read.read_reply.Goals as goal
 

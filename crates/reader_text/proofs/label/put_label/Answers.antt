@@ -3,7 +3,6 @@ use native.Mathlib.Omega.{arith}
 use lib.ListN.{length-set}
 use Rattle.lent.specs.Internal.OverAt.{over_at}
 use Rattle.reader_text.proofs.Laws.Label.{dot_laid}
-use borrow.Author.Rules.{rules}
 use Rattle.reader_text.proofs.label.put_label.Goals as goal
 
 pub put_octets-requires : goal.put_octets-requires

@@ -9,8 +9,7 @@ use Rattle.reader_text.specs.Internal.Label.{dotted}
 use Rattle.reader_names.specs.declared.step.NameStep.{NameStep}
 use Rattle.reader_names.specs.declared.step.NameStep.TheVariants as step
 use Rattle.reader_names.specs.Internal.Step.{name_step, StepWithin}
-use Rattle.reader_text.proofs.Laws.Text.{TextLeft, text-start, text-ends, text-refused, text-label, text-pointer, name-text_promised}
-use borrow.Author.Rules.{rules}
+use Rattle.reader_text.proofs.Laws.Text.{text-start, text-ends, text-refused, text-label, text-pointer, name-text_promised}
 use Rattle.reader_text.proofs.text.name_text.Goals as goal
 use Rattle.reader_text.proofs.text.name_text.Goals.{After-name_step}
 

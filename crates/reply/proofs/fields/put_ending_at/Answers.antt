@@ -2,7 +2,6 @@ use native.Mathlib.Omega.{arith}
 use Rattle.answers.specs.Wire.{LmNtToken, Lm20Token}
 use Rattle.lent.proofs.Laws.OverAt.{laid_none, laid_number}
 use Rattle.reply.specs.Reply.{ending}
-use borrow.Author.Rules.{rules}
 use Rattle.reply.proofs.fields.put_ending_at.Goals as goal
 
 pub returns : goal.returns

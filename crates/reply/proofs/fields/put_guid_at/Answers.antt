@@ -4,7 +4,6 @@ use Prim.Native.Nat.{ℕ, ◌+◌}
 use native.Mathlib.Omega.{arith}
 use lib.ListN.{length}
 use Rattle.lent.specs.Internal.OverAt.{over_at}
-use borrow.Author.Rules.{rules}
 use Rattle.reply.proofs.fields.put_guid_at.Goals as goal
 
 pub put_octets_at-requires : goal.put_octets_at-requires

@@ -4,7 +4,6 @@ use Rattle.octets.proofs.Laws.Buffer.{lent_back}
 use Rattle.lent.specs.Internal.OverAt.{over_at}
 use Rattle.names.specs.Internal.Plan.{name_octets}
 use Rattle.reply.specs.Internal.Plan.{last_name}
-use borrow.Author.Rules.{rules}
 use Rattle.reply.proofs.fields.put_last_name_at.Goals as goal
 
 pub returns : goal.returns

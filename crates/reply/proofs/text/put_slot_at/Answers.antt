@@ -9,7 +9,6 @@ use Rattle.lent.specs.Internal.OverAt.{over_at}
 use Rattle.lent.proofs.Laws.Stretch.{stretch_short}
 use Rattle.reply.specs.Reply.{text16}
 use Rattle.reply.specs.Internal.RawReply.{no_stretch, slot_text}
-use borrow.Author.Rules.{rules}
 use Rattle.reply.proofs.text.put_slot_at.Goals as goal
 
 pub offset_bounds-slots-slot : goal.offset_bounds-slots-slot

@@ -2,7 +2,6 @@ use native.Mathlib.Omega.{arith}
 use Rattle.lent.proofs.Laws.OverAt.{laid_over, laid_number, over_laid, length_laid}
 use Rattle.reply.specs.Reply.{text16}
 use Rattle.reply.proofs.Laws.Reply.{text-length}
-use borrow.Author.Rules.{rules}
 use Rattle.reply.proofs.text.put_text.Goals as goal
 
 pub put_utf16-at-requires : goal.put_utf16-at-requires

@@ -12,7 +12,6 @@ use Rattle.lent.specs.Internal.Stretch.{octets_at}
 use Rattle.lent.proofs.Laws.OverAt.{laid_none, laid_number, laid_more}
 use Rattle.reply.specs.Reply.{address_if}
 use Rattle.reply.proofs.Laws.Reply.{address-length}
-use borrow.Author.Rules.{rules}
 use Rattle.reply_ex.proofs.ex.put_address_at.Goals as goal
 use Rattle.reply_ex.proofs.ex.put_address_at.Goals.{Else-not-raw}
 

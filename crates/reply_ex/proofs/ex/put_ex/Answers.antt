@@ -11,7 +11,6 @@ use Rattle.reply.specs.Reply.{Reply, ex_head, address_if}
 use Rattle.reply.specs.Internal.RawReply.{slot_text, reply_in}
 use Rattle.reply.specs.Internal.Plan.{ex_front, last_name, last_octets}
 use Rattle.reply.proofs.Laws.Plan.{last_fits, ex-parts, ex-length}
-use borrow.Author.Rules.{rules}
 use Rattle.reply_ex.proofs.ex.put_ex.Goals as goal
 use Rattle.reply_ex.proofs.ex.put_ex.Goals.{Start}
 

@@ -6,7 +6,6 @@ use Rattle.lent.proofs.Laws.OverAt.{laid_none, laid_number, laid_more, over_laid
 use Rattle.reply.specs.Reply.{Reply, ex_head}
 use Rattle.reply.specs.Internal.RawReply.{reply_in}
 use Rattle.reply.proofs.Laws.Reply.{ex_head_length}
-use borrow.Author.Rules.{rules}
 use Rattle.reply_ex.proofs.ex.put_ex_head.Goals as goal
 use Rattle.reply_ex.proofs.ex.put_ex_head.Goals.{Start}
 

@@ -13,7 +13,6 @@ use Rattle.reply.specs.Reply.{ending}
 use Rattle.reply.specs.Internal.Plan.{last_name, last_octets, LastFits}
 use Rattle.reply.proofs.Laws.Reply.{ending-length}
 use Rattle.reply.proofs.Laws.Plan.{last-length}
-use borrow.Author.Rules.{rules}
 use Rattle.reply_ex.proofs.ex.put_last_at.Goals as goal
 
 pub put_last_name_at-at-requires : goal.put_last_name_at-at-requires

@@ -7,7 +7,6 @@ use Rattle.lent.proofs.Laws.OverAt.{laid_over, laid_more, over_laid}
 use Rattle.reply.specs.Reply.{Reply, ending, opening, nt40_octets}
 use Rattle.reply.specs.Internal.RawReply.{reply_in}
 use Rattle.reply.proofs.Laws.Reply.{nt40-length}
-use borrow.Author.Rules.{rules}
 use Rattle.reply_older.proofs.older.put_nt40.Goals as goal
 use Rattle.reply_older.proofs.older.put_nt40.Goals.{Start}
 

@@ -5,7 +5,6 @@ use Rattle.lent.proofs.Laws.OverAt.{laid_none, laid_number, laid_more, over_laid
 use Rattle.reply.specs.Reply.{Reply, text16, opening}
 use Rattle.reply.specs.Internal.RawReply.{reply_in}
 use Rattle.reply.proofs.Laws.Reply.{opening-length}
-use borrow.Author.Rules.{rules}
 use Rattle.reply_older.proofs.older.put_opening.Goals as goal
 use Rattle.reply_older.proofs.older.put_opening.Goals.{Start}
 

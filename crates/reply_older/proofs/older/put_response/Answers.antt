@@ -11,7 +11,6 @@ use Rattle.names.specs.Internal.Plan.{names_octets}
 use Rattle.reply.specs.Reply.{ending, Reply, response_head}
 use Rattle.reply.specs.Internal.RawReply.{reply_in}
 use Rattle.reply.proofs.Laws.Plan.{response-parts, response-length}
-use borrow.Author.Rules.{rules}
 use Rattle.reply_older.proofs.older.put_response.Goals as goal
 use Rattle.reply_older.proofs.older.put_response.Goals.{Start}
 

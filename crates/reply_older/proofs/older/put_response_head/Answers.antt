@@ -6,7 +6,6 @@ use Rattle.lent.proofs.Laws.OverAt.{laid_over, laid_more, over_laid, length_laid
 use Rattle.reply.specs.Reply.{Reply, opening, response_head}
 use Rattle.reply.specs.Internal.RawReply.{reply_in}
 use Rattle.reply.proofs.Laws.Reply.{response_head_length}
-use borrow.Author.Rules.{rules}
 use Rattle.reply_older.proofs.older.put_response_head.Goals as goal
 use Rattle.reply_older.proofs.older.put_response_head.Goals.{Start}
 

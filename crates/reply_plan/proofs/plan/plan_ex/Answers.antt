@@ -2,7 +2,7 @@ use mathlib.Core.Path.{◌≡◌, sym, ap, subst, ◌∙◌}
 use mathlib.Core.List.{List}
 use Prim.Native.Nat.{ℕ, ◌+◌}
 use native.Mathlib.Omega.{arith}
-use lib.ListN.{length, length-append, length-map}
+use lib.ListN.{length, length-append}
 use Rattle.names.specs.declared.plan.PlannedName.{PlannedName}
 use Rattle.names.specs.Internal.Plan.{AllFit, names_octets, writings_of}
 use Rattle.reply.specs.Reply.{Reply, ex_head}
@@ -11,7 +11,6 @@ use Rattle.reply.specs.Internal.Plan.{ex_front, NextPlan, ExPlan}
 use Rattle.reply.proofs.Laws.Reply.{ex_head_length}
 use Rattle.reply.proofs.Laws.Plan.{front_parts, ex-length}
 use Rattle.reply_plan.proofs.Laws.Slots.{slots_planned}
-use borrow.Author.Rules.{rules}
 use Rattle.reply_plan.proofs.plan.plan_ex.Goals as goal
 
 pub plan_names-planned-requires : goal.plan_names-planned-requires

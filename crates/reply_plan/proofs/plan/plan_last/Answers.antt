@@ -10,7 +10,6 @@ use Rattle.names.proofs.Laws.Plan.{name-length, literal_short}
 use Rattle.reply.specs.declared.plan.Plan.{Plan}
 use Rattle.reply_plan.specs.Internal.LastPlan.{LastPlan}
 use Rattle.reply_plan.proofs.Laws.LastPlan.{last_none, last_planned}
-use borrow.Author.Rules.{rules}
 use Rattle.reply_plan.proofs.plan.plan_last.Goals as goal
 use Rattle.reply_plan.proofs.plan.plan_last.Goals.{After-name_size}
 

@@ -1,7 +1,6 @@
 use native.Mathlib.Omega.{arith}
 use Rattle.reply.specs.Internal.RawReply.{reply_in}
 use Rattle.reply.proofs.Laws.Reply.{nt40-length}
-use borrow.Author.Rules.{rules}
 use Rattle.reply_plan.proofs.plan.plan_nt40.Goals as goal
 
 pub returns : goal.returns

@@ -1,7 +1,6 @@
 use mathlib.Core.Path.{sym, subst}
 use Rattle.answers.specs.declared.Form.{Form}
 use Rattle.reply.specs.Internal.Plan.{PlanOf}
-use borrow.Author.Rules.{rules}
 use Rattle.reply_plan.proofs.plan.plan_reply.Goals as goal
 
 pub returns-in-Nt40 : goal.returns-in-Nt40

@@ -2,14 +2,13 @@ use mathlib.Core.Path.{◌≡◌}
 use mathlib.Core.List.{List}
 use Prim.Native.Nat.{ℕ, ◌+◌}
 use native.Mathlib.Omega.{arith}
-use lib.ListN.{length, length-map}
+use lib.ListN.{length}
 use Rattle.reply.specs.Reply.{Reply, response_head}
 use Rattle.reply.specs.Internal.RawReply.{reply_in}
 use Rattle.reply.specs.Internal.Plan.{ResponsePlan}
 use Rattle.reply.proofs.Laws.Reply.{response_head_length}
 use Rattle.reply.proofs.Laws.Plan.{response-length}
 use Rattle.reply_plan.proofs.Laws.Slots.{slots_planned}
-use borrow.Author.Rules.{rules}
 use Rattle.reply_plan.proofs.plan.plan_response.Goals as goal
 
 pub plan_names-planned-requires : goal.plan_names-planned-requires

@@ -8,7 +8,6 @@ use borrow.Author.Tests.{not-true, not-false}
 use Rattle.lent.specs.Internal.Stretch.{octets_at}
 use Rattle.reply.specs.Reply.{address_if}
 use Rattle.reply.proofs.Laws.Reply.{address-length}
-use borrow.Author.Rules.{rules}
 use Rattle.reply_plan.proofs.size.address_size.Goals as goal
 
 pub returns-then-not-asked : goal.returns-then-not-asked

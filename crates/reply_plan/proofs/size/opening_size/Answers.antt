@@ -1,7 +1,6 @@
 use native.Mathlib.Omega.{arith}
 use Rattle.reply.specs.Internal.RawReply.{reply_in}
 use Rattle.reply.proofs.Laws.Reply.{opening-length}
-use borrow.Author.Rules.{rules}
 use Rattle.reply_plan.proofs.size.opening_size.Goals as goal
 
 pub text_size-requires : goal.text_size-requires

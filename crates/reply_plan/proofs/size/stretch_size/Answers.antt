@@ -2,7 +2,6 @@ use mathlib.Core.Path.{ap}
 use native.Mathlib.Omega.{arith}
 use lib.ListN.{length}
 use Rattle.lent.proofs.Laws.Stretch.{stretch_short}
-use borrow.Author.Rules.{rules}
 use Rattle.reply_plan.proofs.size.stretch_size.Goals as goal
 
 pub returns : goal.returns

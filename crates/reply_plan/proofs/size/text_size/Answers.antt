@@ -7,7 +7,6 @@ use Rattle.lent.proofs.Laws.Stretch.{stretch_short}
 use Rattle.unicode_text.specs.Utf16.{utf16}
 use Rattle.reply.specs.Internal.RawReply.{no_stretch, slot_text}
 use Rattle.reply.proofs.Laws.Reply.{text-length}
-use borrow.Author.Rules.{rules}
 use Rattle.reply_plan.proofs.size.text_size.Goals as goal
 use Rattle.reply_plan.proofs.size.text_size.Goals.{After-slot_text}
 

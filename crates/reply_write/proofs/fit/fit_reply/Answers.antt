@@ -1,6 +1,5 @@
 use mathlib.Core.Path.{sym}
 use native.Mathlib.Omega.{arith}
-use borrow.Author.Rules.{rules}
 use Rattle.octets.proofs.Laws.Buffer.{over_none}
 use Rattle.reply_write.proofs.fit.fit_reply.Goals as goal
 

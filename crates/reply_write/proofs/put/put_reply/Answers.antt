@@ -5,7 +5,6 @@ use Rattle.answers.specs.declared.Form.{Form}
 use Rattle.reply.specs.Reply.{octets_in}
 use Rattle.reply.specs.Internal.RawReply.{reply_in}
 use Rattle.reply.specs.Internal.Plan.{PlanOf}
-use borrow.Author.Rules.{rules}
 use Rattle.reply_write.proofs.put.put_reply.Goals as goal
 
 pub put_nt40-requires : goal.put_nt40-requires

@@ -1,5 +1,4 @@
 use Rattle.table.specs.Account.{account_of}
-use borrow.Author.Rules.{rules}
 use Rattle.table.proofs.account.control.Goals as goal
 
 pub returns : goal.returns

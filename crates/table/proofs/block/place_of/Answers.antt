@@ -1,6 +1,5 @@
 use mathlib.Core.Path.{ap}
 use Rattle.table.specs.Countings.{block_place}
-use borrow.Author.Rules.{rules}
 use Rattle.table.proofs.block.place_of.Goals as goal
 
 pub returns : goal.returns

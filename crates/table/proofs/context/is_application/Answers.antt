@@ -1,5 +1,4 @@
 use Rattle.table.specs.Context.{context_of}
-use borrow.Author.Rules.{rules}
 use Rattle.table.proofs.context.is_application.Goals as goal
 
 pub returns : goal.returns

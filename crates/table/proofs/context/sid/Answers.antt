@@ -2,7 +2,6 @@ use Rattle.octets.specs.Lists.{cut}
 use lib.Seq.{get_or-drop}
 use Prim.Native.Nat.{ℕ, ◌+◌, ◌*◌}
 use mathlib.Core.Path.{sym, ap, ◌∙◌}
-use borrow.Author.Rules.{rules}
 use Rattle.table.proofs.context.sid.Goals as goal
 
 pub returns : goal.returns

@@ -1,6 +1,5 @@
 use lib.ListN.{get_or-eq_default}
 use mathlib.Core.Path.{sym}
-use borrow.Author.Rules.{rules}
 use Rattle.table.proofs.field.octet_in.Goals as goal
 
 pub returns-then-s-offset : goal.returns-then-s-offset

@@ -1,7 +1,6 @@
 use Rattle.octets.specs.Lists.{cut}
 use Prim.Native.Nat.{ℕ, ◌+◌}
 use mathlib.Core.Path.{ap, ◌∙◌}
-use borrow.Author.Rules.{rules}
 use Rattle.table.proofs.field.text_in.Goals as goal
 
 pub returns : goal.returns

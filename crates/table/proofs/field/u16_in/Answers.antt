@@ -1,6 +1,5 @@
 use Rattle.octets.proofs.Laws.Number.{u16_anywhere}
 use native.Mathlib.Omega.{arith}
-use borrow.Author.Rules.{rules}
 use Rattle.table.proofs.field.u16_in.Goals as goal
 
 pub returns : goal.returns

@@ -1,6 +1,5 @@
 use native.Mathlib.Omega.{arith}
 use Rattle.table.proofs.Laws.Field.{u32_anywhere}
-use borrow.Author.Rules.{rules}
 use Rattle.table.proofs.field.u32_in.Goals as goal
 
 pub returns : goal.returns

@@ -1,4 +1,3 @@
-use borrow.Author.Rules.{rules}
 use Rattle.table.proofs.record.format_of.Goals as goal
 
 pub returns-in-Context : goal.returns-in-Context

@@ -1,7 +1,6 @@
 use mathlib.Core.Path.{ap, ◌∙◌}
 use Rattle.octets.specs.Lists.{cut}
 use Rattle.table.specs.declared.record.RecordFormat.{RecordFormat}
-use borrow.Author.Rules.{rules}
 use Rattle.table.proofs.record.record_at.Goals as goal
 
 pub returns : goal.returns

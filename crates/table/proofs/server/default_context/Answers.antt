@@ -1,7 +1,6 @@
 use mathlib.Core.Path.{ap}
 use Rattle.table.specs.Countings.{context_number}
 use Rattle.table.specs.Server.{server_of}
-use borrow.Author.Rules.{rules}
 use Rattle.table.proofs.server.default_context.Goals as goal
 
 pub returns : goal.returns

@@ -6,7 +6,6 @@ use Rattle.table.specs.Block.{block_size, body}
 use Rattle.table.specs.Server.{server_of}
 use Rattle.table.specs.Table.{table_of}
 use Rattle.table.proofs.Laws.Table.{body_there}
-use borrow.Author.Rules.{rules}
 use Rattle.table.proofs.server.server_of.Goals as goal
 
 pub returns : goal.returns

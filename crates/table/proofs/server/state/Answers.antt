@@ -1,5 +1,4 @@
 use Rattle.table.specs.Server.{server_of}
-use borrow.Author.Rules.{rules}
 use Rattle.table.proofs.server.state.Goals as goal
 
 pub returns : goal.returns

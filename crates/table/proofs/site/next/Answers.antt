@@ -1,5 +1,4 @@
 use Rattle.table.specs.Site.{site_of}
-use borrow.Author.Rules.{rules}
 use Rattle.table.proofs.site.next.Goals as goal
 
 pub returns : goal.returns

@@ -3,7 +3,6 @@ use mathlib.Core.Option.{some}
 use mathlib.Core.Path.{sym, ap, ◌∙◌}
 use Rattle.table.specs.Countings.{site_number}
 use borrow.Author.Tests.{eq-eqb, ne_eqb}
-use borrow.Author.Rules.{rules}
 use Rattle.table.proofs.site.reference_in.Goals as goal
 
 pub returns-then-number-eq0 : goal.returns-then-number-eq0

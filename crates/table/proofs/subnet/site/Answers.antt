@@ -1,5 +1,4 @@
 use Rattle.table.specs.Subnet.{subnet_of}
-use borrow.Author.Rules.{rules}
 use Rattle.table.proofs.subnet.site.Goals as goal
 
 pub returns : goal.returns

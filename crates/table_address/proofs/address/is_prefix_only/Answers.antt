@@ -1,5 +1,4 @@
 use Rattle.table.specs.Address.{is_prefix_only}
-use borrow.Author.Rules.{rules}
 use Rattle.table_address.proofs.address.is_prefix_only.Goals as goal
 
 pub returns : goal.returns

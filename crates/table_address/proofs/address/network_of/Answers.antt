@@ -2,7 +2,6 @@ use native.Mathlib.Nat.{div-add-mod'}
 use native.Mathlib.Omega.{arith}
 use Rattle.table.specs.Address.{network_of}
 use Rattle.table_address.proofs.Laws.Address.{share_some}
-use borrow.Author.Rules.{rules}
 use Rattle.table_address.proofs.address.network_of.Goals as goal
 
 pub nonzero_div-result : goal.nonzero_div-result

@@ -1,5 +1,4 @@
 use Rattle.table.specs.Address.{share_prefix}
-use borrow.Author.Rules.{rules}
 use Rattle.table_address.proofs.address.share_prefix.Goals as goal
 
 pub returns : goal.returns

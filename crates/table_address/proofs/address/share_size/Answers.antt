@@ -1,5 +1,4 @@
 use Rattle.table_address.proofs.Laws.Address.{share_whole, share_shift}
-use borrow.Author.Rules.{rules}
 use Rattle.table_address.proofs.address.share_size.Goals as goal
 
 pub returns-then-prefix-ge-ADDRESS_BITS : goal.returns-then-prefix-ge-ADDRESS_BITS

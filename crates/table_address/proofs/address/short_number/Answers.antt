@@ -1,6 +1,5 @@
 use native.Mathlib.Omega.{arith}
 use Rattle.table.specs.Address.{address_number}
-use borrow.Author.Rules.{rules}
 use Rattle.table_address.proofs.address.short_number.Goals as goal
 
 pub returns : goal.returns

@@ -1,13 +1,11 @@
 use mathlib.Core.Path.{◌≡◌, refl, sym, ap, ◌∙◌}
-use Prim.Native.Nat.{ℕ, ◌+◌, ◌-◌, ◌*◌, ◌≤◌, ◌<◌}
+use Prim.Native.Nat.{ℕ, ◌+◌, ◌*◌, ◌≤◌, ◌<◌}
 use native.Mathlib.Omega.{arith}
-use lib.ListN.{drop}
-use borrow.Author.Rules.{rules}
 use borrow.Author.Tests.{not-true, not-false}
-use Rattle.octets.specs.Lists.{all, cut}
+use Rattle.octets.specs.Lists.{cut}
 use Rattle.octets.proofs.Laws.Lists.{all_piece_fails, all_piece_next, all-pieces-end}
 use Rattle.table.specs.declared.record.RecordFormat.{RecordFormat}
-use Rattle.table.specs.Format.{format_of, records_in}
+use Rattle.table.specs.Format.{format_of}
 use Rattle.table.proofs.Laws.Format.{record_fits}
 use Rattle.table_layout.specs.Layout.{record_layout}
 use Rattle.table_blocks.proofs.layout.all_records.Goals as goal

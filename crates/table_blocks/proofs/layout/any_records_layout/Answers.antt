@@ -1,5 +1,4 @@
 use Rattle.octets.specs.Lists.{any}
-use borrow.Author.Rules.{rules}
 use Rattle.table_blocks.proofs.layout.any_records_layout.Goals as goal
 
 pub returns : goal.returns

@@ -1,5 +1,4 @@
 use Rattle.table_layout.specs.Layout.{block_layout}
-use borrow.Author.Rules.{rules}
 use Rattle.table_blocks.proofs.layout.block_layout.Goals as goal
 
 pub returns : goal.returns

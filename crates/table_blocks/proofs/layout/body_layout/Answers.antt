@@ -1,6 +1,5 @@
 use borrow.Author.Tests.{eq-eqb, ne_eqb}
 use Rattle.table_layout.specs.Layout.{body_layout}
-use borrow.Author.Rules.{rules}
 use Rattle.table_blocks.proofs.layout.body_layout.Goals as goal
 
 pub returns-then-place : goal.returns-then-place

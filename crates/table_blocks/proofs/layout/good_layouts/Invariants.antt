@@ -1,16 +1,10 @@
-use Rattle.table.proofs.Laws.Table.{blocks_step, blocks_end}
 use Rattle.table.specs.Block.{block_size, blocks_of}
-use Rattle.table.specs.Internal.BlockAt.{block_at}
 use Rattle.table.specs.Countings.{block_place}
 use Rattle.table.specs.Server.{server_place}
-use Rattle.table_blocks.proofs.Laws.Layout.{layouts_fail, layouts_next, layouts_end}
-use Rattle.table_layout.specs.Layout.{block_layout, layouts_from}
-use borrow.Author.Tests.{not-true, not-false}
-use borrow.Author.Rules.{rules}
+use Rattle.table_layout.specs.Layout.{layouts_from}
 use lib.ListN.{length, drop}
-use native.Mathlib.Omega.{arith}
-use Prim.Native.Nat.{◌+◌, ◌-◌, ◌/◌, ◌≤◌}
-use mathlib.Core.Path.{◌≡◌, refl, sym, ap, ◌∙◌}
+use Prim.Native.Nat.{◌-◌, ◌/◌, ◌≤◌}
+use mathlib.Core.Path.{◌≡◌}
 use Rattle.table_blocks.proofs.layout.good_layouts.Given as goal
 
 abbrev pub invariant-loop-i : goal.invariant-loop-i

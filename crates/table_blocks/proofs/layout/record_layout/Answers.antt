@@ -1,5 +1,4 @@
 use mathlib.Core.Path.{sym, ◌∙◌}
-use borrow.Author.Rules.{rules}
 use Rattle.table_blocks.proofs.layout.record_layout.Goals as goal
 
 pub returns-in-Context : goal.returns-in-Context

@@ -2,7 +2,6 @@ use mathlib.Core.Path.{sym, ap, ◌∙◌}
 use borrow.Author.Tests.{eq-eqb, ne_eqb}
 use Rattle.table.specs.declared.record.RecordFormat.{RecordFormat}
 use Rattle.table_layout.specs.Layout.{records_layout}
-use borrow.Author.Rules.{rules}
 use Rattle.table_blocks.proofs.layout.records_layout.Goals as goal
 
 pub returns-then-octet-format : goal.returns-then-octet-format

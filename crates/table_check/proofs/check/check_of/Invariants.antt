@@ -1,14 +1,7 @@
-use mathlib.Core.Path.{◌≡◌, refl, sym, ap, subst, ◌∙◌}
-use Prim.Native.Nat.{ℕ, ◌+◌, ◌-◌, ◌*◌, ◌≤◌, ◌<◌}
-use native.Mathlib.Omega.{arith}
-use lib.ListN.{length, drop, length-drop}
-use Rattle.table_check.proofs.Laws.Step.{step_below, step_as_singly, grown-cut}
-use Rattle.octets.proofs.Laws.Lists.{cut_rest}
-use Rattle.octets.specs.Lists.{cut}
-use Rattle.table_check.specs.declared.check.Check.{Check}
-use Rattle.table_check.specs.Step.{step}
+use mathlib.Core.Path.{◌≡◌}
+use Prim.Native.Nat.{◌-◌, ◌≤◌, ◌<◌}
+use lib.ListN.{length, drop}
 use Rattle.table_check.specs.Check.{grown, check_of_lem}
-use borrow.Author.Rules.{rules}
 use Rattle.table_check.proofs.check.check_of.Given as goal
 
 abbrev pub invariant-loop-i : goal.invariant-loop-i

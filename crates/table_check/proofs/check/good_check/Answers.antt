@@ -1,5 +1,4 @@
 use Rattle.table_check.specs.Check.{good_check}
-use borrow.Author.Rules.{rules}
 use Rattle.table_check.proofs.check.good_check.Goals as goal
 
 pub returns : goal.returns

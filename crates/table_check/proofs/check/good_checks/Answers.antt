@@ -3,12 +3,10 @@ use Rattle.table.specs.Block.{block_size, blocks_of}
 use Rattle.table.specs.Internal.BlockAt.{block_at}
 use Rattle.table_check.specs.Check.{good_check}
 use Rattle.octets.proofs.Laws.Lists.{all_piece_fails, all_piece_next, all-pieces-end}
-use Rattle.octets.specs.Lists.{all}
 use borrow.Author.Tests.{not-true, not-false}
-use borrow.Author.Rules.{rules}
-use lib.ListN.{length, drop}
+use lib.ListN.{length}
 use native.Mathlib.Omega.{arith}
-use Prim.Native.Nat.{◌-◌, ◌/◌, ◌≤◌}
+use Prim.Native.Nat.{◌/◌}
 use mathlib.Core.Path.{◌≡◌, refl, sym, ap, ◌∙◌}
 use Rattle.table_check.proofs.check.good_checks.Goals as goal
 use Rattle.table_check.proofs.check.good_checks.Goals.{After-good_check}

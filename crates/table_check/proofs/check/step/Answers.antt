@@ -1,10 +1,8 @@
-use mathlib.Core.Path.{◌≡◌, ap, ◌∙◌}
 use Prim.Native.Nat.{ℕ, ◌+◌, ◌*◌, ◌%◌, ◌≤◌}
 use native.Mathlib.Omega.{arith}
 use native.Mathlib.Nat.{mul-le-mul_right}
 use lib.ListN.{length}
 use Rattle.table_check.specs.Step as specs
-use borrow.Author.Rules.{rules}
 use Rattle.table_check.proofs.check.step.Goals as goal
 
 pub overflow_mul-result : goal.overflow_mul-result

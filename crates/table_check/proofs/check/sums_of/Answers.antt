@@ -1,10 +1,8 @@
 use mathlib.Core.Path.{◌≡◌, ap, ◌∙◌}
-use Prim.Native.Nat.{ℕ, ◌+◌, ◌-◌, ◌*◌, ◌≤◌, ◌<◌}
+use Prim.Native.Nat.{ℕ, ◌-◌, ◌*◌, ◌≤◌, ◌<◌}
 use native.Mathlib.Omega.{arith}
-use lib.ListN.{length, get_or, drop}
+use lib.ListN.{length, get_or}
 use Rattle.table_check.proofs.Laws.Step.{sum-next, counted_next, sum-end, counted-end}
-use Rattle.table_check.specs.Step as specs
-use borrow.Author.Rules.{rules}
 use Rattle.table_check.proofs.check.sums_of.Goals as goal
 
 pub loop-i-init : goal.loop-i-init

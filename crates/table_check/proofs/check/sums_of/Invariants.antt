@@ -1,10 +1,7 @@
-use mathlib.Core.Path.{◌≡◌, ap, ◌∙◌}
-use Prim.Native.Nat.{ℕ, ◌+◌, ◌-◌, ◌*◌, ◌≤◌, ◌<◌}
-use native.Mathlib.Omega.{arith}
-use lib.ListN.{length, get_or, drop}
-use Rattle.table_check.proofs.Laws.Step.{sum-next, counted_next, sum-end, counted-end}
+use mathlib.Core.Path.{◌≡◌}
+use Prim.Native.Nat.{◌+◌, ◌-◌, ◌*◌, ◌≤◌}
+use lib.ListN.{length, drop}
 use Rattle.table_check.specs.Step as specs
-use borrow.Author.Rules.{rules}
 use Rattle.table_check.proofs.check.sums_of.Given as goal
 
 abbrev pub invariant-loop-i : goal.invariant-loop-i

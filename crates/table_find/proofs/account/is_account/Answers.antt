@@ -7,7 +7,6 @@ use Rattle.account_names.specs.AccountName.{same_account_name}
 use Rattle.table.specs.Account.{account_of}
 use Rattle.table.specs.Countings.{same_context}
 use Rattle.table.specs.declared.ContextNumber.{ContextNumber}
-use borrow.Author.Rules.{rules}
 use Rattle.table_find.proofs.account.is_account.Goals as goal
 use Rattle.table_find.proofs.account.is_account.Goals.{After-name-held}
 

@@ -1,5 +1,4 @@
 use Rattle.table_find.specs.LogOn.{may_log_on}
-use borrow.Author.Rules.{rules}
 use Rattle.table_find.proofs.account.may_log_on.Goals as goal
 
 pub returns : goal.returns

@@ -2,7 +2,6 @@ use mathlib.Core.Path.{sym, ◌∙◌}
 use borrow.Author.Tests.{not-true, not-false}
 use Rattle.table.specs.Context.{context_of}
 use Rattle.table_find.specs.Find.{holds_sid}
-use borrow.Author.Rules.{rules}
 use Rattle.table_find.proofs.context.holds_sid.Goals as goal
 
 pub returns-then-not-has_sid : goal.returns-then-not-has_sid

@@ -1,7 +1,6 @@
 use mathlib.Core.Path.{ap₂, ◌∙◌}
 use Rattle.table.specs.SameName.{same_dns_name}
 use Rattle.table_find.specs.Find.{is_named_by}
-use borrow.Author.Rules.{rules}
 use Rattle.table_find.proofs.context.is_named_by.Goals as goal
 
 pub returns : goal.returns

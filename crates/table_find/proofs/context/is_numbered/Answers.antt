@@ -1,7 +1,6 @@
 use mathlib.Core.Path.{ap}
 use Rattle.table.specs.Countings.{same_context}
 use Rattle.table.specs.declared.ContextNumber.{ContextNumber}
-use borrow.Author.Rules.{rules}
 use Rattle.table_find.proofs.context.is_numbered.Goals as goal
 
 pub returns : goal.returns

@@ -1,5 +1,4 @@
 use mathlib.Core.Path.{◌∙◌, sym}
-use borrow.Author.Rules.{rules}
 use borrow.Author.Tests.{ne_eqb, eq-eqb}
 use Rattle.table_find.proofs.Laws.Find.{compared-short, compared_other, compared_dots, compared_dot}
 use Rattle.table_find.proofs.context.name_compared.Goals as goal

@@ -1,4 +1,3 @@
-use borrow.Author.Rules.{rules}
 use Rattle.table_find.proofs.search.is_asked_for.Goals as goal
 
 pub returns-in-Context : goal.returns-in-Context

@@ -2,7 +2,6 @@ use Prim.Native.Nat.{ℕ}
 use mathlib.Core.Path.{ap, ◌∙◌}
 use mathlib.Core.List.{List}
 use Rattle.octets.specs.Text.{same}
-use borrow.Author.Rules.{rules}
 use Rattle.table_find.proofs.search.is_context.Goals as goal
 
 pub returns-in-Number : goal.returns-in-Number

@@ -1,6 +1,5 @@
 use mathlib.Core.Bool.{not}
 use mathlib.Core.Path.{ap}
-use borrow.Author.Rules.{rules}
 use Rattle.table_find.proofs.search.is_site.Goals as goal
 
 pub returns-in-Number : goal.returns-in-Number

@@ -1,7 +1,6 @@
 use mathlib.Core.Path.{ap}
 use Rattle.table.specs.Countings.{same_site_lem}
 use Rattle.table.specs.declared.SiteNumber.{SiteNumber}
-use borrow.Author.Rules.{rules}
 use Rattle.table_find.proofs.site.is_site_numbered.Goals as goal
 
 pub returns : goal.returns

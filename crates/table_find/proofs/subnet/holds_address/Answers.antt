@@ -1,5 +1,4 @@
 use Rattle.table_find.specs.Find.{in_subnet}
-use borrow.Author.Rules.{rules}
 use Rattle.table_find.proofs.subnet.holds_address.Goals as goal
 
 pub returns : goal.returns

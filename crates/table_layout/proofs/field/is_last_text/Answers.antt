@@ -1,5 +1,4 @@
 use Rattle.table_layout.specs.Field.{last_text}
-use borrow.Author.Rules.{rules}
 use Rattle.table_layout.proofs.field.is_last_text.Goals as goal
 
 pub returns : goal.returns

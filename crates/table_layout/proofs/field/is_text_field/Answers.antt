@@ -1,5 +1,4 @@
 use Rattle.table_layout.specs.Field.{text_field}
-use borrow.Author.Rules.{rules}
 use Rattle.table_layout.proofs.field.is_text_field.Goals as goal
 
 pub returns : goal.returns

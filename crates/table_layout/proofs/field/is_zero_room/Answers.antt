@@ -2,7 +2,6 @@ use Rattle.table_layout.proofs.Laws.Field.{zeros_none}
 use Rattle.table_layout.specs.Field.{zeros}
 use Rattle.octets.specs.Text.{all_zero}
 use mathlib.Core.Path.{ap, ◌∙◌}
-use borrow.Author.Rules.{rules}
 use Rattle.table_layout.proofs.field.is_zero_room.Goals as goal
 
 pub returns-then-end-from : goal.returns-then-end-from

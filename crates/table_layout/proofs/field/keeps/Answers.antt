@@ -1,4 +1,3 @@
-use borrow.Author.Rules.{rules}
 use Rattle.table_layout.proofs.field.keeps.Goals as goal
 
 pub returns-in-Dns : goal.returns-in-Dns

@@ -1,6 +1,5 @@
 use Rattle.table_layout.proofs.Laws.Rule.{netbios-field}
 use Rattle.table_layout.specs.Layout.{context_layout}
-use borrow.Author.Rules.{rules}
 use Rattle.table_layout.proofs.layout.context_layout.Goals as goal
 
 pub returns : goal.returns

@@ -1,5 +1,4 @@
 use Rattle.table_layout.specs.Layout.{flags_layout}
-use borrow.Author.Rules.{rules}
 use Rattle.table_layout.proofs.layout.flags_layout.Goals as goal
 
 pub returns : goal.returns

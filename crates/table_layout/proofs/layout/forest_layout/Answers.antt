@@ -1,5 +1,4 @@
 use Rattle.table_layout.specs.Layout.{forest_layout}
-use borrow.Author.Rules.{rules}
 use Rattle.table_layout.proofs.layout.forest_layout.Goals as goal
 
 pub returns : goal.returns

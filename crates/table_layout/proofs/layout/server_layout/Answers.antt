@@ -1,7 +1,6 @@
 use native.Mathlib.Omega.{arith}
 use Rattle.octets.proofs.Laws.Number.{no_high-bits}
 use Rattle.table_layout.specs.Layout.{server_layout}
-use borrow.Author.Rules.{rules}
 use Rattle.table_layout.proofs.layout.server_layout.Goals as goal
 
 pub returns : goal.returns

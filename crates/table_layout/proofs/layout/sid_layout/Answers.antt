@@ -1,7 +1,6 @@
 use mathlib.Core.Path.{sym, ◌∙◌}
 use borrow.Author.Tests.{not-true, not-false}
 use Rattle.table.specs.Context.{context_of}
-use borrow.Author.Rules.{rules}
 use Rattle.table_layout.proofs.layout.sid_layout.Goals as goal
 
 pub returns-then-not-has_sid : goal.returns-then-not-has_sid

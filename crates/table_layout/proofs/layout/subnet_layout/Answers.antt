@@ -1,5 +1,4 @@
 use Rattle.table_layout.specs.Layout.{subnet_layout}
-use borrow.Author.Rules.{rules}
 use Rattle.table_layout.proofs.layout.subnet_layout.Goals as goal
 
 pub returns : goal.returns

@@ -3,7 +3,6 @@ use mathlib.Core.Path.{ap, ◌∙◌}
 use Rattle.table.specs.Account.{account_of}
 use Rattle.table_lookup.specs.Lookup.{account_by_name}
 use Rattle.table_find.proofs.Laws.Find.{account_search}
-use borrow.Author.Rules.{rules}
 use Rattle.table_lookup.proofs.lookup.account_by_name.Goals as goal
 
 pub returns : goal.returns

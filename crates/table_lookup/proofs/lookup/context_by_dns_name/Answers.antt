@@ -3,7 +3,6 @@ use mathlib.Core.Path.{ap, ◌∙◌}
 use Rattle.table.specs.Context.{context_of}
 use Rattle.table_lookup.specs.Lookup.{context_by_dns_name}
 use Rattle.table_find.proofs.Laws.Find.{context_search}
-use borrow.Author.Rules.{rules}
 use Rattle.table_lookup.proofs.lookup.context_by_dns_name.Goals as goal
 
 pub returns : goal.returns

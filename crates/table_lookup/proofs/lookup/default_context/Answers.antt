@@ -6,7 +6,6 @@ use mathlib.Core.Path.{ap, ◌∙◌}
 use Rattle.table.specs.Server.{Server}
 use Rattle.table.specs.Table.{table_from}
 use Rattle.table_lookup.specs.Lookup.{context_by_number, default_context_lem}
-use borrow.Author.Rules.{rules}
 use Rattle.table_lookup.proofs.lookup.default_context.Goals as goal
 
 pub server_of-requires : goal.server_of-requires

@@ -2,7 +2,6 @@ use mathlib.Core.Option.{map}
 use mathlib.Core.Path.{ap, ◌∙◌}
 use Rattle.table.specs.Site.{site_of}
 use Rattle.table_find.proofs.Laws.Find.{site_search}
-use borrow.Author.Rules.{rules}
 use Rattle.table_lookup.proofs.lookup.first_site.Goals as goal
 
 pub returns : goal.returns

@@ -1,5 +1,4 @@
 use Rattle.table_lookup.specs.Lookup.{site_by_number}
-use borrow.Author.Rules.{rules}
 use Rattle.table_lookup.proofs.lookup.site_by_number.Goals as goal
 
 pub returns : goal.returns

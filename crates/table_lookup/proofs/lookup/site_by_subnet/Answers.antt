@@ -5,7 +5,6 @@ use Rattle.table.specs.Subnet.{subnet_of}
 use Rattle.table.specs.Table.{table_from}
 use Rattle.table_find.specs.Internal.Found.{subnet_at}
 use Rattle.table_lookup.specs.Lookup.{site_if_any, site_of_subnet}
-use borrow.Author.Rules.{rules}
 use Rattle.table_lookup.proofs.lookup.site_by_subnet.Goals as goal
 
 pub returns-in-At : goal.returns-in-At

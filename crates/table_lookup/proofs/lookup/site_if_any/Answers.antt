@@ -1,4 +1,3 @@
-use borrow.Author.Rules.{rules}
 use Rattle.table_lookup.proofs.lookup.site_if_any.Goals as goal
 
 pub returns-in-To : goal.returns-in-To

@@ -4,7 +4,6 @@ use mathlib.Core.Path.{ap, ◌∙◌}
 use Rattle.table.specs.Block.{blocks_of}
 use Rattle.table_find.specs.Internal.Nearest.{nearest_in_lem}
 use Rattle.table_lookup.proofs.Laws.Nearest.{subnet_found}
-use borrow.Author.Rules.{rules}
 use Rattle.table_lookup.proofs.lookup.subnet_for.Goals as goal
 
 pub returns : goal.returns

@@ -3,8 +3,7 @@ use mathlib.Core.List.{List}
 use Prim.Native.Nat.{ℕ, ◌+◌, ◌-◌, ◌≤◌}
 use native.Mathlib.Omega.{arith}
 use lib.ListN.{length, get_or, drop}
-use borrow.Author.Rules.{rules}
-use Rattle.octets.specs.Lists.{any, unique}
+use Rattle.octets.specs.Lists.{any}
 use Rattle.octets.proofs.Laws.Lists.{cut_rest, unique_fails, unique-next, unique-end}
 use Rattle.table.specs.declared.record.RecordKind.{RecordKind}
 use Rattle.table.specs.Internal.RecordAt.{record_at}

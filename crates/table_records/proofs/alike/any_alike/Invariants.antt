@@ -1,13 +1,8 @@
-use mathlib.Core.Path.{◌≡◌, refl, sym, ap, ◌∙◌}
+use mathlib.Core.Path.{◌≡◌}
 use Prim.Native.Nat.{◌-◌, ◌≤◌}
-use native.Mathlib.Omega.{arith}
-use lib.ListN.{length, get_or, drop}
-use borrow.Author.Rules.{rules}
+use lib.ListN.{length, drop}
 use Rattle.octets.specs.Lists.{any}
-use Rattle.octets.proofs.Laws.Lists.{any-holds, any_next, any-end}
-use Rattle.table.specs.declared.record.RecordKind.{RecordKind}
-use Rattle.table.specs.Internal.RecordAt.{record_at}
-use Rattle.table_records.specs.Internal.Alike.{alike_by, like_at}
+use Rattle.table_records.specs.Internal.Alike.{like_at}
 use Rattle.table_records.proofs.alike.any_alike.Given as goal
 
 abbrev pub invariant-loop-i : goal.invariant-loop-i

@@ -3,7 +3,6 @@ use mathlib.Core.Bool.{Bool, ◌&&◌}
 use lib.Dec.{eqb}
 use Rattle.table.specs.declared.ContextNumber.{ContextNumber}
 use Rattle.account_names.specs.AccountName.{same_account_name}
-use borrow.Author.Rules.{rules}
 use Rattle.table_records.proofs.alike.are_accounts_alike.Goals as goal
 
 pub returns : goal.returns

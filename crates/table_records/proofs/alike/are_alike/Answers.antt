@@ -1,7 +1,6 @@
 use mathlib.Core.Path.{sym, ap, ◌∙◌}
 use Rattle.table_records.specs.declared.alike.Likeness.{Likeness}
 use Rattle.table_records.specs.Internal.Alike.{alike_by}
-use borrow.Author.Rules.{rules}
 use Rattle.table_records.proofs.alike.are_alike.Goals as goal
 
 pub returns-in-Contexts : goal.returns-in-Contexts

@@ -4,7 +4,6 @@ use lib.Dec.{eqb}
 use Rattle.octets.specs.Text.{same}
 use Rattle.table.specs.declared.ContextNumber.{ContextNumber}
 use Rattle.table.specs.SameName.{same_dns_name}
-use borrow.Author.Rules.{rules}
 use Rattle.table_records.proofs.alike.are_contexts_alike.Goals as goal
 
 pub returns : goal.returns

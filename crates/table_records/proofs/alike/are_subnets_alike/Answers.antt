@@ -4,7 +4,6 @@ use Prim.Native.Nat.{ℕ}
 use lib.Dec.{eqb}
 use Rattle.table.specs.Address.{address_number}
 use Rattle.table.specs.Subnet.{same_network}
-use borrow.Author.Rules.{rules}
 use Rattle.table_records.proofs.alike.are_subnets_alike.Goals as goal
 
 pub returns : goal.returns

@@ -2,7 +2,6 @@ use mathlib.Core.Path.{sym, ap₂, ◌∙◌}
 use borrow.Author.Tests.{not-true, not-false}
 use Rattle.octets.specs.Text.{same}
 use Rattle.table.specs.Context.{context_of}
-use borrow.Author.Rules.{rules}
 use Rattle.table_records.proofs.alike.same_sid.Goals as goal
 
 pub returns-then-not-has_sid : goal.returns-then-not-has_sid

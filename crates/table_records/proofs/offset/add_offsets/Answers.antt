@@ -3,14 +3,13 @@ use Rattle.octets.specs.Lists.{keep_if}
 use Prim.Native.Nat.{ℕ, ◌-◌}
 use mathlib.Core.List.{List, append-nil}
 use mathlib.Core.Bool.{Bool, not}
-use borrow.Author.Rules.{rules}
 use Rattle.table_records.proofs.Laws.Offset.{offsets_step, offsets_end, put_offset, one_less}
 use Rattle.table_records.specs.Internal.Offset.{offsets_from}
 use native.Mathlib.Omega.{arith}
-use lib.ListN.{length, take, length-set}
+use lib.ListN.{take, length-set}
 use mathlib.Core.List.{◌++◌}
 use mathlib.Core.Path.{◌≡◌, refl, sym, ap, ◌∙◌}
-use Prim.Native.Nat.{◌+◌, ◌*◌, ◌≤◌}
+use Prim.Native.Nat.{◌+◌}
 use Rattle.table_records.proofs.offset.add_offsets.Goals as goal
 use Rattle.table_records.proofs.offset.add_offsets.Goals.{After-all_zero}
 

@@ -6,15 +6,13 @@ use borrow.Author.Tests.{eq-eqb, ne_eqb}
 use native.Mathlib.Nat.{mul_comm, mul-le-mul_left}
 use lib.ListN.{get_or}
 use mathlib.Core.List.{append-nil}
-use borrow.Author.Rules.{rules}
 use Rattle.table_records.proofs.Laws.Offset.{used-end, room_left}
-use Rattle.table_records.specs.Internal.Offset.{blocks_most, records_at, used_of}
-use Rattle.table.specs.Block.{blocks_of}
+use Rattle.table_records.specs.Internal.Offset.{blocks_most, records_at}
 use native.Mathlib.Omega.{arith}
-use lib.ListN.{length, take, drop}
+use lib.ListN.{take}
 use mathlib.Core.List.{List, ◌++◌}
 use mathlib.Core.Path.{◌≡◌, refl, sym, ap, ◌∙◌}
-use Prim.Native.Nat.{ℕ, ◌-◌, ◌*◌, ◌≤◌}
+use Prim.Native.Nat.{ℕ, ◌≤◌}
 use Rattle.table_records.proofs.offset.kind_offsets.Goals as goal
 
 pub loop-i-init : goal.loop-i-init

@@ -1,20 +1,9 @@
-use Rattle.table_records.proofs.Laws.Offset.{one_more}
-use Rattle.table_records.proofs.Laws.Offset.{used-end, step_in, step-over, room_left}
-use Rattle.table.specs.Internal.BlockAt.{block_at}
-use Rattle.table.specs.Countings.{block_place}
-use borrow.Author.Tests.{eq-eqb, ne_eqb}
-use native.Mathlib.Nat.{mul_comm, mul-le-mul_left}
-use lib.ListN.{get_or}
-use mathlib.Core.List.{append-nil}
-use borrow.Author.Rules.{rules}
-use Rattle.table_records.proofs.Laws.Offset.{used-end, room_left}
-use Rattle.table_records.specs.Internal.Offset.{blocks_most, records_at, used_of}
+use Rattle.table_records.specs.Internal.Offset.{records_at, used_of}
 use Rattle.table.specs.Block.{blocks_of}
-use native.Mathlib.Omega.{arith}
 use lib.ListN.{length, take, drop}
-use mathlib.Core.List.{List, ◌++◌}
-use mathlib.Core.Path.{◌≡◌, refl, sym, ap, ◌∙◌}
-use Prim.Native.Nat.{ℕ, ◌-◌, ◌*◌, ◌≤◌}
+use mathlib.Core.List.{◌++◌}
+use mathlib.Core.Path.{◌≡◌}
+use Prim.Native.Nat.{◌-◌, ◌*◌, ◌≤◌}
 use Rattle.table_records.proofs.offset.kind_offsets.Given as goal
 
 abbrev pub invariant-loop-i : goal.invariant-loop-i

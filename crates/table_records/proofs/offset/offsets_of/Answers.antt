@@ -1,7 +1,6 @@
 use mathlib.Core.Path.{◌∙◌}
 use Rattle.table.specs.Block.{blocks_of}
 use Rattle.table_records.proofs.Laws.Offset.{format_fits, used_records}
-use borrow.Author.Rules.{rules}
 use Rattle.table_records.proofs.offset.offsets_of.Goals as goal
 
 pub kind_offsets-requires : goal.kind_offsets-requires

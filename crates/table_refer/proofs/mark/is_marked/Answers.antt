@@ -1,6 +1,5 @@
 use mathlib.Core.Path.{refl}
 use Rattle.table_refer.specs.Internal.Mark.{is_marked}
-use borrow.Author.Rules.{rules}
 use Rattle.table_refer.proofs.mark.is_marked.Goals as goal
 
 pub returns : goal.returns

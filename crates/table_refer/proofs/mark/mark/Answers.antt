@@ -6,7 +6,6 @@ use lib.Bits.{bit_or}
 use lib.ListN.{get_or, set}
 use lib.Pow.{shl_exact}
 use Rattle.table_refer.specs.Internal.Mark.{with_mark}
-use borrow.Author.Rules.{rules}
 use Rattle.table_refer.proofs.mark.mark.Goals as goal
 
 pub returns : goal.returns

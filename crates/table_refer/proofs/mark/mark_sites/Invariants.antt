@@ -1,13 +1,7 @@
-use mathlib.Core.Path.{◌≡◌, sym, ap, ◌∙◌, subst}
-use mathlib.Core.Bool.{false≢true}
-use mathlib.Core.List.{List}
-use Prim.Native.Nat.{ℕ, ◌+◌, ◌-◌, ◌≤◌}
-use native.Mathlib.Omega.{arith}
-use lib.ListN.{length, get_or}
-use borrow.Author.Rules.{rules}
-use Rattle.table.specs.Site.{site_of}
-use Rattle.table_refer.specs.Internal.Mark.{number_at, Seen}
-use Rattle.table_refer.proofs.Laws.Mark.{seen_none, seen_twice, seen_once}
+use mathlib.Core.Path.{◌≡◌}
+use Prim.Native.Nat.{◌≤◌}
+use lib.ListN.{length}
+use Rattle.table_refer.specs.Internal.Mark.{Seen}
 use Rattle.table_refer.proofs.mark.mark_sites.Given as goal
 
 abbrev pub invariant-loop-left : goal.invariant-loop-left

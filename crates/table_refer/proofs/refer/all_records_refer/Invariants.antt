@@ -1,14 +1,10 @@
-use mathlib.Core.Path.{◌≡◌, refl, sym, ap, ◌∙◌}
-use Prim.Native.Nat.{◌-◌, ◌*◌, ◌≤◌}
-use native.Mathlib.Omega.{arith}
+use mathlib.Core.Path.{◌≡◌}
+use Prim.Native.Nat.{◌-◌, ◌≤◌}
 use lib.ListN.{drop}
-use borrow.Author.Rules.{rules}
-use borrow.Author.Tests.{not-true, not-false}
-use Rattle.octets.specs.Lists.{all, cut}
-use Rattle.octets.proofs.Laws.Lists.{all_piece_fails, all_piece_next, all-pieces-end}
+use Rattle.octets.specs.Lists.{all}
 use Rattle.table.specs.Format.{records_in}
 use Rattle.table.specs.Subnet.{subnet_format}
-use Rattle.table_refer.specs.Internal.Refer.{is_marked_or_none, subnet_refers}
+use Rattle.table_refer.specs.Internal.Refer.{subnet_refers}
 use Rattle.table_refer.proofs.refer.all_records_refer.Given as goal
 
 abbrev pub invariant-loop-i : goal.invariant-loop-i

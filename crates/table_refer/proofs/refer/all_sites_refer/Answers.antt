@@ -1,10 +1,7 @@
 use mathlib.Core.Path.{◌≡◌, refl, sym, ap, ◌∙◌}
-use Prim.Native.Nat.{◌-◌, ◌≤◌}
 use native.Mathlib.Omega.{arith}
-use lib.ListN.{length, get_or, drop}
-use borrow.Author.Rules.{rules}
+use lib.ListN.{get_or}
 use borrow.Author.Tests.{not-true, not-false}
-use Rattle.octets.specs.Lists.{all}
 use Rattle.octets.proofs.Laws.Lists.{all_fails, all-next, all_end}
 use Rattle.table_refer.specs.Internal.Refer.{site_refers, site_refers_at}
 use Rattle.table_refer.proofs.refer.all_sites_refer.Goals as goal

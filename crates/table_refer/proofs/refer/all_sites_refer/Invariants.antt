@@ -1,12 +1,8 @@
-use mathlib.Core.Path.{◌≡◌, refl, sym, ap, ◌∙◌}
+use mathlib.Core.Path.{◌≡◌}
 use Prim.Native.Nat.{◌-◌, ◌≤◌}
-use native.Mathlib.Omega.{arith}
-use lib.ListN.{length, get_or, drop}
-use borrow.Author.Rules.{rules}
-use borrow.Author.Tests.{not-true, not-false}
+use lib.ListN.{length, drop}
 use Rattle.octets.specs.Lists.{all}
-use Rattle.octets.proofs.Laws.Lists.{all_fails, all-next, all_end}
-use Rattle.table_refer.specs.Internal.Refer.{site_refers, site_refers_at}
+use Rattle.table_refer.specs.Internal.Refer.{site_refers_at}
 use Rattle.table_refer.proofs.refer.all_sites_refer.Given as goal
 
 abbrev pub invariant-loop-i : goal.invariant-loop-i

@@ -1,10 +1,8 @@
 use mathlib.Core.Path.{◌≡◌, refl, sym, ap, ◌∙◌}
-use Prim.Native.Nat.{◌-◌, ◌/◌, ◌≤◌}
+use Prim.Native.Nat.{◌/◌}
 use native.Mathlib.Omega.{arith}
-use lib.ListN.{length, drop}
-use borrow.Author.Rules.{rules}
+use lib.ListN.{length}
 use borrow.Author.Tests.{not-true, not-false}
-use Rattle.octets.specs.Lists.{all}
 use Rattle.octets.proofs.Laws.Lists.{all_piece_fails, all_piece_next, all-pieces-end}
 use Rattle.table.specs.Block.{block_size, blocks_of}
 use Rattle.table.specs.Internal.BlockAt.{block_at}

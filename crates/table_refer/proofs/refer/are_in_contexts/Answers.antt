@@ -1,11 +1,9 @@
 use mathlib.Core.Path.{◌≡◌, refl, sym, ap, ◌∙◌}
 use mathlib.Core.List.{List}
-use Prim.Native.Nat.{ℕ, ◌-◌, ◌≤◌}
+use Prim.Native.Nat.{ℕ}
 use native.Mathlib.Omega.{arith}
-use lib.ListN.{length, get_or, drop}
-use borrow.Author.Rules.{rules}
+use lib.ListN.{get_or}
 use borrow.Author.Tests.{not-true, not-false}
-use Rattle.octets.specs.Lists.{all}
 use Rattle.octets.proofs.Laws.Lists.{all_fails, all-next, all_end}
 use Rattle.table.specs.Account.{account_of}
 use Rattle.table_refer.specs.Internal.Refer.{has_number, in_contexts}

@@ -1,14 +1,8 @@
-use mathlib.Core.Path.{◌≡◌, refl, sym, ap, ◌∙◌}
-use mathlib.Core.List.{List}
-use Prim.Native.Nat.{ℕ, ◌-◌, ◌≤◌}
-use native.Mathlib.Omega.{arith}
-use lib.ListN.{length, get_or, drop}
-use borrow.Author.Rules.{rules}
-use borrow.Author.Tests.{not-true, not-false}
+use mathlib.Core.Path.{◌≡◌}
+use Prim.Native.Nat.{◌-◌, ◌≤◌}
+use lib.ListN.{length, drop}
 use Rattle.octets.specs.Lists.{all}
-use Rattle.octets.proofs.Laws.Lists.{all_fails, all-next, all_end}
-use Rattle.table.specs.Account.{account_of}
-use Rattle.table_refer.specs.Internal.Refer.{has_number, in_contexts}
+use Rattle.table_refer.specs.Internal.Refer.{in_contexts}
 use Rattle.table_refer.proofs.refer.are_in_contexts.Given as goal
 
 abbrev pub invariant-loop-i : goal.invariant-loop-i

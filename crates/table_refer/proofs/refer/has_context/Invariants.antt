@@ -1,16 +1,6 @@
-use mathlib.Core.Path.{◌≡◌, refl, sym, ap, ◌∙◌}
-use mathlib.Core.List.{List}
-use Prim.Native.Nat.{ℕ, ◌-◌, ◌≤◌}
-use native.Mathlib.Omega.{arith}
-use lib.ListN.{length, get_or, drop}
-use borrow.Author.Rules.{rules}
-use borrow.Author.Tests.{eq-eqb, ne_eqb}
-use Rattle.octets.proofs.Laws.Lists.{any-holds, any_next, any-end}
-use Rattle.table.specs.declared.record.RecordKind.TheVariants as kind
-use Rattle.table.specs.declared.ContextNumber.{ContextNumber}
-use Rattle.table.specs.Context.{context_of}
-use Rattle.table.specs.Countings.{same_context}
-use Rattle.table.specs.Internal.RecordAt.{record_at}
+use mathlib.Core.Path.{◌≡◌}
+use Prim.Native.Nat.{◌-◌, ◌≤◌}
+use lib.ListN.{length, drop}
 use Rattle.table_refer.specs.Internal.Refer.{has_number}
 use Rattle.table_refer.proofs.refer.has_context.Given as goal
 

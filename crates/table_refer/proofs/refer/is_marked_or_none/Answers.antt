@@ -2,7 +2,6 @@ use mathlib.Core.Path.{sym, ap, ◌∙◌}
 use Rattle.table.specs.declared.site.SiteReference.{SiteReference}
 use Rattle.table.specs.Internal.Reference.{referred}
 use Rattle.table_refer.specs.Internal.Refer.{is_marked_or_none}
-use borrow.Author.Rules.{rules}
 use Rattle.table_refer.proofs.refer.is_marked_or_none.Goals as goal
 
 pub returns-in-To : goal.returns-in-To

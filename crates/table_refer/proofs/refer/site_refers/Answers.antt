@@ -1,7 +1,6 @@
 use mathlib.Core.Path.{ap, ap₂, ◌∙◌}
 use mathlib.Core.Bool.{Bool, ◌&&◌}
 use Rattle.table_refer.specs.Internal.Refer.{is_marked_or_none, is_other_or_none}
-use borrow.Author.Rules.{rules}
 use Rattle.table_refer.proofs.refer.site_refers.Goals as goal
 
 pub returns : goal.returns

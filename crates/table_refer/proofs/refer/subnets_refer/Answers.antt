@@ -6,7 +6,6 @@ use Rattle.octets.specs.Lists.{all}
 use Rattle.table.specs.Format.{records_in}
 use Rattle.table.specs.Subnet.{subnet_format}
 use Rattle.table_refer.specs.Internal.Refer.{subnet_refers}
-use borrow.Author.Rules.{rules}
 use Rattle.table_refer.proofs.refer.subnets_refer.Goals as goal
 
 pub returns-then-kind_of : goal.returns-then-kind_of

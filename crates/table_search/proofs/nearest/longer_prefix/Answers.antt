@@ -8,7 +8,6 @@ use Rattle.octets.specs.Lists.{cut}
 use Rattle.table.specs.declared.record.RecordKind.TheVariants as kind
 use Rattle.table.specs.Subnet.{subnet_of}
 use Rattle.table_find.specs.Internal.Found.{LiesIn}
-use borrow.Author.Rules.{rules}
 use Rattle.table_search.proofs.nearest.longer_prefix.Goals as goal
 
 pub returns-then-prefix : goal.returns-then-prefix

@@ -1,20 +1,11 @@
-use mathlib.Core.Path.{◌≡◌, sym, ap, ◌∙◌}
-use mathlib.Core.Bool.{true, false, ◌&&◌}
-use mathlib.Core.List.{List}
-use mathlib.Core.Option.{Option}
-use Prim.Native.Nat.{ℕ, ◌+◌, ◌-◌, ◌*◌}
-use native.Mathlib.Omega.{arith}
+use mathlib.Core.Path.{◌≡◌}
+use Prim.Native.Nat.{◌+◌, ◌*◌}
 use lib.ListN.{drop}
 use Rattle.octets.specs.Lists.{cut, pieces}
 use Rattle.table.specs.declared.record.RecordKind.TheVariants as kind
 use Rattle.table.specs.Block.{body_size}
-use Rattle.table.specs.Subnet.{Subnet, subnet_of}
-use Rattle.table.specs.Table.{is_used}
-use Rattle.table_find.specs.Find.{in_subnet}
 use Rattle.table_find.specs.Internal.Found.{LiesIn, subnet_at}
-use Rattle.table_find.specs.Internal.Nearest.{nearer_held, nearest_over, nearest_in_body}
-use Rattle.table_search.proofs.Laws.Nearest.{over-next, over-end, over-body}
-use borrow.Author.Rules.{rules}
+use Rattle.table_find.specs.Internal.Nearest.{nearest_over, nearest_in_body}
 use Rattle.table_search.proofs.nearest.nearest_in_body.Given as goal
 
 abbrev pub invariant-loop-left : goal.invariant-loop-left

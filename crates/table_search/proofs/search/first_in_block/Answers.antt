@@ -11,7 +11,6 @@ use Rattle.table.specs.Internal.BlockAt.{block_at}
 use Rattle.table.specs.Format.{format_of}
 use Rattle.table_find.specs.Internal.Search.{first_in_body, first_in_block}
 use Rattle.table_find.specs.Internal.Key.{kind_for}
-use borrow.Author.Rules.{rules}
 use Rattle.table_search.proofs.search.first_in_block.Goals as goal
 
 pub returns-then-kind_of-format : goal.returns-then-kind_of-format

@@ -1,7 +1,6 @@
 use mathlib.Core.Path.{refl}
 use Rattle.octets.specs.Fold.{fold_pairs, fold_from, fold_table_lem}
 use Rattle.table_unique.proofs.Laws.Neighbours.{few-unique}
-use borrow.Author.Rules.{rules}
 use Rattle.table_unique.proofs.unique.are_accounts_unique.Goals as goal
 
 pub returns-then-accounts-lt2 : goal.returns-then-accounts-lt2

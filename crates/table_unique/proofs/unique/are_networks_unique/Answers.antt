@@ -1,7 +1,6 @@
 use mathlib.Core.Path.{◌≡◌}
 use Prim.Native.Nat.{ℕ}
 use native.Mathlib.Omega.{arith}
-use borrow.Author.Rules.{rules}
 use Rattle.table_unique.proofs.unique.are_networks_unique.Goals as goal
 
 pub are_unique-requires : goal.are_unique-requires

@@ -1,6 +1,5 @@
 use mathlib.Core.Path.{sym, ◌∙◌}
 use Rattle.table_unique.proofs.Laws.OrderLikeness.{sorted_rising, sorted_duplicate, in_pairs}
-use borrow.Author.Rules.{rules}
 use Rattle.table_unique.proofs.unique.are_unique.Goals as goal
 
 pub returns-in-Rising : goal.returns-in-Rising

@@ -1,8 +1,7 @@
 use mathlib.Core.Path.{◌≡◌, refl, sym, ap, ◌∙◌}
-use Prim.Native.Nat.{ℕ, ◌-◌, ◌≤◌, ◌+◌}
+use Prim.Native.Nat.{ℕ, ◌-◌, ◌+◌}
 use native.Mathlib.Omega.{arith}
-use lib.ListN.{length, drop}
-use borrow.Author.Rules.{rules}
+use lib.ListN.{drop}
 use Rattle.account_names.specs.declared.compare.Ordering.{Ordering}
 use Rattle.account_names.specs.declared.compare.Ordering.TheVariants.{Less, Equal, Greater}
 use Rattle.table_unique.specs.Internal.Neighbours.{rising_then, neighbours_by}

@@ -1,13 +1,8 @@
-use mathlib.Core.Path.{◌≡◌, refl, sym, ap, ◌∙◌}
-use Prim.Native.Nat.{ℕ, ◌-◌, ◌≤◌, ◌+◌}
-use native.Mathlib.Omega.{arith}
+use mathlib.Core.Path.{◌≡◌}
+use Prim.Native.Nat.{◌-◌, ◌≤◌}
 use lib.ListN.{length, drop}
-use borrow.Author.Rules.{rules}
-use Rattle.account_names.specs.declared.compare.Ordering.{Ordering}
-use Rattle.account_names.specs.declared.compare.Ordering.TheVariants.{Less, Equal, Greater}
-use Rattle.table_unique.specs.Internal.Neighbours.{rising_then, neighbours_by}
+use Rattle.table_unique.specs.Internal.Neighbours.{neighbours_by}
 use Rattle.table_compare.specs.Internal.OrderKey.{compare_at}
-use Rattle.table_unique.proofs.Laws.Neighbours.{neighbours_as, neighbours_end}
 use Rattle.table_unique.proofs.unique.compare_neighbours.Given as goal
 
 abbrev pub invariant-loop-i : goal.invariant-loop-i

@@ -2,7 +2,6 @@ use Rattle.table_whole.proofs.Laws.Judgement.{length_bounds, refused-length, ref
 use borrow.Author.Tests.{not-true, not-false}
 use mathlib.Core.Path.{sym, ◌∙◌}
 use native.Mathlib.Omega.{arith}
-use borrow.Author.Rules.{rules}
 use Rattle.table_whole.proofs.judge.judge.Goals as goal
 
 pub returns-then-not-has_good_length : goal.returns-then-not-has_good_length

@@ -1,6 +1,5 @@
 use Rattle.table_whole.specs.Judgement.{judgement_number}
 use mathlib.Core.Path.{◌∙◌, ap, sym}
-use borrow.Author.Rules.{rules}
 use Rattle.table_whole.proofs.judge.judgement_number.Goals as goal
 
 pub returns-in-Refused : goal.returns-in-Refused

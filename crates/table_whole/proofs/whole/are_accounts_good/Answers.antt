@@ -1,7 +1,6 @@
 use mathlib.Core.Path.{ap₂, ◌∙◌}
 use mathlib.Core.Bool.{Bool, ◌&&◌}
 use Rattle.table_whole.proofs.Laws.Half.{accounts-good}
-use borrow.Author.Rules.{rules}
 use Rattle.table_whole.proofs.whole.are_accounts_good.Goals as goal
 
 pub returns : goal.returns

@@ -5,7 +5,6 @@ use Rattle.table.specs.Table.{table_from}
 use Rattle.table_whole.specs.Internal.Half.{good_contexts}
 use Rattle.table_refer.specs.Internal.Refer.{has_number}
 use Rattle.table_whole.proofs.Laws.Half.{contexts_alike_lem, context-found}
-use borrow.Author.Rules.{rules}
 use Rattle.table_whole.proofs.whole.are_contexts_good.Goals as goal
 
 pub returns : goal.returns

@@ -2,7 +2,6 @@ use mathlib.Core.Path.{refl, sym, ◌∙◌}
 use borrow.Author.Tests.{not-true, not-false}
 use Rattle.table_refer.proofs.Laws.Mark.{marked_none}
 use Rattle.table_whole.proofs.Laws.Half.{sites_twice, site_marks, sites-once}
-use borrow.Author.Rules.{rules}
 use Rattle.table_whole.proofs.whole.are_sites_good.Goals as goal
 
 pub mark_sites-requires : goal.mark_sites-requires

@@ -4,7 +4,6 @@ use Rattle.table.specs.Server.{Server}
 use Rattle.table_whole.specs.Internal.Half.{good_references}
 use Rattle.table_refer.specs.Internal.Mark.{is_marked}
 use Rattle.table_whole.proofs.Laws.Half.{sites_refer, subnets_refer_lem}
-use borrow.Author.Rules.{rules}
 use Rattle.table_whole.proofs.whole.are_sites_referred.Goals as goal
 
 pub returns : goal.returns

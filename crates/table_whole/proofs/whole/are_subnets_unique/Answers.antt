@@ -1,7 +1,6 @@
 use mathlib.Core.Path.{◌∙◌}
 use lib.ListN.{take}
 use Rattle.table_whole.proofs.Laws.Half.{found_count, subnets-unique}
-use borrow.Author.Rules.{rules}
 use Rattle.table_whole.proofs.whole.are_subnets_unique.Goals as goal
 
 pub slice_bounds-are_networks_unique-end : goal.slice_bounds-are_networks_unique-end

@@ -1,5 +1,4 @@
 use Rattle.table_whole.proofs.Laws.Half.{found_count}
-use borrow.Author.Rules.{rules}
 use Rattle.table_whole.proofs.whole.good_accounts_of.Goals as goal
 
 pub slice_bounds-are_accounts_good-end : goal.slice_bounds-are_accounts_good-end

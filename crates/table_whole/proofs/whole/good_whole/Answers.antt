@@ -1,7 +1,6 @@
 use mathlib.Core.Path.{sym, ◌∙◌}
 use borrow.Author.Tests.{not-true, not-false}
 use Rattle.table_whole.proofs.Laws.Half.{bad-contexts, bad-sites, good_halves}
-use borrow.Author.Rules.{rules}
 use Rattle.table_whole.proofs.whole.good_whole.Goals as goal
 
 pub returns-then-not-is_context_half_good : goal.returns-then-not-is_context_half_good

@@ -1,7 +1,6 @@
 use mathlib.Core.Path.{◌≡◌, sym, ◌∙◌}
 use lib.ListN.{length, take}
 use Rattle.table_whole.proofs.Laws.Half.{found_count, no_site, some-sites}
-use borrow.Author.Rules.{rules}
 use Rattle.table_whole.proofs.whole.is_site_half_good.Goals as goal
 use Rattle.table_whole.proofs.whole.is_site_half_good.Goals.{After-offsets_of-count}
 
