@@ -1,6 +1,5 @@
 use lib.ListN.{length}
 use Prim.Native.Nat.{◌-◌, ◌≤◌}
-use borrow.Author.Rules.{rules}
 use Rattle.vectors.proofs.answer.space_count.Given as goal
 
 abbrev pub invariant-loop-i : goal.invariant-loop-i
