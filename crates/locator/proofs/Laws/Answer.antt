@@ -1,19 +1,18 @@
 -- The answer, by what was found on the way to it.
 use mathlib.Core.Path.{◌≡◌, refl, sym, ap, ◌∙◌}
-use mathlib.Core.Bool.{Bool, true, false}
+use mathlib.Core.Bool.{true, false}
 use mathlib.Core.List.{List}
 use mathlib.Core.Option.{map, get_or}
 use Prim.Native.Nat.{ℕ, ◌≤◌, ◌<◌}
 use borrow.Author.Tests.{lt-ltb, le-ltb}
-use lib.Dec.{ltb}
 use lib.ListN.{length}
 use Rattle.answers.specs.declared.Form.{Form}
 use Rattle.answers.specs.declared.Refusal.{Refusal}
 use Rattle.answers.specs.declared.Refusal.TheVariants.{UserLabelEmpty, NoRoom}
-use Rattle.answers.specs.Try.{Try, refused, good, refused_if, ◌>>=◌, number_of, value_of}
+use Rattle.answers.specs.Try.{Try, refused, good, ◌>>=◌, number_of, value_of}
 use Rattle.choose.specs.Choose.{form_of, reply_for}
 use Rattle.choose.specs.Judge.{context_in}
-use Rattle.filter_read.specs.Value.{Ping, ping_from}
+use Rattle.filter_read.specs.Value.{Ping}
 use Rattle.octets.specs.Buffer.{over}
 use Rattle.octets.proofs.Laws.Buffer.{over_none}
 use Rattle.reply.specs.Reply.{Reply, octets_in}

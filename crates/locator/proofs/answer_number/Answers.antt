@@ -1,6 +1,5 @@
 use Rattle.locator.specs.Answer.{answer_number}
 use mathlib.Core.Path.{◌∙◌, ap, sym}
-use borrow.Author.Rules.{rules}
 use Rattle.locator.proofs.answer_number.Goals as goal
 
 pub returns-in-Refused : goal.returns-in-Refused

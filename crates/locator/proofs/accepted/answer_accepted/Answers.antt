@@ -1,5 +1,4 @@
 use mathlib.Core.Path.{sym, ap, ◌∙◌}
-use borrow.Author.Rules.{rules}
 use lib.ListN.{length}
 use Rattle.filter_read.specs.{Internal.RawPing.tried_ping, Value.ping_from}
 use Rattle.filter_read.proofs.Laws.Value.{ping-user}
@@ -25,7 +24,7 @@ returns-in-Refused c =
     let read = sym c.read_ping.ensures ∙ ap (tried_ping a.filter.now) c.in-Refused.is in
     let w : AnswerPingReturns a.image.now a.caller a.filter.now a.reply.now (answer.Refused c.in-Refused.refusal) × AnswerPingLeaves a.image.now a.caller a.filter.now a.reply.now a.reply.now =
     answer_promised _ _ (refusal-given _ _ a.reply.now (ping-refused ping_from a.image.now a.caller a.filter.now (length a.reply.now) _ _ s.requires read)) in
-    record { answer_ping_returns = w.0; answer_ping_leaves = w.1; }
+    record { answer_ping_returns = w.0; answer_ping_leaves = w.1 }
 
 pub returns-in-Ping : goal.returns-in-Ping
 returns-in-Ping c =
@@ -34,4 +33,4 @@ returns-in-Ping c =
     let read = sym c.read_ping.ensures ∙ ap (tried_ping a.filter.now) c.in-Ping.is in
     let w : AnswerPingReturns a.image.now a.caller a.filter.now a.reply.now c.answer_over.result × AnswerPingLeaves a.image.now a.caller a.filter.now a.reply.now c.answer_over.new.reply =
     answer_promised _ _ (answer_of_lem _ _ _ a.reply.now _ (ping_answered ping_from a.image.now a.caller a.filter.now (length a.reply.now) _ _ s.requires read) (c.answer_over.ensures.value, c.answer_over.ensures.reply_after)) in
-    record { answer_ping_returns = w.0; answer_ping_leaves = w.1; }
+    record { answer_ping_returns = w.0; answer_ping_leaves = w.1 }

@@ -1,5 +1,4 @@
-use mathlib.Core.Path.{◌≡◌, sym, ap, ◌∙◌}
-use borrow.Author.Rules.{rules}
+use mathlib.Core.Path.{sym, ap, ◌∙◌}
 use lib.ListN.{length}
 use Rattle.filter_read.specs.Internal.RawPing.{ping_at}
 use Rattle.table.specs.Table.{table_from}
@@ -12,7 +11,7 @@ reply_to-requires c =
     let q = c.requires in
     let k = c.context_used.ensures.used_in in
     let h = rw c.in-Used.is at k in
-    record { accepted = (q.accepted, h.0); application_value = h.1; user_value = q.user_value; }
+    record { accepted = (q.accepted, h.0); application_value = h.1; user_value = q.user_value }
 
 pub returns-in-Used : goal.returns-in-Used
 returns-in-Used c =
@@ -20,7 +19,7 @@ returns-in-Used c =
     let image = a.image.now in
     let used = sym c.context_used.ensures.result_value ∙ ap (used_as image) c.in-Used.is in
     let w = answer_of_lem _ _ _ a.reply.now _ (over-used (table_from image) a.caller (ping_at a.source.now a.ping) (length a.reply.now) _ used) (c.reply_to.ensures.value, c.reply_to.ensures.reply_after) in
-    record { value = w.0; reply_after = w.1; }
+    record { value = w.0; reply_after = w.1 }
 
 pub returns-in-Refused : goal.returns-in-Refused
 returns-in-Refused c =
@@ -28,4 +27,4 @@ returns-in-Refused c =
     let image = a.image.now in
     let used = sym c.context_used.ensures.result_value ∙ ap (used_as image) c.in-Refused.is in
     let w = refusal-given _ _ a.reply.now (over-refused (table_from image) a.caller (ping_at a.source.now a.ping) (length a.reply.now) _ used) in
-    record { value = w.0; reply_after = w.1; }
+    record { value = w.0; reply_after = w.1 }

@@ -2,7 +2,6 @@ use mathlib.Core.Path.{◌≡◌, refl, sym, ap, subst, ◌∙◌}
 use mathlib.Core.Bool.{false}
 use mathlib.Core.List.{List}
 use Prim.Native.Nat.{ℕ, ◌<◌}
-use borrow.Author.Rules.{rules}
 use lib.ListN.{length}
 use Rattle.answers.specs.declared.Form.{Form}
 use Rattle.answers.specs.declared.Refusal.TheVariants.{UserLabelEmpty}
@@ -18,7 +17,6 @@ use Rattle.reply_write.specs.declared.fit.Fitted.{Fitted}
 use Rattle.reply_write.specs.Internal.Fit.{FittedTo, octets_fitted}
 use Rattle.table.specs.Context.{Context, context_of, context_format}
 use Rattle.table.specs.Table.{Table, table_from}
-use Rattle.locator.specs.declared.Answer.{Answer}
 use Rattle.locator.specs.declared.Answer.TheVariants as answer
 use Rattle.locator.specs.Answer.{Outcome, wrong_user, answer_as, octets_written}
 use Rattle.locator.proofs.Laws.Answer.{refusal-given, user-refused, room_refused, reply_given}
@@ -71,7 +69,7 @@ returns-then-is_wrong_user c =
     let chosen : Reply = reply_for (table (goal.at.returns-then-is_wrong_user f).After-form_for-form) a.caller (ping (goal.at.returns-then-is_wrong_user f).After-form_for-form) (used (goal.at.returns-then-is_wrong_user f).After-form_for-form) (form (goal.at.returns-then-is_wrong_user f).After-form_for-form) in
     let w = refusal-given _ UserLabelEmpty a.reply.now
     (user-refused (table (goal.at.returns-then-is_wrong_user f).After-form_for-form) a.caller (ping (goal.at.returns-then-is_wrong_user f).After-form_for-form) (room (goal.at.returns-then-is_wrong_user f).After-form_for-form) (used (goal.at.returns-then-is_wrong_user f).After-form_for-form) (form (goal.at.returns-then-is_wrong_user f).After-form_for-form) chosen (form-chosen (goal.at.returns-then-is_wrong_user f).After-form_for-form) refl (sym c.if-is_wrong_user.true ∙ c.is_wrong_user.ensures)) in
-    record { value = w.0; reply_after = w.1; }
+    record { value = w.0; reply_after = w.1 }
 
 pub reply_for-raw-requires : goal.reply_for-raw-requires
 reply_for-raw-requires c = let q = c.requires in

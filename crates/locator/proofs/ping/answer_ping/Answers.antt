@@ -1,5 +1,4 @@
 use mathlib.Core.Path.{sym, ◌∙◌}
-use borrow.Author.Rules.{rules}
 use lib.ListN.{length}
 use Rattle.filter_read.specs.Value.{ping_from}
 use Rattle.table_whole.specs.Judgement.{table_in}
@@ -20,4 +19,4 @@ returns-in-Refused c =
     let judged = judged-refused (table_in a.image.now) _ (sym c.in-Refused.is ∙ c.judge.ensures.same) in
     let w : AnswerPingReturns a.image.now a.caller a.filter.now a.reply.now (answer.Refused c.in-Refused.refusal) × AnswerPingLeaves a.image.now a.caller a.filter.now a.reply.now a.reply.now =
     answer_promised _ _ (refusal-given _ _ a.reply.now (table-refused ping_from a.image.now a.caller a.filter.now (length a.reply.now) _ judged)) in
-    record { answer_ping_returns = w.0; answer_ping_leaves = w.1; }
+    record { answer_ping_returns = w.0; answer_ping_leaves = w.1 }

@@ -1,14 +1,11 @@
-use mathlib.Core.Path.{◌≡◌, refl, sym, ap, ◌∙◌}
-use mathlib.Core.Bool.{Bool, true, false, not, ◌&&◌}
+use mathlib.Core.Path.{sym, ap, ◌∙◌}
 use mathlib.Core.List.{List}
-use Prim.Native.Nat.{ℕ, ◌≤◌}
-use borrow.Author.Rules.{rules}
+use Prim.Native.Nat.{ℕ}
 use borrow.Author.Tests.{not-false, not-true}
 use lib.Dec.{eqb}
 use lib.ListN.{length}
 use Rattle.octets.specs.Label.{labels}
-use Rattle.octets.specs.Lists.{any, cut}
-use Rattle.unicode_text.specs.UserName.{is_user_name}
+use Rattle.octets.specs.Lists.{any}
 use Rattle.unicode_text.proofs.Laws.UserName.{user-name-short}
 use Rattle.locator.proofs.user.is_wrong_user.Goals as goal
 

@@ -1,7 +1,6 @@
 use mathlib.Core.Path.{refl, sym, ap, ◌∙◌}
 use mathlib.Core.Bool.{not}
 use Prim.Native.Nat.{ℕ}
-use borrow.Author.Rules.{rules}
 use lib.ListN.{length}
 use Rattle.filter_read.specs.Value.{Ping}
 use Rattle.locator.specs.Answer.{answer_over}
@@ -38,7 +37,7 @@ returns-in-Refused c =
     let refused = read-refused (message_in a.message.now) _ (sym c.in-Refused.is ∙ c.read_message.ensures.same) in
     let w : AnswerMailslotReturns a.image.now a.caller a.message.now a.reply.now (answer.Refused c.in-Refused.refusal) × AnswerMailslotLeaves a.image.now a.caller a.message.now a.reply.now a.reply.now =
     answer_promised _ _ (refusal-given _ _ a.reply.now (ping-refused mailslot_ping a.image.now a.caller a.message.now (length a.reply.now) _ _ s.requires (not_pinged a.message.now _ refused))) in
-    record { answer_mailslot_returns = w.0; answer_mailslot_leaves = w.1; }
+    record { answer_mailslot_returns = w.0; answer_mailslot_leaves = w.1 }
 
 pub returns-in-Read : goal.returns-in-Read
 returns-in-Read c =
@@ -50,4 +49,4 @@ returns-in-Read c =
     let w : AnswerMailslotReturns a.image.now a.caller a.message.now a.reply.now c.answer_over.result × AnswerMailslotLeaves a.image.now a.caller a.message.now a.reply.now c.answer_over.new.reply =
     answer_promised _ _
     (answer_of_lem _ _ _ a.reply.now _ (answered ∙ ap (λ (p : Ping). answer_over (table_from a.image.now) a.caller p room) (sym c.put_ping-ping.ensures)) (c.answer_over.ensures.value, c.answer_over.ensures.reply_after)) in
-    record { answer_mailslot_returns = w.0; answer_mailslot_leaves = w.1; }
+    record { answer_mailslot_returns = w.0; answer_mailslot_leaves = w.1 }

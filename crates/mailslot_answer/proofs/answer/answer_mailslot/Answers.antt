@@ -1,5 +1,4 @@
 use mathlib.Core.Path.{sym, ◌∙◌}
-use borrow.Author.Rules.{rules}
 use lib.ListN.{length}
 use Rattle.mailslot_answer.specs.Ping.{mailslot_ping}
 use Rattle.table_whole.specs.Judgement.{table_in}
@@ -20,4 +19,4 @@ returns-in-Refused c =
     let judged = judged-refused (table_in a.image.now) _ (sym c.in-Refused.is ∙ c.judge.ensures.same) in
     let w : AnswerMailslotReturns a.image.now a.caller a.message.now a.reply.now (answer.Refused c.in-Refused.refusal) × AnswerMailslotLeaves a.image.now a.caller a.message.now a.reply.now a.reply.now =
     answer_promised _ _ (refusal-given _ _ a.reply.now (table-refused mailslot_ping a.image.now a.caller a.message.now (length a.reply.now) _ judged)) in
-    record { answer_mailslot_returns = w.0; answer_mailslot_leaves = w.1; }
+    record { answer_mailslot_returns = w.0; answer_mailslot_leaves = w.1 }

@@ -1,5 +1,4 @@
 use native.Mathlib.Omega.{arith}
-use borrow.Author.Rules.{rules}
 use Rattle.mailslot_answer.proofs.Laws.Ping.{user_room, sid_room_lem, ping_made}
 use Rattle.mailslot_answer.proofs.ping.put_ping.Goals as goal
 
