@@ -31,7 +31,7 @@ field-from : {s : List ℕ} {run at c next : ℕ} {ls : List (List ℕ)} → Wal
 unfolding field_end_from
 field-from w zero h = absurd (omega (arith, walk_inside w))
 field-from (ends e) (suc k) h = rw e
-field-from (reads e inside l w) (suc k) h = rw e (field-from w k (omega arith))
+field-from {at = at} (reads {n = n} e inside l w) (suc k) h = rw e (field-from {at = at + 1 + n} w k (omega arith))
 field-from (points e below w) (suc k) h = rw e
 
 field-ends : {s : List ℕ} {run at c next : ℕ} {ls : List (List ℕ)} → Walks s run at ls c next → field_end s at ≡ next

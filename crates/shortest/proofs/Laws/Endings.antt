@@ -1,5 +1,5 @@
 -- After each name the writer's tails are all endings of the names so far: each ending was written literally once, or was pointed to, and then it was there.
-use mathlib.Core.Path.{◌≡◌, refl, sym, ap, ◌∙◌}
+use mathlib.Core.Path.{◌≡◌, refl, sym, ap, ◌∙◌, subst}
 use mathlib.Core.Bool.{Bool, true, false}
 use mathlib.Core.List.{List, [], ◌∷◌, ◌++◌, append-nil}
 use mathlib.Core.Option.{Option, none, some}
@@ -82,7 +82,8 @@ endings_held earlier at (l ∷ ls) plain closed = go (find earlier text) refl (e
     go (some t) q h =
         let f = found (λ t. same t.text text) (λ t. HoldsEndings earlier (labels t.text)) earlier t closed q in
         let e : labels t.text ≡ l ∷ ls = ap labels (same_equal t.text text f.1) ∙ labels-joined (l ∷ ls) plain in
-        rw append-nil (rw e at f.0)
+        let h : HoldsEndings (earlier ++ []) (l ∷ ls) = subst (λ (x : List Tail). HoldsEndings x (l ∷ ls)) (sym (append-nil earlier)) (rw e at f.0) in
+        h
     go none q h =
         let new : Tail = record { offset = at; text = text } in
         (holds_this earlier rest.tails at text, endings_more (earlier ++ rest.tails) (earlier ++ (new ∷ rest.tails)) (holds-between earlier rest.tails new) ls h)

@@ -7,4 +7,4 @@ use Rattle.vinegarjar_table.proofs.vinegarjar_answer_ping_on_accepted_image.Goal
 pub returns : goal.returns
 returns c =
     let e = c.answer_accepted-given.ensures in
-    (c.answer_number.ensures ∙ ap answer_number e.0.same, c.answer_members.ensures ∙ ap answer_members e.0.same, e.1)
+    (c.answer_number.ensures ∙ ap answer_number e.answer_ping_returns.same, c.answer_members.ensures ∙ ap answer_members e.answer_ping_returns.same, e.answer_ping_leaves)

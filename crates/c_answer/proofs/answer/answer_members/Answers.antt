@@ -1,6 +1,5 @@
 use mathlib.Core.Path.{ap, sym}
 use Rattle.c_answer.specs.Answer.{answer_members}
-use borrow.Author.Rules.{rules}
 use Rattle.c_answer.proofs.answer.answer_members.Goals as goal
 
 pub returns-in-Answered : goal.returns-in-Answered
