@@ -1,5 +1,5 @@
 // A reader, octet by octet, gathered into lines.
-ghost use Rattle.std.specs.Prelude.{◌≤◌, IfOk, length};
+ghost use Rattle.std.specs.Prelude.{◌≡◌, ◌≤◌, IfErr, IfOk, length};
 
 use crate::answer::answer_line;
 use std::io;
@@ -12,7 +12,8 @@ struct Kept {
     image: usize,
 }
 
-// Takes one octet: an LF ends the line; another is kept while there is room, so that a line that fills it is too long.
+// Takes one octet: an LF ends the line; another is kept while there is room, so that a line that fills it is too long. An error is the
+// writer's, of the line's answer.
 fn take_octet<W: Write>(
     to: &mut W,
     x: u8,
@@ -22,7 +23,8 @@ fn take_octet<W: Write>(
     kept: Kept,
 ) -> io::Result<Kept>
     requires { kept.line ≤ length line.old }
-    ensures { IfOk result (λ latest. latest.line ≤ length line.old) }
+    ensures taken { IfOk result (λ latest. latest.line ≤ length line.old) }
+    ensures failed { IfErr result (λ error. line.new ≡ line.old) }
 {
     let len = kept.line;
     if x == 10 {
@@ -42,6 +44,7 @@ fn take_octet<W: Write>(
     Ok(kept)
 }
 
+// Takes the octets in turn, up to the first error, which is the writer's.
 fn take_all<W: Write>(
     to: &mut W,
     octets: &[u8],
