@@ -21,7 +21,7 @@ const PEERS: [Peer; 4] = [
 const INCLUDES: &str = "-I/usr/include/samba-4.0";
 
 fn main() {
-    let library = concat!(env!("CARGO_MANIFEST_DIR"), "/../target/staticlib");
+    let library = concat!(env!("CARGO_MANIFEST_DIR"), "/../crates/bench/out");
     println!("cargo:rustc-link-search=native={library}");
     println!("cargo:rerun-if-changed={library}/libbench.a");
     println!("cargo:rerun-if-changed=shims");

@@ -2,8 +2,8 @@
  * locator.h - answers Netlogon pings, filters and mailslot messages, from a table image, reads replies, reads and writes
  * filters and messages. Who answers more than one ping from an image takes locator_table.h too.
  *
- * For C11 and C++11. Link with target/staticlib/libvinegarjar.a (`rt staticlib vinegarjar`), on x86-64. The code is proved;
- * these declarations are held to it by hand and by the programs in examples/.
+ * For C11 and C++11. Link with crates/vinegarjar/out/libvinegarjar.a (`rt lib` in crates/vinegarjar), on x86-64. The code is
+ * proved; these declarations are held to it by hand and by the programs in examples/.
  *
  * Buffers. The caller owns all memory. A call keeps no pointer past its return, allocates nothing and has no state, so
  * any number of threads may call at once. Where parameters are a pointer and a length or a room, the pointer is to that many

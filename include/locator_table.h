@@ -1,7 +1,8 @@
 /*
  * locator_table.h - a table image that is judged once, when it is loaded, and pings answered from it.
  *
- * For C11 and C++11. Link with target/staticlib/libvinegarjar_table.a (`rt staticlib vinegarjar_table`) beside libvinegarjar.a.
+ * For C11 and C++11. Link with crates/vinegarjar_table/out/libvinegarjar_table.a (`rt lib` in crates/vinegarjar_table) beside
+ * libvinegarjar.a.
  * What locator.h says of buffers, octets and numbers holds here too.
  */
 #ifndef LOCATOR_TABLE_H

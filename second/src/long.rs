@@ -102,7 +102,7 @@ fn answered(program: &str, lines: &[u8]) -> io::Result<Result<Agreed, String>> {
 fn started(program: &str) -> io::Result<Child> {
     let started = Command::new(program).stdin(Stdio::piped()).stdout(Stdio::piped()).spawn();
     started.map_err(|error| match error.kind() {
-        io::ErrorKind::NotFound => io::Error::other(format!("{program} is missing; build it by: rt check vectors")),
+        io::ErrorKind::NotFound => io::Error::other(format!("{program} is missing; build it by: cd crates/vectors && rt run </dev/null")),
         _ => error,
     })
 }

@@ -89,5 +89,5 @@ fn wrong_words_and_a_missing_program_get_one_line() {
     let output = second(&["long", "/no/vectors", "1", "1"]);
     let said = String::from_utf8(output.stderr).unwrap();
     assert_eq!((output.status.code(), said.lines().count()), (Some(1), 1));
-    assert!(said.contains("rt check vectors"), "{said}");
+    assert!(said.contains("cd crates/vectors && rt run"), "{said}");
 }

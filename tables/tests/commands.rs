@@ -88,6 +88,8 @@ fn an_image_keeps_its_permissions_and_a_link_its_place() {
     let piped = run(&[Path::new("make"), &sample("base.table.txt"), Path::new("/dev/stdout")]);
     assert!(piped.status.success());
     assert_eq!(fs::read(&image).unwrap(), piped.stdout);
+    // The gate's prover takes no tree with a link in it.
+    fs::remove_dir_all(&folder).unwrap();
 }
 
 #[test]

@@ -1,15 +1,13 @@
 -- Document 02, #108: when two account names are the same, for the judgement of a table and for looking an account up.
-use mathlib.Core.Bool.{Bool}
-use mathlib.Core.List.{List}
-use mathlib.Core.Option.{Option, Option·map}
-use Prim.Native.Nat.{ℕ}
-use Rattle·octets.specs.{Fold.foldPoints, Lists.holds, Text.same}
-use Rattle·unicode.specs.Utf8.{points}
+use Rattle.std.specs.Prelude.{Bool, List, ℕ}
+use Rattle.std.proofs.Math.Option.{Option, map}
+use Rattle.octets.specs.{Fold.fold_points, Lists.holds, Text.same}
+use Rattle.unicode_text.specs.Utf8.{points}
 
 -- a text's code points, folded; none where it is not UTF-8
-unfoldable pub foldedText : List ℕ → Option (List ℕ)
-foldedText s = Option·map foldPoints (points s)
+unfoldable pub folded_text : List ℕ → Option (List ℕ)
+folded_text s = map fold_points (points s)
 
 -- both are UTF-8 and fold to the same code points
-unfoldable pub sameAccountName : List ℕ → List ℕ → Bool
-sameAccountName a b = holds (λ s. holds (same s) (foldedText b)) (foldedText a)
+unfoldable pub same_account_name : List ℕ → List ℕ → Bool
+same_account_name a b = holds (λ s. holds (same s) (folded_text b)) (folded_text a)

@@ -1,27 +1,20 @@
 // Two account names, by their folded code points: in order, and the same or not. Each is read up to the first difference.
-ghost use mathlib.Core.Path.{_≡_};
-ghost use mathlib.Core.Bool.{true, false};
-ghost use Prim.Native.Nat.{_+_, _≤_, _<_};
-ghost use lib.Dec.{eqb};
-ghost use lib.ListN.{length, getD, drop};
-ghost use Rattle·octets.specs.Fold.{foldTable, foldPoint};
-ghost use Rattle·octets.specs.Text.{lower};
-ghost use Rattle·unicode.specs.Internal.Point.{pointLimit, sizeOf};
-ghost use Rattle·account_names·specs.specs.AccountName.{sameAccountName};
-ghost use Rattle·account_names·specs.specs.Internal.Ordering.{isEqual};
-ghost use Rattle·account_names·specs.specs.Internal.NameOrder.{compareNames, RankRead, GoesOn, Alike};
+ghost use Rattle.std.specs.Prelude.{◌≡◌, true, false, ◌+◌, ◌≤◌, ◌<◌, eqb, length, get_or, drop};
+ghost use Rattle.octets.specs.Fold.{fold_table_lem, fold_point};
+ghost use Rattle.octets.specs.Text.{lower};
+ghost use Rattle.unicode_text.specs.Internal.Point.{point_limit, size_of};
+ghost use Rattle.account_names.specs.AccountName.{same_account_name};
+ghost use Rattle.account_names.specs.Internal.Ordering.{is_equal};
+ghost use Rattle.account_names.specs.Internal.NameOrder.{compare_names, RankRead, GoesOn, Alike};
+
 use crate::fold_table::FOLD_TABLE;
 use folding::fold::fold_point;
 use octets::number::wide;
 use octets::text::folded;
-use unicode::utf8::NO_POINT;
-use unicode::utf8::octet_at;
-use unicode::utf8::point_of;
-use unicode::utf8::point_of_more;
-use unicode::utf8::point_of_two;
-use unicode::utf8::size_of;
+use unicode_text::utf8::{NO_POINT, octet_at, point_of, point_of_more, point_of_two, size_of};
 
 // Which of two comes first.
+#[derive(Drop)]
 pub enum Ordering {
     Less,
     Equal,
@@ -31,8 +24,8 @@ pub enum Ordering {
 // A code point as it is ranked: one more than what it folds to, and 0 where none can be read, so that a name comes before
 // those that it begins.
 fn rank_of(fold_table: &[u16], point: u32) -> u32
-    requires { ⌜ now «fold_table» ≡ foldTable ⌝ }
-    ensures { λ r. ⌜ (point < pointLimit → r ≡ foldPoint point + 1) × (pointLimit ≤ point → r ≡ 0) ⌝ }
+    requires { fold_table.now ≡ fold_table_lem }
+    ensures { (point < point_limit → result ≡ fold_point point + 1) × (point_limit ≤ point → result ≡ 0) }
 {
     if NO_POINT <= point {
         return 0;
@@ -41,8 +34,8 @@ fn rank_of(fold_table: &[u16], point: u32) -> u32
 }
 
 fn rank_at(fold_table: &[u16], s: &[u8], at: usize) -> u32
-    requires { ⌜ now «fold_table» ≡ foldTable ⌝ }
-    ensures { λ r. ⌜ RankRead (now (s .entry)) at r (at + sizeOf (getD (now (s .entry)) at 0)) ⌝ }
+    requires { fold_table.now ≡ fold_table_lem }
+    ensures { RankRead s.now at result (at + size_of (get_or s.now at 0)) }
 {
     if s.len() <= at {
         return 0;
@@ -62,8 +55,8 @@ fn rank_at(fold_table: &[u16], s: &[u8], at: usize) -> u32
 
 // Where neither can be read on: both at their ends, or one of them no UTF-8, which is the same as nothing.
 fn compare_ends(a: &[u8], i: usize, b: &[u8], j: usize) -> Ordering
-    requires { ⌜ (RankRead (now a) i 0 i) × (RankRead (now b) j 0 j) ⌝ }
-    ensures { λ r. ⌜ r ≡ compareNames (drop i (now (a .entry))) (drop j (now (b .entry))) ⌝ }
+    requires { (RankRead a.now i 0 i) × (RankRead b.now j 0 j) }
+    ensures { result ≡ compare_names (drop i a.now) (drop j b.now) }
 {
     if i < a.len() {
         return Ordering::Greater;
@@ -75,13 +68,13 @@ fn compare_ends(a: &[u8], i: usize, b: &[u8], j: usize) -> Ordering
 }
 
 fn are_below(x: u8, y: u8, limit: u8) -> bool
-    ensures { λ r. ⌜ (r ≡ true → (x < limit) × (y < limit)) × (r ≡ false → x ≡ y → limit ≤ x) ⌝ }
+    ensures { (result ≡ true → (x < limit) × (y < limit)) × (result ≡ false → x ≡ y → limit ≤ x) }
 {
     (x < limit) & (y < limit)
 }
 
 fn letters_alike(x: u8, y: u8) -> bool
-    ensures { λ r. ⌜ r ≡ eqb (lower x) (lower y) ⌝ }
+    ensures { result ≡ eqb (lower x) (lower y) }
 {
     if x == y {
         return true;
@@ -90,8 +83,8 @@ fn letters_alike(x: u8, y: u8) -> bool
 }
 
 fn points_alike(fold_table: &[u16], p: u32, q: u32) -> bool
-    requires { ⌜ now «fold_table» ≡ foldTable ⌝ }
-    ensures { λ r. ⌜ (r ≡ true → (p < pointLimit) × (q < pointLimit) × (foldPoint p ≡ foldPoint q)) ⌝ }
+    requires { fold_table.now ≡ fold_table_lem }
+    ensures { result ≡ true → (p < point_limit) × (q < point_limit) × (fold_point p ≡ fold_point q) }
 {
     if NO_POINT <= p {
         return false;
@@ -104,8 +97,8 @@ fn points_alike(fold_table: &[u16], p: u32, q: u32) -> bool
 
 // Both have this lead: the size of the character of three octets or four behind it where both have that, else 0.
 fn same_more_size(a: &[u8], i: usize, b: &[u8], j: usize, lead: u8) -> usize
-    requires { ⌜ (0xE0 ≤ lead) × (i < length (now a)) × (lead ≡ getD (now a) i 0) × (j < length (now b)) × (lead ≡ getD (now b) j 0) ⌝ }
-    ensures { λ r. ⌜ Alike (now (a .entry)) i (now (b .entry)) j r ⌝ }
+    requires { (0xE0 ≤ lead) × (i < length a.now) × (lead ≡ get_or a.now i 0) × (j < length b.now) × (lead ≡ get_or b.now j 0) }
+    ensures { Alike a.now i b.now j result }
 {
     let x = octet_at(a, i + 1);
     let y = octet_at(a, i + 2);
@@ -132,8 +125,8 @@ fn same_more_size(a: &[u8], i: usize, b: &[u8], j: usize, lead: u8) -> usize
 // either case costs the same, or the same longer character. 0 where that cannot be said, as of letters of different sizes. It is
 // called in one place, where it is inlined.
 fn alike_size(fold_table: &[u16], a: &[u8], i: usize, b: &[u8], j: usize) -> usize
-    requires { ⌜ now «fold_table» ≡ foldTable ⌝ }
-    ensures { λ r. ⌜ Alike (now (a .entry)) i (now (b .entry)) j r ⌝ }
+    requires { fold_table.now ≡ fold_table_lem }
+    ensures { Alike a.now i b.now j result }
 {
     if a.len() <= i {
         return 0;
@@ -167,8 +160,8 @@ fn alike_size(fold_table: &[u16], a: &[u8], i: usize, b: &[u8], j: usize) -> usi
 
 // Code point by code point, from one offset on in both. What is alike is passed over before any is ranked: ranking costs more.
 fn compare_from(fold_table: &[u16], a: &[u8], b: &[u8], start: usize) -> Ordering
-    requires { ⌜ (now «fold_table» ≡ foldTable) × (start ≤ length (now a)) × (start ≤ length (now b)) ⌝ }
-    ensures { λ r. ⌜ r ≡ compareNames (drop start (now (a .entry))) (drop start (now (b .entry))) ⌝ }
+    requires { (fold_table.now ≡ fold_table_lem) × (start ≤ length a.now) × (start ≤ length b.now) }
+    ensures { result ≡ compare_names (drop start a.now) (drop start b.now) }
 {
     let mut i = start;
     let mut j = start;
@@ -196,16 +189,16 @@ fn compare_from(fold_table: &[u16], a: &[u8], b: &[u8], start: usize) -> Orderin
 }
 
 pub fn compare_names(fold_table: &[u16], a: &[u8], b: &[u8]) -> Ordering
-    requires { ⌜ now «fold_table» ≡ foldTable ⌝ }
-    ensures { λ r. ⌜ r ≡ compareNames (now (a .entry)) (now (b .entry)) ⌝ }
+    requires { fold_table.now ≡ fold_table_lem }
+    ensures { result ≡ compare_names a.now b.now }
 {
     compare_from(fold_table, a, b, 0)
 }
 
 // The size of a character of two octets that both have at an offset, else 0.
 fn same_two_size(a: &[u8], b: &[u8], at: usize) -> usize
-    requires { ⌜ (at < length (now a)) × (at < length (now b)) ⌝ }
-    ensures { λ r. ⌜ Alike (now (a .entry)) at (now (b .entry)) at r ⌝ }
+    requires { (at < length a.now) × (at < length b.now) }
+    ensures { Alike a.now at b.now at result }
 {
     let lead = a[at];
     if 0xE0 <= lead {
@@ -226,7 +219,7 @@ fn same_two_size(a: &[u8], b: &[u8], at: usize) -> usize
 
 // How many octets at an offset are alike without the folding table: a letter of ASCII, or one character of two octets.
 fn plain_size(a: &[u8], b: &[u8], at: usize) -> usize
-    ensures { λ r. ⌜ Alike (now (a .entry)) at (now (b .entry)) at r ⌝ }
+    ensures { Alike a.now at b.now at result }
 {
     if a.len() <= at {
         return 0;
@@ -245,7 +238,7 @@ fn plain_size(a: &[u8], b: &[u8], at: usize) -> usize
 
 // Whether two letters of ASCII stand there that are not alike: then the names are not the same.
 fn other_letter_at(a: &[u8], b: &[u8], at: usize) -> bool
-    ensures { λ r. ⌜ (r ≡ true → isEqual (compareNames (drop at (now (a .entry))) (drop at (now (b .entry)))) ≡ false) ⌝ }
+    ensures { result ≡ true → is_equal (compare_names (drop at a.now) (drop at b.now)) ≡ false }
 {
     if a.len() <= at {
         return false;
@@ -258,7 +251,7 @@ fn other_letter_at(a: &[u8], b: &[u8], at: usize) -> bool
 
 // How many octets at their starts are alike so.
 fn plain_start(a: &[u8], b: &[u8]) -> usize
-    ensures { λ r. ⌜ GoesOn (now (a .entry)) 0 r (now (b .entry)) 0 r ⌝ }
+    ensures { GoesOn a.now 0 result b.now 0 result }
 {
     let mut at = 0;
     loop {
@@ -272,8 +265,8 @@ fn plain_start(a: &[u8], b: &[u8]) -> usize
 
 // Whether the names are the same from an offset on. The folding table is copied here.
 fn same_rest(a: &[u8], b: &[u8], start: usize) -> bool
-    requires { ⌜ (start ≤ length (now a)) × (start ≤ length (now b)) ⌝ }
-    ensures { λ r. ⌜ r ≡ isEqual (compareNames (drop start (now (a .entry))) (drop start (now (b .entry)))) ⌝ }
+    requires { (start ≤ length a.now) × (start ≤ length b.now) }
+    ensures { result ≡ is_equal (compare_names (drop start a.now) (drop start b.now)) }
 {
     let fold_table = FOLD_TABLE;
     match compare_from(&fold_table, a, b, start) {
@@ -285,7 +278,7 @@ fn same_rest(a: &[u8], b: &[u8], start: usize) -> bool
 
 // Whether both begin with letters of ASCII that are not alike: that alone tells most accounts from the name looked up.
 pub fn first_letters_differ(a: &[u8], b: &[u8]) -> bool
-    ensures { λ r. ⌜ (r ≡ true → sameAccountName (now (a .entry)) (now (b .entry)) ≡ false) ⌝ }
+    ensures { result ≡ true → same_account_name a.now b.now ≡ false }
 {
     other_letter_at(a, b, 0)
 }
@@ -293,7 +286,7 @@ pub fn first_letters_differ(a: &[u8], b: &[u8]) -> bool
 // Most accounts differ from the name looked up in a letter of ASCII: the folding table is copied only where that does not tell. What
 // copies it is called in two places, and so is not inlined: it would stand in the frame of every comparison.
 pub fn same_account_name(a: &[u8], b: &[u8]) -> bool
-    ensures { λ r. ⌜ r ≡ sameAccountName (now (a .entry)) (now (b .entry)) ⌝ }
+    ensures { result ≡ same_account_name a.now b.now }
 {
     let start = plain_start(a, b);
     if a.len() <= start {

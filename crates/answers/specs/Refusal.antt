@@ -1,12 +1,11 @@
 -- Document 01, "Answer numbers" and "Reading a reply", and document 02, #105: the number that each refusal has.
-use mathlib.Core.Path.{_≡_}
-use Prim.Native.Nat.{ℕ}
-use Rattle·answers·specs.specs.declared.Refusal.{Refusal}
-use Rattle·answers·specs.specs.declared.Refusal.the-variants.{ImageLength, BlockCheck, BlockLayout, TableWhole}
-use Rattle·answers·specs.specs.declared.Refusal.the-variants.{FilterLength, FilterShape, UnknownClause, DuplicateClause, ClauseValue}
-use Rattle·answers·specs.specs.declared.Refusal.the-variants.{GuidLength, GuidNotHeld, DnsNameEmpty, DnsNameNotHeld}
-use Rattle·answers·specs.specs.declared.Refusal.the-variants.{SidShape, SidNotHeld, SidOfAnother, UserLabelEmpty, NoRoom}
-use Rattle·answers·specs.specs.declared.Refusal.the-variants.{ReplyCut, ReplyOpcode, ReplyText, ReplyFixed, ReplyLeftOver, MailslotShape}
+use Rattle.std.specs.Prelude.{◌≡◌, ℕ}
+use Rattle.answers.specs.declared.Refusal.{Refusal}
+use Rattle.answers.specs.declared.Refusal.TheVariants.{ImageLength, BlockCheck, BlockLayout, TableWhole}
+use Rattle.answers.specs.declared.Refusal.TheVariants.{FilterLength, FilterShape, UnknownClause, DuplicateClause, ClauseValue}
+use Rattle.answers.specs.declared.Refusal.TheVariants.{GuidLength, GuidNotHeld, DnsNameEmpty, DnsNameNotHeld}
+use Rattle.answers.specs.declared.Refusal.TheVariants.{SidShape, SidNotHeld, SidOfAnother, UserLabelEmpty, NoRoom}
+use Rattle.answers.specs.declared.Refusal.TheVariants.{ReplyCut, ReplyOpcode, ReplyText, ReplyFixed, ReplyLeftOver, MailslotShape}
 
 abbrev pub number : Refusal → ℕ
 number ImageLength = 1

@@ -1,8 +1,7 @@
 -- A refusal, or what was asked for: how judgements stand one after the other.
-use mathlib.Core.Bool.{Bool, true, false}
-use mathlib.Core.Option.{Option, none, some}
-use Prim.Native.Nat.{ℕ}
-use Rattle·answers·specs.specs.{declared.Refusal.Refusal, Refusal.number}
+use Rattle.std.specs.Prelude.{Bool, true, false, ℕ}
+use Rattle.std.proofs.Math.Option.{Option, none, some}
+use Rattle.answers.specs.{declared.Refusal.Refusal, Refusal.number}
 
 pub data Try (A : Type 0) : Type 0 where
   refused : Refusal → Try A
@@ -10,22 +9,22 @@ pub data Try (A : Type 0) : Type 0 where
 
 module _ {A : Type 0} where
   -- refused for this reason where the test holds, else as what follows says
-  abbrev pub refusedIf : Bool → Refusal → Try A → Try A
-  refusedIf true r rest = refused r
-  refusedIf false r rest = rest
+  abbrev pub refused_if : Bool → Refusal → Try A → Try A
+  refused_if true r rest = refused r
+  refused_if false r rest = rest
 
-  infixl 1 _>>=_
+  infixl 1 ◌>>=◌
   -- what follows, where nothing was refused so far; a `do` block is made of it
-  abbrev pub _>>=_ : {B : Type 0} → Try A → (A → Try B) → Try B
+  abbrev pub ◌>>=◌ : {B : Type 0} → Try A → (A → Try B) → Try B
   refused r >>= f = refused r
   good a >>= f = f a
 
   -- document 01's number: 0, or that of the refusal
-  abbrev pub numberOf : Try A → ℕ
-  numberOf (refused r) = number r
-  numberOf (good a) = 0
+  abbrev pub number_of : Try A → ℕ
+  number_of (refused r) = number r
+  number_of (good a) = 0
 
   -- and its value: none with a refusal
-  abbrev pub valueOf : Try A → Option A
-  valueOf (refused r) = none
-  valueOf (good a) = some a
+  abbrev pub value_of : Try A → Option A
+  value_of (refused r) = none
+  value_of (good a) = some a

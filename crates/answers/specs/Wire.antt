@@ -1,146 +1,142 @@
 -- The numbers of pings and replies under their names in MS-ADTS 6.3.1, for whoever chooses, writes or reads a reply.
-use mathlib.Core.Bool.{Bool, _||_}
-use mathlib.Core.List.{List}
-use Prim.Native.Nat.{ℕ, _+_}
-use lib.Dec.{eqb}
-use lib.ListN.{replicate}
-use Rattle·answers·specs.specs.declared.Form.{Form}
-use Rattle·answers·specs.specs.declared.Form.the-variants.{Nt40, Response, Ex}
+use Rattle.std.specs.Prelude.{Bool, ◌||◌, List, ℕ, ◌+◌, eqb, replicate}
+use Rattle.answers.specs.declared.Form.{Form}
+use Rattle.answers.specs.declared.Form.TheVariants.{Nt40, Response, Ex}
 
 -- the bits of the version asked, NtVer
-abbrev pub NETLOGON-NT-VERSION-1 : ℕ
-NETLOGON-NT-VERSION-1 = 0x1
+abbrev pub netlogon_nt_version_1 : ℕ
+netlogon_nt_version_1 = 0x1
 
-abbrev pub NETLOGON-NT-VERSION-5 : ℕ
-NETLOGON-NT-VERSION-5 = 0x2
+abbrev pub netlogon_nt_version_5 : ℕ
+netlogon_nt_version_5 = 0x2
 
-abbrev pub NETLOGON-NT-VERSION-5EX : ℕ
-NETLOGON-NT-VERSION-5EX = 0x4
+abbrev pub netlogon_nt_version_5ex : ℕ
+netlogon_nt_version_5ex = 0x4
 
-abbrev pub NETLOGON-NT-VERSION-5EX-WITH-IP : ℕ
-NETLOGON-NT-VERSION-5EX-WITH-IP = 0x8
+abbrev pub netlogon_nt_version_5ex_with_ip : ℕ
+netlogon_nt_version_5ex_with_ip = 0x8
 
-abbrev pub NETLOGON-NT-VERSION-WITH-CLOSEST-SITE : ℕ
-NETLOGON-NT-VERSION-WITH-CLOSEST-SITE = 0x10
+abbrev pub netlogon_nt_version_with_closest_site : ℕ
+netlogon_nt_version_with_closest_site = 0x10
 
-abbrev pub NETLOGON-NT-VERSION-AVOID-NT4EMUL : ℕ
-NETLOGON-NT-VERSION-AVOID-NT4EMUL = 0x01000000
+abbrev pub netlogon_nt_version_avoid_nt4emul : ℕ
+netlogon_nt_version_avoid_nt4emul = 0x01000000
 
-abbrev pub NETLOGON-NT-VERSION-PDC : ℕ
-NETLOGON-NT-VERSION-PDC = 0x10000000
+abbrev pub netlogon_nt_version_pdc : ℕ
+netlogon_nt_version_pdc = 0x10000000
 
-abbrev pub NETLOGON-NT-VERSION-LOCAL : ℕ
-NETLOGON-NT-VERSION-LOCAL = 0x40000000
+abbrev pub netlogon_nt_version_local : ℕ
+netlogon_nt_version_local = 0x40000000
 
 -- the version in a reply, from the same bits: document 01's 1, 3, 5, and 15h where name 8 is written
-abbrev pub nt40Version : ℕ
-nt40Version = NETLOGON-NT-VERSION-1
+abbrev pub nt40_version : ℕ
+nt40_version = netlogon_nt_version_1
 
-abbrev pub responseVersion : ℕ
-responseVersion = NETLOGON-NT-VERSION-1 + NETLOGON-NT-VERSION-5
+abbrev pub response_version : ℕ
+response_version = netlogon_nt_version_1 + netlogon_nt_version_5
 
-abbrev pub exVersion : ℕ
-exVersion = NETLOGON-NT-VERSION-1 + NETLOGON-NT-VERSION-5EX
+abbrev pub ex_version : ℕ
+ex_version = netlogon_nt_version_1 + netlogon_nt_version_5ex
 
-abbrev pub exVersionWithNextSite : ℕ
-exVersionWithNextSite = exVersion + NETLOGON-NT-VERSION-WITH-CLOSEST-SITE
+abbrev pub ex_version_with_next_site : ℕ
+ex_version_with_next_site = ex_version + netlogon_nt_version_with_closest_site
 
 -- the opcodes: of a mailslot message, of the two older forms and of EX
-abbrev pub LOGON-SAM-LOGON-REQUEST : ℕ
-LOGON-SAM-LOGON-REQUEST = 18
+abbrev pub logon_sam_logon_request : ℕ
+logon_sam_logon_request = 18
 
-abbrev pub LOGON-SAM-LOGON-RESPONSE : ℕ
-LOGON-SAM-LOGON-RESPONSE = 19
+abbrev pub logon_sam_logon_response : ℕ
+logon_sam_logon_response = 19
 
-abbrev pub LOGON-SAM-PAUSE-RESPONSE : ℕ
-LOGON-SAM-PAUSE-RESPONSE = 20
+abbrev pub logon_sam_pause_response : ℕ
+logon_sam_pause_response = 20
 
-abbrev pub LOGON-SAM-USER-UNKNOWN : ℕ
-LOGON-SAM-USER-UNKNOWN = 21
+abbrev pub logon_sam_user_unknown : ℕ
+logon_sam_user_unknown = 21
 
-abbrev pub LOGON-SAM-LOGON-RESPONSE-EX : ℕ
-LOGON-SAM-LOGON-RESPONSE-EX = 23
+abbrev pub logon_sam_logon_response_ex : ℕ
+logon_sam_logon_response_ex = 23
 
-abbrev pub LOGON-SAM-PAUSE-RESPONSE-EX : ℕ
-LOGON-SAM-PAUSE-RESPONSE-EX = 24
+abbrev pub logon_sam_pause_response_ex : ℕ
+logon_sam_pause_response_ex = 24
 
-abbrev pub LOGON-SAM-USER-UNKNOWN-EX : ℕ
-LOGON-SAM-USER-UNKNOWN-EX = 25
+abbrev pub logon_sam_user_unknown_ex : ℕ
+logon_sam_user_unknown_ex = 25
 
 pub record Opcodes : Type 0 where
-  pub logonResponse : ℕ
-  pub pauseResponse : ℕ
-  pub userUnknown : ℕ
+  pub logon_response : ℕ
+  pub pause_response : ℕ
+  pub user_unknown : ℕ
 
-abbrev pub olderOpcodes : Opcodes
-olderOpcodes =
+abbrev pub older_opcodes : Opcodes
+older_opcodes =
     record {
-      logonResponse = LOGON-SAM-LOGON-RESPONSE;
-      pauseResponse = LOGON-SAM-PAUSE-RESPONSE;
-      userUnknown = LOGON-SAM-USER-UNKNOWN;
+      logon_response = logon_sam_logon_response;
+      pause_response = logon_sam_pause_response;
+      user_unknown = logon_sam_user_unknown;
     }
 
-abbrev pub exOpcodes : Opcodes
-exOpcodes =
+abbrev pub ex_opcodes : Opcodes
+ex_opcodes =
     record {
-      logonResponse = LOGON-SAM-LOGON-RESPONSE-EX;
-      pauseResponse = LOGON-SAM-PAUSE-RESPONSE-EX;
-      userUnknown = LOGON-SAM-USER-UNKNOWN-EX;
+      logon_response = logon_sam_logon_response_ex;
+      pause_response = logon_sam_pause_response_ex;
+      user_unknown = logon_sam_user_unknown_ex;
     }
 
-abbrev pub opcodesOf : Form → Opcodes
-opcodesOf Nt40 = olderOpcodes
-opcodesOf Response = olderOpcodes
-opcodesOf Ex = exOpcodes
+abbrev pub opcodes_of : Form → Opcodes
+opcodes_of Nt40 = older_opcodes
+opcodes_of Response = older_opcodes
+opcodes_of Ex = ex_opcodes
 
-abbrev pub isOneOf : Opcodes → ℕ → Bool
-isOneOf codes n = eqb n (codes .logonResponse) || eqb n (codes .pauseResponse) || eqb n (codes .userUnknown)
+abbrev pub is_one_of : Opcodes → ℕ → Bool
+is_one_of codes n = eqb n codes.logon_response || eqb n codes.pause_response || eqb n codes.user_unknown
 
 -- the flags of a RESPONSE or EX reply
-abbrev pub DS-PDC-FLAG : ℕ
-DS-PDC-FLAG = 0x1
+abbrev pub ds_pdc_flag : ℕ
+ds_pdc_flag = 0x1
 
-abbrev pub DS-GC-FLAG : ℕ
-DS-GC-FLAG = 0x4
+abbrev pub ds_gc_flag : ℕ
+ds_gc_flag = 0x4
 
-abbrev pub DS-LDAP-FLAG : ℕ
-DS-LDAP-FLAG = 0x8
+abbrev pub ds_ldap_flag : ℕ
+ds_ldap_flag = 0x8
 
-abbrev pub DS-DS-FLAG : ℕ
-DS-DS-FLAG = 0x10
+abbrev pub ds_ds_flag : ℕ
+ds_ds_flag = 0x10
 
-abbrev pub DS-KDC-FLAG : ℕ
-DS-KDC-FLAG = 0x20
+abbrev pub ds_kdc_flag : ℕ
+ds_kdc_flag = 0x20
 
-abbrev pub DS-TIMESERV-FLAG : ℕ
-DS-TIMESERV-FLAG = 0x40
+abbrev pub ds_timeserv_flag : ℕ
+ds_timeserv_flag = 0x40
 
-abbrev pub DS-CLOSEST-FLAG : ℕ
-DS-CLOSEST-FLAG = 0x80
+abbrev pub ds_closest_flag : ℕ
+ds_closest_flag = 0x80
 
-abbrev pub DS-WRITABLE-FLAG : ℕ
-DS-WRITABLE-FLAG = 0x100
+abbrev pub ds_writable_flag : ℕ
+ds_writable_flag = 0x100
 
-abbrev pub DS-GOOD-TIMESERV-FLAG : ℕ
-DS-GOOD-TIMESERV-FLAG = 0x200
+abbrev pub ds_good_timeserv_flag : ℕ
+ds_good_timeserv_flag = 0x200
 
-abbrev pub DS-NDNC-FLAG : ℕ
-DS-NDNC-FLAG = 0x400
+abbrev pub ds_ndnc_flag : ℕ
+ds_ndnc_flag = 0x400
 
-abbrev pub DS-SELECT-SECRET-DOMAIN-6-FLAG : ℕ
-DS-SELECT-SECRET-DOMAIN-6-FLAG = 0x800
+abbrev pub ds_select_secret_domain_6_flag : ℕ
+ds_select_secret_domain_6_flag = 0x800
 
-abbrev pub DS-FULL-SECRET-DOMAIN-6-FLAG : ℕ
-DS-FULL-SECRET-DOMAIN-6-FLAG = 0x1000
+abbrev pub ds_full_secret_domain_6_flag : ℕ
+ds_full_secret_domain_6_flag = 0x1000
 
-abbrev pub DS-WS-FLAG : ℕ
-DS-WS-FLAG = 0x2000
+abbrev pub ds_ws_flag : ℕ
+ds_ws_flag = 0x2000
 
-abbrev pub DS-DS-8-FLAG : ℕ
-DS-DS-8-FLAG = 0x4000
+abbrev pub ds_ds_8_flag : ℕ
+ds_ds_8_flag = 0x4000
 
-abbrev pub DS-DS-9-FLAG : ℕ
-DS-DS-9-FLAG = 0x8000
+abbrev pub ds_ds_9_flag : ℕ
+ds_ds_9_flag = 0x8000
 
 -- fixed fields: the second number of an EX, the second GUID of a RESPONSE, and the tokens that end every reply
 abbrev pub Sbz : ℕ
@@ -159,8 +155,8 @@ Lm20Token = 0xFFFF
 abbrev pub DcSockAddrSize : ℕ
 DcSockAddrSize = 0x10
 
-abbrev pub sin-family : ℕ
-sin-family = 2
+abbrev pub sin_family : ℕ
+sin_family = 2
 
-abbrev pub sin-zero : List ℕ
-sin-zero = replicate 8 0
+abbrev pub sin_zero : List ℕ
+sin_zero = replicate 8 0

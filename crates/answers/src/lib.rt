@@ -1,10 +1,13 @@
 // The answers of document 01, "Answer numbers" and "Reading a reply", and of document 02: why a call refuses, and the three forms of a reply.
+#![tactic(auto)]
+
 pub mod wire;
 pub mod written;
 
-ghost use Rattle·answers·specs.specs.Refusal.{number, NumberOfPromise};
+ghost use Rattle.answers.specs.Refusal.{number, NumberOfPromise};
 
 // A refusal.
+#[derive(Clone, Copy)]
 pub enum Refusal {
     ImageLength,
     BlockCheck,
@@ -34,7 +37,7 @@ pub enum Refusal {
 
 // The number that document 01 gives a refusal.
 pub fn number_of(r: Refusal) -> u8
-    ensures { λ n. ⌜ NumberOfPromise r n ⌝ }
+    ensures { NumberOfPromise r result }
 {
     match r {
         Refusal::ImageLength => 1,
@@ -65,6 +68,7 @@ pub fn number_of(r: Refusal) -> u8
 }
 
 // The form of a reply.
+#[derive(Clone, Copy)]
 pub enum Form {
     Nt40,
     Response,

@@ -1,10 +1,11 @@
 // What a call that writes gives.
-ghost use mathlib.Core.Path.{_≡_};
-ghost use Rattle·answers·specs.specs.Written.{writtenNumber, writtenLength};
-use crate::Refusal;
-use crate::number_of;
+ghost use Rattle.std.specs.Prelude.{◌≡◌};
+ghost use Rattle.answers.specs.Written.{written_number, written_length};
+
+use crate::{Refusal, number_of};
 
 // 0 with the length written, or why nothing was.
+#[derive(Clone, Copy)]
 pub enum Written {
     Length(usize),
     Refused(Refusal),
@@ -12,7 +13,7 @@ pub enum Written {
 
 // Document 01's number of it.
 pub fn written_number(written: Written) -> u8
-    ensures { λ r. ⌜ r ≡ writtenNumber written ⌝ }
+    ensures { result ≡ written_number written }
 {
     match written {
         Written::Length(_) => 0,
@@ -22,7 +23,7 @@ pub fn written_number(written: Written) -> u8
 
 // The length written, 0 with a refusal.
 pub fn written_length(written: Written) -> usize
-    ensures { λ r. ⌜ r ≡ writtenLength written ⌝ }
+    ensures { result ≡ written_length written }
 {
     match written {
         Written::Length(length) => length,

@@ -1,12 +1,14 @@
 // An IPv4 address as four numbers with dots, without zeros in front: some readers take those for octal.
 use octets::number::wide;
 
+#[derive(Drop)]
 pub enum Ipv4 {
     Bad,
     Address { a: u8, b: u8, c: u8, d: u8 },
 }
 
 // The octets before the last three dots, how many dots there were, and the octet read since the last, where it has a digit.
+#[derive(Drop)]
 struct Quad {
     a: u8,
     b: u8,
@@ -16,6 +18,7 @@ struct Quad {
     has_digit: bool,
 }
 
+#[derive(Drop)]
 enum QuadStep {
     Bad,
     Next(Quad),

@@ -1,15 +1,12 @@
 // CLAUSE=VALUE: a clause's name, ASCII case ignored, and its octets. NtVer and AAC may be numbers; octets stand as they are or as \hh.
-ghost use Prim.Native.Nat.{_≤_};
+ghost use Rattle.std.specs.Prelude.{◌≤◌};
+
 use crate::escape::unescape;
 use crate::hex::Octets;
-use crate::number::Number;
-use crate::number::number_of;
+use crate::number::{Number, number_of};
 use crate::word::position_of;
-use filter::request::Clause;
-use filter::request::ClauseName;
-use filter::request::Request;
-use filter_gather::gather::SpelledName;
-use filter_gather::gather::name_of;
+use filter::request::{Clause, ClauseName, Request};
+use filter_gather::gather::{SpelledName, name_of};
 use lent::put::put_u32;
 use octets::part::part;
 
@@ -19,6 +16,7 @@ pub const VALUE_MOST: usize = 2048;
 pub const SOURCE_SIZE: usize = 8 * VALUE_MOST;
 
 // The clauses with one more, or what is wrong with it.
+#[derive(Drop)]
 pub enum ClauseRead {
     NoEquals,
     UnknownName,
@@ -59,6 +57,7 @@ fn is_escaped(text: &[u8]) -> bool {
 }
 
 // What a clause's text gives: its octets in the source, or what is wrong with it.
+#[derive(Drop)]
 enum Put {
     BadNumber,
     Put(Octets),
@@ -76,7 +75,7 @@ fn put_value(name: ClauseName, text: &[u8], out: &mut [u8]) -> Put {
 
 // Where a clause's room starts in the source.
 fn room_start(name: ClauseName) -> usize
-    ensures { λ r. ⌜ r ≤ 14336 ⌝ }
+    ensures { result ≤ 14336 }
 {
     match name {
         ClauseName::DnsDomain => 0,

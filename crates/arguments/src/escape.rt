@@ -1,8 +1,7 @@
 // Octets as they stand, or as \hh.
-ghost use Prim.Native.Nat.{_≤_};
-use crate::hex::HexOctet;
-use crate::hex::Octets;
-use crate::hex::hex_octet;
+ghost use Rattle.std.specs.Prelude.{◌≤◌};
+
+use crate::hex::{HexOctet, Octets, hex_octet};
 use octets::part::part;
 
 // The octet at the front of a text: one as it stands, or \hh.
@@ -21,7 +20,7 @@ fn front_octet(text: &[u8]) -> HexOctet {
 
 // How much of a text its first octet takes.
 fn front_width(text: &[u8]) -> usize
-    ensures { λ r. ⌜ (1 ≤ r) × (r ≤ 3) ⌝ }
+    ensures { (1 ≤ result) × (result ≤ 3) }
 {
     if text.len() == 0 {
         return 1;

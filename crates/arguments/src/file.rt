@@ -1,9 +1,11 @@
 // A file read whole.
-use crate::complaint::complain;
-use crate::complaint::complain_of_file;
-use crate::word::Word;
-use crate::word::take_named;
+use crate::complaint::{complain, complain_of_file};
+use crate::word::{Word, take_named};
 use octets::part::part;
+use std::env::Env;
+use std::fs::{File, Files};
+use std::io;
+use std::io::{ErrorKind, Read, Write};
 use table::block::IMAGE_MOST;
 
 // The number of the argument that names a table; the program's own name is 0.
@@ -12,52 +14,66 @@ pub const TABLE: usize = 1;
 // One octet more than an image may have, so that a longer file is refused.
 pub const IMAGE_SIZE: usize = IMAGE_MOST + 1;
 
+// The longest name of a file that Linux takes, with its end.
+const PATH_SIZE: usize = 4096;
+
+#[derive(Drop)]
 pub enum FileRead {
     Failed,
     Octets(usize),
 }
 
-// Whether a file that gave no more octets cannot be read: it gives none at its end too.
-fn is_failing(fd: i32) -> bool {
-    let mut more = [0u8; 1];
-    libc::read(fd, &mut more) < 0
+// Puts what a reader gives at the front of out, how much; what does not fit stays unread.
+fn read_open<R: Read>(reader: &mut R, out: &mut [u8]) -> io::Result<usize> {
+    let mut done = 0;
+    while done < out.len() {
+        let count = reader.read(&mut out[done..])?;
+        if count == 0 {
+            return Ok(done);
+        }
+        done += count;
+    }
+    Ok(done)
 }
 
-// Puts a file's octets at the front of out; a longer one fills it.
-fn read_open(fd: i32, out: &mut [u8]) -> FileRead {
-    let count = io::read_full(fd, out);
-    if count < out.len() {
-        if is_failing(fd) {
-            return FileRead::Failed;
+// Puts a file's octets at the front of out, how many; a longer one fills it.
+pub fn read_file<F: Files>(files: &F, path: &[u8], out: &mut [u8]) -> io::Result<usize> {
+    let Ok(name) = str::from_utf8(path) else {
+        return Err(io::Error::new(ErrorKind::InvalidFilename, "the name is not UTF-8"));
+    };
+    let mut file = File::open(files, name)?;
+    read_open(&mut file, out)
+}
+
+// A file that cannot be read is told.
+fn read_named<F: Files, W: Write>(
+    files: &F,
+    err: &mut W,
+    name: &[u8],
+    out: &mut [u8],
+) -> io::Result<FileRead> {
+    match read_file(files, name, out) {
+        Ok(count) => Ok(FileRead::Octets(count)),
+        Err(error) => {
+            complain_of_file(err, name, error)?;
+            Ok(FileRead::Failed)
         }
     }
-    FileRead::Octets(count)
-}
-
-pub fn read_file(path: &[u8], out: &mut [u8]) -> FileRead {
-    let fd = os::open_read(path);
-    if fd < 0 {
-        return FileRead::Failed;
-    }
-    let read = read_open(fd, out);
-    libc::close(fd);
-    read
 }
 
 // Puts the image that the argument TABLE names at the front of out.
-pub fn read_table(out: &mut [u8]) -> FileRead {
-    let mut path = io::buffer();
-    let Word::Length(len) = take_named(TABLE, b"TABLE", &mut path) else {
-        return FileRead::Failed;
+pub fn read_table<E: Env + Files, W: Write>(
+    env: &E,
+    err: &mut W,
+    out: &mut [u8],
+) -> io::Result<FileRead> {
+    let mut path = [0u8; PATH_SIZE];
+    let Word::Length(len) = take_named(env, err, TABLE, b"TABLE", &mut path)? else {
+        return Ok(FileRead::Failed);
     };
     if len == 0 {
-        complain(b"TABLE is empty\n");
-        return FileRead::Failed;
+        complain(err, b"TABLE is empty\n")?;
+        return Ok(FileRead::Failed);
     }
-    let name = part(&path, 0, len);
-    let read = read_file(name, out);
-    if let FileRead::Failed = read {
-        complain_of_file(name);
-    }
-    read
+    read_named(env, err, part(&path, 0, len), out)
 }

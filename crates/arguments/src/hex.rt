@@ -1,17 +1,18 @@
 // Octets written as hex digits in either case, two for each.
-ghost use Prim.Native.Nat.{_≤_};
-ghost use lib.ListN.{length};
-use console::digits::hex_digit_value;
-use console::digits::is_hex_digit;
+ghost use Rattle.std.specs.Prelude.{◌≤◌, length};
+
+use console::digits::{hex_digit_value, is_hex_digit};
 use octets::text::folded;
 
 // The octet that two digits stand for.
+#[derive(Drop)]
 pub enum HexOctet {
     Bad,
     Octet(u8),
 }
 
 // How many octets a text stands for.
+#[derive(Drop)]
 pub enum Octets {
     Bad,
     TooMany,

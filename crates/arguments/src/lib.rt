@@ -1,4 +1,6 @@
 // The arguments of the programs, taken apart: every text of any octets is read, or told to be no such argument.
+#![tactic(auto)]
+
 pub mod address;
 pub mod clause;
 pub mod complaint;

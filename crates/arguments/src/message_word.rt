@@ -1,15 +1,14 @@
 // WORD=VALUE of a mailslot message: a word, ASCII case ignored, and its number or its octets. Octets stand as they are or as \hh.
-ghost use Prim.Native.Nat.{_≤_};
+ghost use Rattle.std.specs.Prelude.{◌≤◌};
+
 use crate::escape::unescape;
 use crate::hex::Octets;
-use crate::number::Number;
-use crate::number::number_of;
+use crate::number::{Number, number_of};
 use crate::word::position_of;
 use console::field::field;
 use octets::part::part;
 use octets::text::same_folded;
-use unicode::utf16::put_utf16;
-use unicode::utf16::utf16_size;
+use unicode_text::utf16::{put_utf16, utf16_size};
 
 // The words by their numbers.
 pub const REPEAT: usize = 0;
@@ -37,6 +36,7 @@ const TEXT_ROOM: usize = 4 * TEXT_MOST;
 pub const TEXTS_SIZE: usize = 4 * TEXT_ROOM;
 
 // A word that is given: which one, and its value, a number or how many octets stand in its room.
+#[derive(Clone, Copy)]
 pub struct MessageWord {
     pub word: usize,
     pub number: u32,
@@ -44,6 +44,7 @@ pub struct MessageWord {
 }
 
 // A word, or what is wrong with it.
+#[derive(Clone, Copy)]
 pub enum WordRead {
     NoEquals,
     UnknownWord,
@@ -134,7 +135,7 @@ fn text_word(word: usize, text: &[u8], out: &mut [u8]) -> WordRead {
 
 // Where a text's room starts in the source.
 pub fn room_start(word: usize) -> usize
-    ensures { λ r. ⌜ r ≤ 3060 ⌝ }
+    ensures { result ≤ 3060 }
 {
     match word {
         COMPUTER => 0,

@@ -1,9 +1,9 @@
 // Numbers of 32 bits, decimal or hex after 0x.
-use console::digits::hex_digit_value;
-use console::digits::is_hex_digit;
+use console::digits::{hex_digit_value, is_hex_digit};
 use octets::part::part;
 use octets::text::folded;
 
+#[derive(Drop)]
 pub enum Number {
     Bad,
     Value(u32),

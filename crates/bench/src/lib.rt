@@ -1,34 +1,30 @@
 // Proved code that the programs of bench/ time and that is no public call, for Rust to link.
-ghost use mathlib.Core.Path.{_≡_};
-ghost use mathlib.Core.Bool.{_&&_};
-ghost use Prim.Native.Nat.{_≤_, _<_};
-ghost use lib.Dec.{leb};
-ghost use lib.ListN.{length};
-ghost use Rattle·octets.specs.Lists.{all};
-ghost use Rattle·filter_read.specs.Value.{pingFrom, judgedValues, judgedNumber};
-ghost use Rattle·mailslot.specs.Message.{messageIn};
-ghost use Rattle·mailslot.specs.Read.{messageAs, messageNumber};
-ghost use Rattle·names.specs.Internal.Plan.{ShortTexts};
-ghost use Rattle·table.specs.Block.{imageMost, blocksOf};
-ghost use Rattle·table_check.specs.Check.{goodCheck};
+#![tactic(auto)]
+
+ghost use Rattle.std.specs.Prelude.{◌≡◌, ◌&&◌, ◌≤◌, ◌<◌, leb, length};
+ghost use Rattle.octets.specs.Lists.{all};
+ghost use Rattle.filter_read.specs.Value.{ping_from, judged_values, judged_number};
+ghost use Rattle.mailslot.specs.Message.{message_in};
+ghost use Rattle.mailslot.specs.Read.{message_as, message_number};
+ghost use Rattle.names.specs.Internal.Plan.{ShortTexts};
+ghost use Rattle.table.specs.Block.{image_most, blocks_of};
+ghost use Rattle.table_check.specs.Check.{good_check};
+
 use answers::number_of;
-use filter_read::ping::PingRead;
-use filter_read::ping::read_ping;
-use lent::stretch::Lender;
-use lent::stretch::Stretch;
+use filter_read::ping::{PingRead, read_ping};
+use lent::stretch::{Lender, Stretch};
 use mailslot::message::message_number;
 use mailslot_read::read::read_message;
-use names::plan::NAMES_MOST;
-use names::plan::plan_names;
+use names::plan::{NAMES_MOST, plan_names};
 use names_write::put::put_names;
 use octets::number::wide;
 use table::block::IMAGE_MOST;
 use table_check::check::good_checks;
 
 // The checks of an image's blocks alone; false for an image that is too long.
-#[no_mangle]
+#[unsafe(no_mangle)]
 pub extern "C" fn bench_checks(image: &[u8]) -> bool
-    ensures { λ r. ⌜ r ≡ (leb (length (now (image .entry))) imageMost && all goodCheck (blocksOf (now (image .entry)))) ⌝ }
+    ensures { result ≡ (leb (length image.now) image_most && all good_check (blocks_of image.now)) }
 {
     if IMAGE_MOST < image.len() {
         return false;
@@ -37,9 +33,9 @@ pub extern "C" fn bench_checks(image: &[u8]) -> bool
 }
 
 // The number that reading a filter gives, as a ping has it read.
-#[no_mangle]
+#[unsafe(no_mangle)]
 pub extern "C" fn bench_read(filter: &[u8]) -> u8
-    ensures { λ r. ⌜ r ≡ judgedNumber (judgedValues (pingFrom (now (filter .entry)))) ⌝ }
+    ensures { result ≡ judged_number (judged_values (ping_from filter.now)) }
 {
     match read_ping(filter) {
         PingRead::Ping(_) => 0,
@@ -48,9 +44,9 @@ pub extern "C" fn bench_read(filter: &[u8]) -> u8
 }
 
 // The number that reading a mailslot message gives.
-#[no_mangle]
+#[unsafe(no_mangle)]
 pub extern "C" fn bench_read_message(message: &[u8]) -> u8
-    ensures { λ r. ⌜ r ≡ messageNumber (messageAs (messageIn (now (message .entry)))) ⌝ }
+    ensures { result ≡ message_number (message_as (message_in message.now)) }
 {
     message_number(read_message(message))
 }
@@ -64,8 +60,8 @@ const NAMES_START: usize = 24;
 const NAMES: usize = 8;
 
 fn text_at(place: usize, length: u8) -> Stretch
-    requires { ⌜ place ≤ 8 ⌝ }
-    ensures { λ r. ⌜ r .len ≤ 255 ⌝ }
+    requires { place ≤ 8 }
+    ensures { result.len ≤ 255 }
 {
     Stretch {
         lender: Lender::Table,
@@ -75,7 +71,7 @@ fn text_at(place: usize, length: u8) -> Stretch
 }
 
 fn name_texts(lengths: &[u8; 8]) -> [Stretch; NAMES_MOST]
-    ensures { λ r. ⌜ ShortTexts r 8 ⌝ }
+    ensures { ShortTexts result 8 }
 {
     [
         text_at(0, lengths[0]),
@@ -91,7 +87,7 @@ fn name_texts(lengths: &[u8; 8]) -> [Stretch; NAMES_MOST]
 }
 
 // Plans and writes eight names, as those of an EX; the octets written, 0 where they have no room.
-#[no_mangle]
+#[unsafe(no_mangle)]
 pub extern "C" fn bench_names(source: &[u8], lengths: &[u8; 8], out: &mut [u8]) -> usize {
     let planned = plan_names(source, source, name_texts(lengths), NAMES, NAMES_START);
     let names = planned.names;

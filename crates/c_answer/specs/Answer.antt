@@ -1,21 +1,20 @@
 -- An answer as the members of C's struct: its length, the context used and the form.
-use mathlib.Core.List.{List, [], _∷_}
-use mathlib.Core.Option.{Option, none, some}
-use Prim.Native.Nat.{ℕ}
-use Rattle·answers.specs.declared.Form.{Form}
-use Rattle·answers.specs.declared.Form.the-variants.{Nt40, Response, Ex}
-use Rattle·locator.specs.declared.Answer.{Answer}
-use Rattle·locator.specs.Answer.{answerLength, answerContext, answerForm}
+use Rattle.std.specs.Prelude.{List, [], ◌∷◌, ℕ}
+use Rattle.std.proofs.Math.Option.{Option, none, some}
+use Rattle.answers.specs.declared.Form.{Form}
+use Rattle.answers.specs.declared.Form.TheVariants.{Nt40, Response, Ex}
+use Rattle.locator.specs.declared.Answer.{Answer}
+use Rattle.locator.specs.Answer.{answer_length, answer_context, answer_form}
 
-abbrev pub formNumber : Form → ℕ
-formNumber Nt40 = 1
-formNumber Response = 2
-formNumber Ex = 3
+abbrev pub form_number : Form → ℕ
+form_number Nt40 = 1
+form_number Response = 2
+form_number Ex = 3
 
 -- 0 is no form
-abbrev pub formOrNone : Option Form → ℕ
-formOrNone none = 0
-formOrNone (some form) = formNumber form
+abbrev pub form_or_none : Option Form → ℕ
+form_or_none none = 0
+form_or_none (some form) = form_number form
 
-abbrev pub answerMembers : Answer → List ℕ
-answerMembers a = answerLength a ∷ answerContext a ∷ formOrNone (answerForm a) ∷ []
+abbrev pub answer_members : Answer → List ℕ
+answer_members a = answer_length a ∷ answer_context a ∷ form_or_none (answer_form a) ∷ []

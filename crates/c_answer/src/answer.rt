@@ -1,6 +1,7 @@
 // An answer as the members of `struct locator_answer`: its length, the context used and the form.
-ghost use mathlib.Core.Path.{_≡_};
-ghost use Rattle·c_answer·specs.specs.Answer.{formNumber, answerMembers};
+ghost use Rattle.std.specs.Prelude.{◌≡◌};
+ghost use Rattle.c_answer.specs.Answer.{form_number, answer_members};
+
 use answers::Form;
 use locator::Answer;
 
@@ -8,7 +9,7 @@ pub const ANSWER_MEMBERS: usize = 3;
 
 // The number of a form; 0 is no form.
 fn form_number(form: Form) -> usize
-    ensures { λ r. ⌜ r ≡ formNumber form ⌝ }
+    ensures { result ≡ form_number form }
 {
     match form {
         Form::Nt40 => 1,
@@ -18,7 +19,7 @@ fn form_number(form: Form) -> usize
 }
 
 pub fn answer_members(answer: Answer) -> [usize; ANSWER_MEMBERS]
-    ensures { λ r. ⌜ r ≡ answerMembers answer ⌝ }
+    ensures { result ≡ answer_members answer }
 {
     match answer {
         Answer::Answered {

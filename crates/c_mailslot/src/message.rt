@@ -1,11 +1,9 @@
 // A message as the members of `struct locator_mailslot`: three numbers, then four stretches.
-ghost use mathlib.Core.Path.{_≡_};
-ghost use Prim.Native.Nat.{_≤_};
-ghost use lib.Dec.{eqb};
-ghost use Rattle·c_mailslot·specs.specs.Message.{stretchAt, sidUnless, messageMembers};
-ghost use Rattle·c_mailslot·specs.specs.Internal.Given.{GivenBy};
-use mailslot::message::Message;
-use mailslot::message::MessageRead;
+ghost use Rattle.std.specs.Prelude.{◌≡◌, ◌≤◌, eqb};
+ghost use Rattle.c_mailslot.specs.Message.{stretch_at, sid_unless, message_members};
+ghost use Rattle.c_mailslot.specs.Internal.Given.{GivenBy};
+
+use mailslot::message::{Message, MessageRead};
 use reader::field::Stretch;
 
 pub const MESSAGE_MEMBERS: usize = 15;
@@ -26,6 +24,7 @@ pub const MAILSLOT: usize = 9;
 pub const SID: usize = 12;
 
 // The message that members make, or that one of their numbers is past its field's width.
+#[derive(Drop)]
 pub enum Given {
     Message(Message),
     Wide,
@@ -33,8 +32,8 @@ pub enum Given {
 
 // 0 is not present, any other number present.
 fn stretch_at(members: &[usize; MESSAGE_MEMBERS], at: usize) -> Stretch
-    requires { ⌜ at ≤ 12 ⌝ }
-    ensures { λ r. ⌜ r ≡ stretchAt (now (members .entry)) at ⌝ }
+    requires { at ≤ 12 }
+    ensures { result ≡ stretch_at members.now at }
 {
     if members[at] == 0 {
         return Stretch { start: 0, len: 0 };
@@ -47,7 +46,7 @@ fn stretch_at(members: &[usize; MESSAGE_MEMBERS], at: usize) -> Stretch
 
 // The widths are tested before the numbers are made, so that none is cut.
 pub fn message_given(members: &[usize; MESSAGE_MEMBERS]) -> Given
-    ensures { λ r. ⌜ GivenBy (now (members .entry)) r ⌝ }
+    ensures { GivenBy members.now result }
 {
     let repeat = members[REPEAT];
     let bits = members[BITS];
@@ -74,14 +73,14 @@ pub fn message_given(members: &[usize; MESSAGE_MEMBERS]) -> Given
 
 // A number of four octets as a member.
 fn member_of(number: u32) -> usize
-    ensures { λ r. ⌜ r ≡ number ⌝ }
+    ensures { result ≡ number }
 {
     number as usize
 }
 
 // A SID of no octets is not present.
 fn sid_members(sid: Stretch) -> [usize; 3]
-    ensures { λ r. ⌜ r ≡ sidUnless (eqb (sid .len) 0) sid ⌝ }
+    ensures { result ≡ sid_unless (eqb sid.len 0) sid }
 {
     if sid.len == 0 {
         return [0, 0, 0];
@@ -91,7 +90,7 @@ fn sid_members(sid: Stretch) -> [usize; 3]
 
 // The other texts are always present, though they may be empty.
 fn good_members(message: Message) -> [usize; MESSAGE_MEMBERS]
-    ensures { λ r. ⌜ r ≡ messageMembers (MessageRead.Read message) ⌝ }
+    ensures { result ≡ message_members (MessageRead.Read message) }
 {
     let computer = message.computer;
     let user = message.user;
@@ -119,7 +118,7 @@ fn good_members(message: Message) -> [usize; MESSAGE_MEMBERS]
 
 // A message that was read: its members, with a refusal none.
 pub fn message_members(read: MessageRead) -> [usize; MESSAGE_MEMBERS]
-    ensures { λ r. ⌜ r ≡ messageMembers read ⌝ }
+    ensures { result ≡ message_members read }
 {
     match read {
         MessageRead::Read(message) => good_members(message),

@@ -1,1 +1,2 @@
 // What the exported calls promise, and demand 1 of them. It holds no code.
+#![tactic(auto)]

@@ -1,16 +1,12 @@
 // A reading as the members of `struct locator_reading`: what its form lacks is not present.
-ghost use mathlib.Core.Path.{_≡_};
-ghost use Prim.Native.Nat.{_≤_};
-ghost use Rattle·c_reading·specs.specs.Reading.{readingMembers};
-ghost use Rattle·c_reading·specs.specs.Internal.Put.{numberPut, textPut, namePut, textsPut, dnsNamesPut, otherNamesPut, addressPut, nextSitePut};
+ghost use Rattle.std.specs.Prelude.{◌≡◌, ◌≤◌};
+ghost use Rattle.c_reading.specs.Reading.{reading_members};
+ghost use Rattle.c_reading.specs.Internal.Put.{number_put, text_put, name_put, texts_put, dns_names_put, other_names_put, address_put, next_site_put};
+
 use reader::field::Stretch;
-use reader_forms::reading::Address;
-use reader_forms::reading::ExFields;
-use reader_forms::reading::Fields;
-use reader_forms::reading::NextSite;
-use reader_forms::reading::Nt40Fields;
-use reader_forms::reading::Reading;
-use reader_forms::reading::ResponseFields;
+use reader_forms::reading::{
+    Address, ExFields, Fields, NextSite, Nt40Fields, Reading, ResponseFields,
+};
 use reader_names::NameAt;
 
 pub const READING_MEMBERS: usize = 54;
@@ -40,15 +36,15 @@ pub const NEXT_SITE: usize = 50;
 
 // A number of four octets as a member.
 fn member_of(number: u32) -> usize
-    ensures { λ r. ⌜ r ≡ number ⌝ }
+    ensures { result ≡ number }
 {
     number as usize
 }
 
 // A number that is present.
 fn put_number(members: &mut [usize; READING_MEMBERS], at: usize, number: usize)
-    requires { ⌜ at ≤ 52 ⌝ }
-    ensures { λ _. ⌜ now (members .exit) ≡ numberPut (now (members .entry)) at number ⌝ }
+    requires { at ≤ 52 }
+    ensures { members.new ≡ number_put members.old at number }
 {
     members[at] = 1;
     members[at + 1] = number;
@@ -56,8 +52,8 @@ fn put_number(members: &mut [usize; READING_MEMBERS], at: usize, number: usize)
 
 // A text that is present.
 fn put_text(members: &mut [usize; READING_MEMBERS], at: usize, text: Stretch)
-    requires { ⌜ at ≤ 51 ⌝ }
-    ensures { λ _. ⌜ now (members .exit) ≡ textPut (now (members .entry)) at text ⌝ }
+    requires { at ≤ 51 }
+    ensures { members.new ≡ text_put members.old at text }
 {
     members[at] = 1;
     members[at + 1] = text.start;
@@ -66,8 +62,8 @@ fn put_text(members: &mut [usize; READING_MEMBERS], at: usize, text: Stretch)
 
 // A name that is present.
 fn put_name(members: &mut [usize; READING_MEMBERS], at: usize, name: NameAt)
-    requires { ⌜ at ≤ 50 ⌝ }
-    ensures { λ _. ⌜ now (members .exit) ≡ namePut (now (members .entry)) at name ⌝ }
+    requires { at ≤ 50 }
+    ensures { members.new ≡ name_put members.old at name }
 {
     members[at] = 1;
     members[at + 1] = name.start;
@@ -82,7 +78,7 @@ fn put_texts(
     user: Stretch,
     domain: Stretch,
 )
-    ensures { λ _. ⌜ now (members .exit) ≡ textsPut (now (members .entry)) server user domain ⌝ }
+    ensures { members.new ≡ texts_put members.old server user domain }
 {
     put_text(members, SERVER, server);
     put_text(members, USER, user);
@@ -96,7 +92,7 @@ fn put_dns_names(
     context: NameAt,
     host: NameAt,
 )
-    ensures { λ _. ⌜ now (members .exit) ≡ dnsNamesPut (now (members .entry)) forest context host ⌝ }
+    ensures { members.new ≡ dns_names_put members.old forest context host }
 {
     put_name(members, NAMES, forest);
     put_name(members, NAMES + 4, context);
@@ -105,7 +101,7 @@ fn put_dns_names(
 
 // The names at places 3 to 7, of EX.
 fn put_other_names(members: &mut [usize; READING_MEMBERS], fields: ExFields)
-    ensures { λ _. ⌜ now (members .exit) ≡ otherNamesPut (now (members .entry)) fields ⌝ }
+    ensures { members.new ≡ other_names_put members.old fields }
 {
     let context_netbios = fields.context_netbios;
     let server_netbios = fields.server_netbios;
@@ -121,7 +117,7 @@ fn put_other_names(members: &mut [usize; READING_MEMBERS], fields: ExFields)
 
 // The address and name 8 of an EX, where they are present.
 fn put_address(members: &mut [usize; READING_MEMBERS], address: Address)
-    ensures { λ _. ⌜ now (members .exit) ≡ addressPut (now (members .entry)) address ⌝ }
+    ensures { members.new ≡ address_put members.old address }
 {
     match address {
         Address::Absent => {}
@@ -130,7 +126,7 @@ fn put_address(members: &mut [usize; READING_MEMBERS], address: Address)
 }
 
 fn put_next_site(members: &mut [usize; READING_MEMBERS], next_site: NextSite)
-    ensures { λ _. ⌜ now (members .exit) ≡ nextSitePut (now (members .entry)) «next_site» ⌝ }
+    ensures { members.new ≡ next_site_put members.old next_site }
 {
     match next_site {
         NextSite::Absent => {}
@@ -139,7 +135,7 @@ fn put_next_site(members: &mut [usize; READING_MEMBERS], next_site: NextSite)
 }
 
 fn nt40_members(length: usize, fields: Nt40Fields) -> [usize; READING_MEMBERS]
-    ensures { λ r. ⌜ r ≡ readingMembers (Reading.Read length (Fields.Nt40 fields)) ⌝ }
+    ensures { result ≡ reading_members (Reading.Read length (Fields.Nt40 fields)) }
 {
     let server = fields.server;
     let user = fields.user;
@@ -153,7 +149,7 @@ fn nt40_members(length: usize, fields: Nt40Fields) -> [usize; READING_MEMBERS]
 }
 
 fn response_members(length: usize, fields: ResponseFields) -> [usize; READING_MEMBERS]
-    ensures { λ r. ⌜ r ≡ readingMembers (Reading.Read length (Fields.Response fields)) ⌝ }
+    ensures { result ≡ reading_members (Reading.Read length (Fields.Response fields)) }
 {
     let server = fields.server;
     let user = fields.user;
@@ -176,7 +172,7 @@ fn response_members(length: usize, fields: ResponseFields) -> [usize; READING_ME
 }
 
 fn ex_members(length: usize, fields: ExFields) -> [usize; READING_MEMBERS]
-    ensures { λ r. ⌜ r ≡ readingMembers (Reading.Read length (Fields.Ex fields)) ⌝ }
+    ensures { result ≡ reading_members (Reading.Read length (Fields.Ex fields)) }
 {
     let guid = fields.guid;
     let forest = fields.forest;
@@ -199,7 +195,7 @@ fn ex_members(length: usize, fields: ExFields) -> [usize; READING_MEMBERS]
 
 // With a refusal the length is 0, and no field is present.
 pub fn reading_members(reading: Reading) -> [usize; READING_MEMBERS]
-    ensures { λ r. ⌜ r ≡ readingMembers reading ⌝ }
+    ensures { result ≡ reading_members reading }
 {
     let Reading::Read { length, fields } = reading else {
         return [0; READING_MEMBERS];

@@ -1,18 +1,17 @@
 // A request as the members of `struct locator_request`: for each clause, in document 01's order, whether it is present, its start and its length.
-ghost use mathlib.Core.Path.{_≡_};
-ghost use Prim.Native.Nat.{_≤_};
-ghost use Rattle·c_request·specs.specs.Request.{clauseAt, requestGiven, clauseMembers, requestMembers, takenMembers};
-ghost use Rattle·c_request·specs.specs.Internal.Put.{clausePut};
-use filter::request::Clause;
-use filter::request::Request;
+ghost use Rattle.std.specs.Prelude.{◌≡◌, ◌≤◌};
+ghost use Rattle.c_request.specs.Request.{clause_at, request_given, clause_members, request_members, taken_members};
+ghost use Rattle.c_request.specs.Internal.Put.{clause_put};
+
+use filter::request::{Clause, Request};
 use filter_read::read::Taken;
 
 pub const REQUEST_MEMBERS: usize = 24;
 
 // 0 is absent, any other number present: absent and empty stay distinct.
 fn clause_at(members: &[usize; REQUEST_MEMBERS], at: usize) -> Clause
-    requires { ⌜ at ≤ 21 ⌝ }
-    ensures { λ r. ⌜ r ≡ clauseAt (now (members .entry)) at ⌝ }
+    requires { at ≤ 21 }
+    ensures { result ≡ clause_at members.now at }
 {
     if members[at] == 0 {
         return Clause::Absent;
@@ -25,7 +24,7 @@ fn clause_at(members: &[usize; REQUEST_MEMBERS], at: usize) -> Clause
 
 // The request that a caller's members make.
 pub fn request_of(members: &[usize; REQUEST_MEMBERS]) -> Request
-    ensures { λ r. ⌜ r ≡ requestGiven (now (members .entry)) ⌝ }
+    ensures { result ≡ request_given members.now }
 {
     Request {
         dns_domain: clause_at(members, 0),
@@ -40,7 +39,7 @@ pub fn request_of(members: &[usize; REQUEST_MEMBERS]) -> Request
 }
 
 fn clause_members(clause: Clause) -> [usize; 3]
-    ensures { λ r. ⌜ r ≡ clauseMembers clause ⌝ }
+    ensures { result ≡ clause_members clause }
 {
     match clause {
         Clause::Absent => [0, 0, 0],
@@ -49,8 +48,8 @@ fn clause_members(clause: Clause) -> [usize; 3]
 }
 
 fn put_clause(members: &mut [usize; REQUEST_MEMBERS], at: usize, clause: Clause)
-    requires { ⌜ at ≤ 21 ⌝ }
-    ensures { λ _. ⌜ now (members .exit) ≡ clausePut (now (members .entry)) at clause ⌝ }
+    requires { at ≤ 21 }
+    ensures { members.new ≡ clause_put members.old at clause }
 {
     let row = clause_members(clause);
     members[at] = row[0];
@@ -59,7 +58,7 @@ fn put_clause(members: &mut [usize; REQUEST_MEMBERS], at: usize, clause: Clause)
 }
 
 fn request_members(request: Request) -> [usize; REQUEST_MEMBERS]
-    ensures { λ r. ⌜ r ≡ requestMembers request ⌝ }
+    ensures { result ≡ request_members request }
 {
     let dns_domain = request.dns_domain;
     let host = request.host;
@@ -83,7 +82,7 @@ fn request_members(request: Request) -> [usize; REQUEST_MEMBERS]
 
 // A filter taken apart: its request, with a refusal no clause.
 pub fn taken_members(taken: Taken) -> [usize; REQUEST_MEMBERS]
-    ensures { λ r. ⌜ r ≡ takenMembers taken ⌝ }
+    ensures { result ≡ taken_members taken }
 {
     match taken {
         Taken::Request(request) => request_members(request),

@@ -1,45 +1,36 @@
 // Document 01, "Choosing the answer": the form, document 01's t, the user and the opcode.
-ghost use mathlib.Core.Path.{_≡_};
-ghost use Rattle·octets.specs.Lists.{cut};
-ghost use Rattle·filter_read.specs.Internal.RawPing.{pingAt};
-ghost use Rattle·table.specs.Context.{contextOf, contextFormat};
-ghost use Rattle·table.specs.Server.{serverOf};
-ghost use Rattle·table.specs.Table.{tableFrom};
-ghost use Rattle·table_whole.specs.Judgement.{Accepted};
-ghost use Rattle·choose·specs.specs.Choose.{formOf, isHeldBack, isUserUnknown, opcodeOf};
+ghost use Rattle.std.specs.Prelude.{◌≡◌};
+ghost use Rattle.octets.specs.Lists.{cut};
+ghost use Rattle.filter_read.specs.Internal.RawPing.{ping_at};
+ghost use Rattle.table.specs.Context.{context_of, context_format};
+ghost use Rattle.table.specs.Server.{server_of};
+ghost use Rattle.table.specs.Table.{table_from};
+ghost use Rattle.table_whole.specs.Judgement.{Accepted};
+ghost use Rattle.choose.specs.Choose.{form_of, is_held_back, is_user_unknown, opcode_of};
+
 use answers::Form;
-use answers::wire::LOGON_SAM_LOGON_RESPONSE;
-use answers::wire::LOGON_SAM_LOGON_RESPONSE_EX;
-use answers::wire::LOGON_SAM_PAUSE_RESPONSE;
-use answers::wire::LOGON_SAM_PAUSE_RESPONSE_EX;
-use answers::wire::LOGON_SAM_USER_UNKNOWN;
-use answers::wire::LOGON_SAM_USER_UNKNOWN_EX;
-use answers::wire::NETLOGON_NT_VERSION_5;
-use answers::wire::NETLOGON_NT_VERSION_5EX;
-use answers::wire::NETLOGON_NT_VERSION_5EX_WITH_IP;
-use answers::wire::NETLOGON_NT_VERSION_AVOID_NT4EMUL;
-use answers::wire::NETLOGON_NT_VERSION_LOCAL;
-use answers::wire::NETLOGON_NT_VERSION_PDC;
+use answers::wire::{
+    LOGON_SAM_LOGON_RESPONSE, LOGON_SAM_LOGON_RESPONSE_EX, LOGON_SAM_PAUSE_RESPONSE,
+    LOGON_SAM_PAUSE_RESPONSE_EX, LOGON_SAM_USER_UNKNOWN, LOGON_SAM_USER_UNKNOWN_EX,
+    NETLOGON_NT_VERSION_5, NETLOGON_NT_VERSION_5EX, NETLOGON_NT_VERSION_5EX_WITH_IP,
+    NETLOGON_NT_VERSION_AVOID_NT4EMUL, NETLOGON_NT_VERSION_LOCAL, NETLOGON_NT_VERSION_PDC,
+};
 use filter::request::Clause;
 use filter_read::ping::RawPing;
 use octets::number::has_bits;
 use octets::part::part;
-use table::account;
-use table::bits::ROLE_NT4_WANTED;
-use table::bits::ROLE_PDC;
-use table::bits::STATE_FRS_PAUSED;
-use table::bits::STATE_PAUSED;
-use table::bits::STATE_RPC_INITIALIZED;
-use table::bits::STATE_SYNCHRONIZED;
-use table::context;
-use table::server;
+use table::bits::{
+    ROLE_NT4_WANTED, ROLE_PDC, STATE_FRS_PAUSED, STATE_PAUSED, STATE_RPC_INITIALIZED,
+    STATE_SYNCHRONIZED,
+};
+use table::{account, context, server};
 use table_find::account::may_log_on;
 use table_find::search::Found;
 use table_lookup::lookup::account_by_name;
 
 // The reply's form, by the body of the server block and the version asked.
 fn form_of(body: &[u8], version: u32) -> Form
-    ensures { λ r. ⌜ r ≡ formOf (serverOf (now (body .entry))) version ⌝ }
+    ensures { result ≡ form_of (server_of body.now) version }
 {
     let roles = server::roles(body);
     if has_bits(roles, ROLE_NT4_WANTED) & !has_bits(version, NETLOGON_NT_VERSION_AVOID_NT4EMUL) {
@@ -58,8 +49,8 @@ fn form_of(body: &[u8], version: u32) -> Form
 
 // The form of the reply to a ping.
 pub fn form_for(image: &[u8], ping: RawPing) -> Form
-    requires { ⌜ Accepted (now image) ⌝ }
-    ensures { λ r. ⌜ r ≡ formOf (tableFrom (now (image .entry)) .server) (ping .version) ⌝ }
+    requires { Accepted image.now }
+    ensures { result ≡ form_of (table_from image.now).server ping.version }
 {
     let version = ping.version;
     form_of(server::server_of(image), version)
@@ -67,7 +58,7 @@ pub fn form_for(image: &[u8], ping: RawPing) -> Form
 
 // Whether document 01's t is 1.
 pub fn is_held_back(body: &[u8], version: u32) -> bool
-    ensures { λ r. ⌜ r ≡ isHeldBack (serverOf (now (body .entry))) version ⌝ }
+    ensures { result ≡ is_held_back (server_of body.now) version }
 {
     let roles = server::roles(body);
     let state = server::state(body);
@@ -81,8 +72,8 @@ pub fn is_held_back(body: &[u8], version: u32) -> bool
 
 // Whether a user was asked for, empty or not, whom the context at an offset does not know.
 pub fn is_user_unknown(image: &[u8], source: &[u8], ping: RawPing, context: usize) -> bool
-    requires { ⌜ Accepted (now image) ⌝ }
-    ensures { λ r. ⌜ r ≡ isUserUnknown (tableFrom (now (image .entry))) (contextOf (cut (now (image .entry)) context (contextFormat .width))) (pingAt (now (source .entry)) ping) ⌝ }
+    requires { Accepted image.now }
+    ensures { result ≡ is_user_unknown (table_from image.now) (context_of (cut image.now context context_format.width)) (ping_at source.now ping) }
 {
     let user = ping.user;
     let Clause::Present { start, len } = user else {
@@ -96,7 +87,7 @@ pub fn is_user_unknown(image: &[u8], source: &[u8], ping: RawPing, context: usiz
 }
 
 fn older_opcode(held_back: bool, unknown: bool) -> u16
-    ensures { λ r. ⌜ r ≡ opcodeOf Form.Nt40 «held_back» unknown ⌝ }
+    ensures { result ≡ opcode_of Form.Nt40 held_back unknown }
 {
     if held_back {
         return LOGON_SAM_PAUSE_RESPONSE;
@@ -108,7 +99,7 @@ fn older_opcode(held_back: bool, unknown: bool) -> u16
 }
 
 fn ex_opcode(held_back: bool, unknown: bool) -> u16
-    ensures { λ r. ⌜ r ≡ opcodeOf Form.Ex «held_back» unknown ⌝ }
+    ensures { result ≡ opcode_of Form.Ex held_back unknown }
 {
     if held_back {
         return LOGON_SAM_PAUSE_RESPONSE_EX;
@@ -120,7 +111,7 @@ fn ex_opcode(held_back: bool, unknown: bool) -> u16
 }
 
 pub fn opcode_of(form: Form, held_back: bool, unknown: bool) -> u16
-    ensures { λ r. ⌜ r ≡ opcodeOf form «held_back» unknown ⌝ }
+    ensures { result ≡ opcode_of form held_back unknown }
 {
     match form {
         Form::Nt40 => older_opcode(held_back, unknown),

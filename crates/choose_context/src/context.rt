@@ -1,18 +1,17 @@
 // Document 01, "Answer numbers" 11 to 17: the context used is the GUID's, else the DNS name's, else the default. Each lookup is made once.
-ghost use mathlib.Core.Path.{_≡_};
-ghost use Prim.Native.Nat.{_+_, _≤_};
-ghost use lib.ListN.{length};
-ghost use Rattle·octets.specs.Lists.{cut};
-ghost use Rattle·filter.specs.Request.{octetsOf};
-ghost use Rattle·filter_read.specs.Internal.RawPing.{pingAt};
-ghost use Rattle·table.specs.declared.record.RecordKind.the-variants as kind;
-ghost use Rattle·table.specs.Context.{contextOf, contextFormat};
-ghost use Rattle·table.specs.Table.{tableFrom};
-ghost use Rattle·table_whole.specs.Judgement.{Accepted};
-ghost use Rattle·table_find.specs.Internal.Found.{LiesIn, contextAt};
-ghost use Rattle·choose.specs.Judge.{contextIn};
-ghost use Rattle·choose.specs.Choose.{namesApplication};
-ghost use Rattle·choose_context·specs.specs.Internal.Used.{heldOr, askedAs, AskedIn, usedAs, UsedIn, guidAsked, dnsNameAsked, preferred, sidJudged, afterNames, afterGuid};
+ghost use Rattle.std.specs.Prelude.{◌≡◌, ◌+◌, ◌≤◌, length};
+ghost use Rattle.octets.specs.Lists.{cut};
+ghost use Rattle.filter.specs.Request.{octets_of};
+ghost use Rattle.filter_read.specs.Internal.RawPing.{ping_at};
+ghost use Rattle.table.specs.declared.record.RecordKind.TheVariants as kind;
+ghost use Rattle.table.specs.Context.{context_of, context_format};
+ghost use Rattle.table.specs.Table.{table_from};
+ghost use Rattle.table_whole.specs.Judgement.{Accepted};
+ghost use Rattle.table_find.specs.Internal.Found.{LiesIn, context_at};
+ghost use Rattle.choose.specs.Judge.{context_in};
+ghost use Rattle.choose.specs.Choose.{names_application};
+ghost use Rattle.choose_context.specs.Internal.Used.{held_or, asked_as, AskedIn, used_as, UsedIn, guid_asked, dns_name_asked, preferred, sid_judged, after_names_lem, after_guid};
+
 use answers::Refusal;
 use filter::request::Clause;
 use filter_read::ping::RawPing;
@@ -22,12 +21,10 @@ use octets::size::GUID_SIZE;
 use table::context;
 use table_find::context::holds_sid;
 use table_find::search::Found;
-use table_lookup::lookup::context_by_dns_name;
-use table_lookup::lookup::context_by_guid;
-use table_lookup::lookup::context_by_sid;
-use table_lookup::lookup::default_context;
+use table_lookup::lookup::{context_by_dns_name, context_by_guid, context_by_sid, default_context};
 
 // What a clause asks for: nothing where it is absent, the offset of a context's record, or a refusal.
+#[derive(Drop)]
 pub enum Asked {
     Absent,
     Held(usize),
@@ -35,13 +32,14 @@ pub enum Asked {
 }
 
 // The offset of the record of the context used, and whether DnsDomain names an application context; or a refusal.
+#[derive(Drop)]
 pub enum ContextUsed {
     Used { context: usize, application: bool },
     Refused(Refusal),
 }
 
 fn held_or(found: Found, refusal: Refusal) -> Asked
-    ensures { λ r. ⌜ r ≡ heldOr found refusal ⌝ }
+    ensures { result ≡ held_or found refusal }
 {
     match found {
         Found::At(offset) => Asked::Held(offset),
@@ -51,9 +49,9 @@ fn held_or(found: Found, refusal: Refusal) -> Asked
 
 // 11 and 12. A GUID of zeros is a GUID, and a clause that is empty is present.
 fn guid_asked(image: &[u8], source: &[u8], clause: Clause) -> Asked
-    requires { ⌜ Accepted (now image) ⌝ }
-    ensures { λ r. ⌜ askedAs (now (image .entry)) r ≡ guidAsked (tableFrom (now (image .entry))) (octetsOf (now (source .entry)) clause) ⌝ }
-    ensures { λ r. ⌜ AskedIn (now (image .entry)) r ⌝ }
+    requires { Accepted image.now }
+    ensures result_value { asked_as image.now result ≡ guid_asked (table_from image.now) (octets_of source.now clause) }
+    ensures asked_in { AskedIn image.now result }
 {
     let Clause::Present { start, len } = clause else {
         return Asked::Absent;
@@ -67,9 +65,9 @@ fn guid_asked(image: &[u8], source: &[u8], clause: Clause) -> Asked
 
 // 13 and 14.
 fn dns_name_asked(image: &[u8], source: &[u8], clause: Clause) -> Asked
-    requires { ⌜ Accepted (now image) ⌝ }
-    ensures { λ r. ⌜ askedAs (now (image .entry)) r ≡ dnsNameAsked (tableFrom (now (image .entry))) (octetsOf (now (source .entry)) clause) ⌝ }
-    ensures { λ r. ⌜ AskedIn (now (image .entry)) r ⌝ }
+    requires { Accepted image.now }
+    ensures result_value { asked_as image.now result ≡ dns_name_asked (table_from image.now) (octets_of source.now clause) }
+    ensures asked_in { AskedIn image.now result }
 {
     let Clause::Present { start, len } = clause else {
         return Asked::Absent;
@@ -83,9 +81,9 @@ fn dns_name_asked(image: &[u8], source: &[u8], clause: Clause) -> Asked
 
 // The context used, from those that the two clauses ask for.
 fn preferred_of(image: &[u8], guid: Found, name: Found) -> Found
-    requires { ⌜ Accepted (now image) × LiesIn (now image) kind.Context guid × LiesIn (now image) kind.Context name ⌝ }
-    ensures { λ r. ⌜ contextAt (now (image .entry)) r ≡ preferred (tableFrom (now (image .entry))) (contextAt (now (image .entry)) guid) (contextAt (now (image .entry)) name) ⌝ }
-    ensures { λ r. ⌜ LiesIn (now (image .entry)) kind.Context r ⌝ }
+    requires { Accepted image.now × LiesIn image.now kind.Context guid × LiesIn image.now kind.Context name }
+    ensures result_value { context_at image.now result ≡ preferred (table_from image.now) (context_at image.now guid) (context_at image.now name) }
+    ensures lies_in { LiesIn image.now kind.Context result }
 {
     let Found::Nothing = guid else {
         return guid;
@@ -104,9 +102,9 @@ fn judge_sid(
     context: usize,
     application: bool,
 ) -> ContextUsed
-    requires { ⌜ Accepted (now image) × (context + contextFormat .width ≤ length (now image)) ⌝ }
-    ensures { λ r. ⌜ usedAs (now (image .entry)) r ≡ sidJudged (tableFrom (now (image .entry))) (octetsOf (now (source .entry)) clause) (contextOf (cut (now (image .entry)) context (contextFormat .width))) ⌝ }
-    ensures { λ r. ⌜ UsedIn (now (image .entry)) application r ⌝ }
+    requires { Accepted image.now × (context + context_format.width ≤ length image.now) }
+    ensures result_value { used_as image.now result ≡ sid_judged (table_from image.now) (octets_of source.now clause) (context_of (cut image.now context context_format.width)) }
+    ensures used_in { UsedIn image.now application result }
 {
     let Clause::Present { start, len } = clause else {
         return ContextUsed::Used {
@@ -138,9 +136,9 @@ fn after_names(
     context: Found,
     application: bool,
 ) -> ContextUsed
-    requires { ⌜ Accepted (now image) × LiesIn (now image) kind.Context context ⌝ }
-    ensures { λ r. ⌜ usedAs (now (image .entry)) r ≡ afterNames (tableFrom (now (image .entry))) (pingAt (now (source .entry)) ping) (contextAt (now (image .entry)) context) ⌝ }
-    ensures { λ r. ⌜ UsedIn (now (image .entry)) application r ⌝ }
+    requires { Accepted image.now × LiesIn image.now kind.Context context }
+    ensures result_value { used_as image.now result ≡ after_names_lem (table_from image.now) (ping_at source.now ping) (context_at image.now context) }
+    ensures used_in { UsedIn image.now application result }
 {
     let Found::At(offset) = context else {
         return ContextUsed::Refused(Refusal::TableWhole);
@@ -151,9 +149,9 @@ fn after_names(
 
 // 13 to 17, for the context that the GUID asks for.
 fn after_guid(image: &[u8], source: &[u8], ping: RawPing, guid: Found) -> ContextUsed
-    requires { ⌜ Accepted (now image) × LiesIn (now image) kind.Context guid ⌝ }
-    ensures { λ r. ⌜ usedAs (now (image .entry)) r ≡ afterGuid (tableFrom (now (image .entry))) (pingAt (now (source .entry)) ping) (contextAt (now (image .entry)) guid) ⌝ }
-    ensures { λ r. ⌜ UsedIn (now (image .entry)) (namesApplication (tableFrom (now (image .entry))) (pingAt (now (source .entry)) ping)) r ⌝ }
+    requires { Accepted image.now × LiesIn image.now kind.Context guid }
+    ensures result_value { used_as image.now result ≡ after_guid (table_from image.now) (ping_at source.now ping) (context_at image.now guid) }
+    ensures used_in { UsedIn image.now (names_application (table_from image.now) (ping_at source.now ping)) result }
 {
     let dns_domain = ping.dns_domain;
     match dns_name_asked(image, source, dns_domain) {
@@ -182,9 +180,9 @@ fn after_guid(image: &[u8], source: &[u8], ping: RawPing, guid: Found) -> Contex
 
 // The context used, with 11 to 17 judged in this order.
 pub fn context_used(image: &[u8], source: &[u8], ping: RawPing) -> ContextUsed
-    requires { ⌜ Accepted (now image) ⌝ }
-    ensures { λ r. ⌜ usedAs (now (image .entry)) r ≡ contextIn (tableFrom (now (image .entry))) (pingAt (now (source .entry)) ping) ⌝ }
-    ensures { λ r. ⌜ UsedIn (now (image .entry)) (namesApplication (tableFrom (now (image .entry))) (pingAt (now (source .entry)) ping)) r ⌝ }
+    requires { Accepted image.now }
+    ensures result_value { used_as image.now result ≡ context_in (table_from image.now) (ping_at source.now ping) }
+    ensures used_in { UsedIn image.now (names_application (table_from image.now) (ping_at source.now ping)) result }
 {
     let domain_guid = ping.domain_guid;
     match guid_asked(image, source, domain_guid) {

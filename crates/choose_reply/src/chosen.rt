@@ -1,51 +1,35 @@
 // The reply to a ping in the context used. The client's site is looked up once.
-ghost use mathlib.Core.Path.{_≡_};
-ghost use mathlib.Core.Bool.{false, not};
-ghost use mathlib.Core.Option.{Option·map};
-ghost use Prim.Native.Nat.{_+_, _≤_};
-ghost use lib.ListN.{length};
-ghost use Rattle·octets.specs.Lists.{cut, holds};
-ghost use Rattle·unicode.specs.UserName.{isUserName};
-ghost use Rattle·filter_read.specs.Internal.RawPing.{pingAt};
-ghost use Rattle·reply.specs.Internal.RawReply.{replyIn, Short};
-ghost use Rattle·table.specs.declared.record.RecordKind.the-variants as kind;
-ghost use Rattle·table.specs.Context.{contextOf, contextFormat};
-ghost use Rattle·table.specs.Countings.{sameSite};
-ghost use Rattle·table.specs.Table.{tableFrom};
-ghost use Rattle·table_whole.specs.Judgement.{Accepted};
-ghost use Rattle·table_find.specs.Internal.Found.{LiesIn, siteAt};
-ghost use Rattle·choose.specs.Choose.{isHeldBack, isUserUnknown, opcodeOf, namesApplication, replyFor};
-ghost use Rattle·choose.specs.Internal.Flags.{flagsBy};
-ghost use Rattle·choose_reply·specs.specs.Internal.Lends.{LendsEach, isFound, texts};
-use crate::text::site_name;
-use crate::text::text_stretch;
-use crate::text::user_text;
+ghost use Rattle.std.specs.Prelude.{◌≡◌, false, not, ◌+◌, ◌≤◌, length};
+ghost use Rattle.std.proofs.Math.Option.{map};
+ghost use Rattle.octets.specs.Lists.{cut, holds};
+ghost use Rattle.unicode_text.specs.UserName.{is_user_name};
+ghost use Rattle.filter_read.specs.Internal.RawPing.{ping_at};
+ghost use Rattle.reply.specs.Internal.RawReply.{reply_in, Short};
+ghost use Rattle.table.specs.declared.record.RecordKind.TheVariants as kind;
+ghost use Rattle.table.specs.Context.{context_of, context_format};
+ghost use Rattle.table.specs.Countings.{same_site_lem};
+ghost use Rattle.table.specs.Table.{table_from};
+ghost use Rattle.table_whole.specs.Judgement.{Accepted};
+ghost use Rattle.table_find.specs.Internal.Found.{LiesIn, site_at};
+ghost use Rattle.choose.specs.Choose.{is_held_back, is_user_unknown, opcode_of, names_application, reply_for};
+ghost use Rattle.choose.specs.Internal.Flags.{flags_by};
+ghost use Rattle.choose_reply.specs.Internal.Lends.{LendsEach, is_found, texts};
+
+use crate::text::{site_name, text_stretch, user_text};
 use answers::Form;
 use answers::wire::NETLOGON_NT_VERSION_5EX_WITH_IP;
-use choose::answer::is_held_back;
-use choose::answer::is_user_unknown;
-use choose::answer::opcode_of;
+use choose::answer::{is_held_back, is_user_unknown, opcode_of};
 use choose::flags::flags_of;
-use choose_site::site::is_numbered;
-use choose_site::site::next_site;
+use choose_site::site::{is_numbered, next_site};
 use filter_read::ping::RawPing;
-use lent::stretch::Lender;
-use lent::stretch::Stretch;
+use lent::stretch::{Lender, Stretch};
 use octets::number::has_bits;
-use octets::size::GUID_SIZE;
-use octets::size::IPV4_SIZE;
-use reply::raw::RawReply;
-use reply::raw::SLOTS;
-use table::Caller;
-use table::block::BLOCK_SIZE;
-use table::block::BODY;
-use table::block::BODY_SIZE;
-use table::context;
-use table::forest;
-use table::server;
+use octets::size::{GUID_SIZE, IPV4_SIZE};
+use reply::raw::{RawReply, SLOTS};
+use table::block::{BLOCK_SIZE, BODY, BODY_SIZE};
+use table::{Caller, context, forest, server};
 use table_find::search::Found;
-use table_lookup::lookup::client_site;
-use table_lookup::lookup::site_by_number;
+use table_lookup::lookup::{client_site, site_by_number};
 
 // The bodies of the server's and the forest's blocks, as offsets of the image.
 const SERVER_BODY: usize = BODY;
@@ -53,7 +37,7 @@ const SERVER_BODY: usize = BODY;
 const FOREST_BODY: usize = BLOCK_SIZE + BODY;
 
 fn is_found(found: Found) -> bool
-    ensures { λ r. ⌜ r ≡ isFound found ⌝ }
+    ensures { result ≡ is_found found }
 {
     match found {
         Found::At(_) => true,
@@ -62,8 +46,8 @@ fn is_found(found: Found) -> bool
 }
 
 fn opcode_for(image: &[u8], source: &[u8], ping: RawPing, context: usize, form: Form) -> u16
-    requires { ⌜ Accepted (now image) ⌝ }
-    ensures { λ r. ⌜ r ≡ opcodeOf form (isHeldBack (tableFrom (now (image .entry)) .server) (ping .version)) (isUserUnknown (tableFrom (now (image .entry))) (contextOf (cut (now (image .entry)) context (contextFormat .width))) (pingAt (now (source .entry)) ping)) ⌝ }
+    requires { Accepted image.now }
+    ensures { result ≡ opcode_of form (is_held_back (table_from image.now).server ping.version) (is_user_unknown (table_from image.now) (context_of (cut image.now context context_format.width)) (ping_at source.now ping)) }
 {
     let held_back = is_held_back(server::server_of(image), ping.version);
     opcode_of(
@@ -74,8 +58,8 @@ fn opcode_for(image: &[u8], source: &[u8], ping: RawPing, context: usize, form: 
 }
 
 fn flags_for(image: &[u8], client: Found, application: bool, form: Form) -> u32
-    requires { ⌜ Accepted (now image) ⌝ }
-    ensures { λ r. ⌜ r ≡ flagsBy form (tableFrom (now (image .entry)) .server .roles) (holds (λ s. sameSite (s .number) (tableFrom (now (image .entry)) .server .site)) (siteAt (now (image .entry)) client)) application ⌝ }
+    requires { Accepted image.now }
+    ensures { result ≡ flags_by form (table_from image.now).server.roles (holds (λ s. same_site_lem s.number (table_from image.now).server.site) (site_at image.now client)) application }
 {
     let body = server::server_of(image);
     let same_site = is_numbered(image, client, server::own_site(body));
@@ -91,9 +75,9 @@ fn slots_for(
     client: Found,
     next: Found,
 ) -> [Stretch; SLOTS]
-    requires { ⌜ Accepted (now image) × (context + contextFormat .width ≤ length (now image)) × (holds (λ x. not (isUserName x)) (pingAt (now source) ping .user) ≡ false) ⌝ }
-    requires { ⌜ LiesIn (now image) kind.Site client × LiesIn (now image) kind.Site next ⌝ }
-    ensures { λ r. ⌜ LendsEach (now (image .entry)) (now (source .entry)) r (texts (tableFrom (now (image .entry))) (pingAt (now (source .entry)) ping) (contextOf (cut (now (image .entry)) context (contextFormat .width))) (siteAt (now (image .entry)) client) (Option·map (λ s. s .name) (siteAt (now (image .entry)) next))) ⌝ }
+    requires accepted { Accepted image.now × (context + context_format.width ≤ length image.now) × (holds (λ x. not (is_user_name x)) (ping_at source.now ping).user ≡ false) }
+    requires lies_in { LiesIn image.now kind.Site client × LiesIn image.now kind.Site next }
+    ensures { LendsEach image.now source.now result (texts (table_from image.now) (ping_at source.now ping) (context_of (cut image.now context context_format.width)) (site_at image.now client) (map (λ s. s.name) (site_at image.now next))) }
 {
     let user = ping.user;
     let own = site_by_number(image, server::own_site(server::server_of(image)));
@@ -120,10 +104,10 @@ pub fn reply_for(
     application: bool,
     form: Form,
 ) -> RawReply
-    requires { ⌜ Accepted (now image) × (context + contextFormat .width ≤ length (now image)) × (holds (λ x. not (isUserName x)) (pingAt (now source) ping .user) ≡ false) ⌝ }
-    requires { ⌜ application ≡ namesApplication (tableFrom (now image)) (pingAt (now source) ping) ⌝ }
-    ensures { λ r. ⌜ replyIn (now (image .entry)) (now (source .entry)) r ≡ replyFor (tableFrom (now (image .entry))) caller (pingAt (now (source .entry)) ping) (contextOf (cut (now (image .entry)) context (contextFormat .width))) form ⌝ }
-    ensures { λ r. ⌜ Short r ⌝ }
+    requires accepted { Accepted image.now × (context + context_format.width ≤ length image.now) × (holds (λ x. not (is_user_name x)) (ping_at source.now ping).user ≡ false) }
+    requires application_value { application ≡ names_application (table_from image.now) (ping_at source.now ping) }
+    ensures result_value { reply_in image.now source.now result ≡ reply_for (table_from image.now) caller (ping_at source.now ping) (context_of (cut image.now context context_format.width)) form }
+    ensures short { Short result }
 {
     let client = client_site(image, caller);
     let next = next_site(image, ping.version, client);

@@ -1,25 +1,20 @@
 // The texts of a reply, as stretches of the table image or of the ping's source.
-ghost use mathlib.Core.Path.{_≡_};
-ghost use mathlib.Core.Bool.{false, not};
-ghost use mathlib.Core.List.{[]};
-ghost use mathlib.Core.Option.{Option·map, Option·getD};
-ghost use Prim.Native.Nat.{_+_, _≤_, _<_};
-ghost use lib.ListN.{length};
-ghost use Rattle·octets.specs.Lists.{cut, holds};
-ghost use Rattle·unicode.specs.UserName.{isUserName};
-ghost use Rattle·filter.specs.Request.{octetsOf};
-ghost use Rattle·table.specs.declared.record.RecordKind.the-variants as kind;
-ghost use Rattle·table.specs.Block.{blockSize};
-ghost use Rattle·table.specs.Field.{textAt};
-ghost use Rattle·table_find.specs.Internal.Found.{LiesIn, siteAt};
-ghost use Rattle·choose_reply·specs.specs.Internal.Lends.{InTable, InRequest};
+ghost use Rattle.std.specs.Prelude.{◌≡◌, false, not, [], ◌+◌, ◌≤◌, ◌<◌, length};
+ghost use Rattle.std.proofs.Math.Option.{map, get_or};
+ghost use Rattle.octets.specs.Lists.{cut, holds};
+ghost use Rattle.unicode_text.specs.UserName.{is_user_name};
+ghost use Rattle.filter.specs.Request.{octets_of};
+ghost use Rattle.table.specs.declared.record.RecordKind.TheVariants as kind;
+ghost use Rattle.table.specs.Block.{block_size};
+ghost use Rattle.table.specs.Field.{text_at};
+ghost use Rattle.table_find.specs.Internal.Found.{LiesIn, site_at};
+ghost use Rattle.choose_reply.specs.Internal.Lends.{InTable, InRequest};
+
 use filter::request::Clause;
-use lent::stretch::Lender;
-use lent::stretch::Stretch;
+use lent::stretch::{Lender, Stretch};
 use octets::number::wide;
 use octets::part::part;
-use table::field::TextField;
-use table::field::octet_in;
+use table::field::{TextField, octet_in};
 use table::site;
 use table_find::search::Found;
 
@@ -31,8 +26,8 @@ const NO_TEXT: Stretch = Stretch {
 
 // The text of a field, in the body or record of some width at an offset of the image.
 pub fn text_stretch(image: &[u8], offset: usize, width: usize, field: TextField) -> Stretch
-    requires { ⌜ (offset + width ≤ length (now image)) × (field .offset < width) × (width ≤ blockSize) ⌝ }
-    ensures { λ r. ⌜ InTable (now (image .entry)) r (textAt (cut (now (image .entry)) offset width) field) ⌝ }
+    requires { (offset + width ≤ length image.now) × (field.offset < width) × (width ≤ block_size) }
+    ensures { InTable image.now result (text_at (cut image.now offset width) field) }
 {
     let at = field.offset;
     let octets = part(image, offset, width);
@@ -46,8 +41,8 @@ pub fn text_stretch(image: &[u8], offset: usize, width: usize, field: TextField)
 
 // The name of a site, if any.
 pub fn site_name(image: &[u8], found: Found) -> Stretch
-    requires { ⌜ LiesIn (now image) kind.Site found ⌝ }
-    ensures { λ r. ⌜ InTable (now (image .entry)) r (Option·getD (Option·map (λ s. s .name) (siteAt (now (image .entry)) found)) []) ⌝ }
+    requires { LiesIn image.now kind.Site found }
+    ensures { InTable image.now result (get_or (map (λ s. s.name) (site_at image.now found)) []) }
 {
     match found {
         Found::At(offset) => text_stretch(image, offset, site::FORMAT.width, site::NAME),
@@ -57,8 +52,8 @@ pub fn site_name(image: &[u8], found: Found) -> Stretch
 
 // The user asked for, if any.
 pub fn user_text(source: &[u8], clause: Clause) -> Stretch
-    requires { ⌜ holds (λ x. not (isUserName x)) (octetsOf (now source) clause) ≡ false ⌝ }
-    ensures { λ r. ⌜ InRequest (now (source .entry)) r (Option·getD (octetsOf (now (source .entry)) clause) []) ⌝ }
+    requires { holds (λ x. not (is_user_name x)) (octets_of source.now clause) ≡ false }
+    ensures { InRequest source.now result (get_or (octets_of source.now clause) []) }
 {
     let Clause::Present { start, len } = clause else {
         return NO_TEXT;

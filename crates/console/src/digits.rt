@@ -1,16 +1,16 @@
 // Hex digits and decimal numbers, read from texts.
-ghost use Prim.Native.Nat.{_≤_, _<_};
-ghost use lib.ListN.{length};
-ghost use Rattle·console·specs.specs.Internal.Bounds.{Small};
+ghost use Rattle.std.specs.Prelude.{◌≤◌, ◌<◌, length};
+ghost use Rattle.console.specs.Internal.Bounds.{Small};
 
 // The value of a lowercase hex digit.
+#[derive(Drop)]
 pub enum Digit {
     Bad,
     Value(u8),
 }
 
 pub fn hex_value(x: u8) -> Digit
-    ensures { λ r. ⌜ Small r ⌝ }
+    ensures { Small result }
 {
     if 48 <= x {
         if x <= 57 {
@@ -45,7 +45,7 @@ pub fn all_hex_digits(text: &[u8]) -> bool {
 
 // The value of a digit, 0 of any other octet.
 pub fn hex_digit_value(x: u8) -> u8
-    ensures { λ r. ⌜ r < 16 ⌝ }
+    ensures { result < 16 }
 {
     match hex_value(x) {
         Digit::Bad => 0,
@@ -55,7 +55,7 @@ pub fn hex_digit_value(x: u8) -> u8
 
 // The octets that two digits each stand for, at the front of out: how many, no more than fit.
 pub fn decode(text: &[u8], out: &mut [u8]) -> usize
-    ensures { λ r. ⌜ r ≤ length (now (out .exit)) ⌝ }
+    ensures { result ≤ length out.new }
 {
     let mut i = 0;
     while i < out.len() {
@@ -69,6 +69,7 @@ pub fn decode(text: &[u8], out: &mut [u8]) -> usize
 }
 
 // A decimal number.
+#[derive(Drop)]
 pub enum Decimal {
     Bad,
     Value(u64),

@@ -1,12 +1,12 @@
 // Fields of a text: what stands between separators, by number from 0.
-ghost use Prim.Native.Nat.{_≤_};
-ghost use lib.ListN.{length};
+ghost use Rattle.std.specs.Prelude.{◌≤◌, length};
+
 use octets::text::same_octets;
 
 // Where the field that starts at from ends: at a separator, or at the end of the text.
 fn field_end(text: &[u8], separator: u8, from: usize) -> usize
-    requires { ⌜ from ≤ length (now text) ⌝ }
-    ensures { λ r. ⌜ (from ≤ r) × (r ≤ length (now (text .entry))) ⌝ }
+    requires { from ≤ length text.now }
+    ensures { (from ≤ result) × (result ≤ length text.now) }
 {
     let mut i = from;
     while i < text.len() {
@@ -20,7 +20,7 @@ fn field_end(text: &[u8], separator: u8, from: usize) -> usize
 
 // Where the field of a number starts; after its last field a text has nothing but its end.
 pub fn field_start(text: &[u8], separator: u8, number: usize) -> usize
-    ensures { λ r. ⌜ r ≤ length (now (text .entry)) ⌝ }
+    ensures { result ≤ length text.now }
 {
     let mut start = 0;
     let mut i = 0;

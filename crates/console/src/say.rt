@@ -1,15 +1,16 @@
-// Texts, written to standard output.
-ghost use Prim.Native.Nat.{_≤_};
-ghost use lib.ListN.{length};
-use libc::STDOUT_FILENO;
-use octets::part::part;
+// Texts, written to a stream.
+ghost use Rattle.std.specs.Prelude.{◌≤◌, length};
 
-pub fn say(text: &[u8]) {
-    io::write_all(STDOUT_FILENO, text);
+use octets::part::part;
+use std::io;
+use std::io::Write;
+
+pub fn say<W: Write>(to: &mut W, text: &[u8]) -> io::Result<()> {
+    to.write_all(text)
 }
 
-pub fn say_number(n: u64) {
-    io::print_decimal(STDOUT_FILENO, n);
+pub fn say_number<W: Write>(to: &mut W, n: u64) -> io::Result<()> {
+    write!(to, "{n}")
 }
 
 fn hex_digit(v: u8) -> u8 {
@@ -24,7 +25,7 @@ fn hex_digit(v: u8) -> u8 {
 
 // The hex digits of octets at the front of out: how many, no more than fit.
 fn encode(octets: &[u8], out: &mut [u8]) -> usize
-    ensures { λ r. ⌜ r ≤ length (now (out .exit)) ⌝ }
+    ensures { result ≤ length out.new }
 {
     let mut i = 0;
     while i < octets.len() {
@@ -39,24 +40,25 @@ fn encode(octets: &[u8], out: &mut [u8]) -> usize
 }
 
 // Up to 4,096 octets in hex.
-fn say_some(octets: &[u8]) {
+fn say_some<W: Write>(to: &mut W, octets: &[u8]) -> io::Result<()> {
     let mut digits = [0u8; 8192];
     let n = encode(octets, &mut digits);
-    say(&digits[..n]);
+    say(to, &digits[..n])
 }
 
-pub fn say_hex(octets: &[u8]) {
+pub fn say_hex<W: Write>(to: &mut W, octets: &[u8]) -> io::Result<()> {
     let mut i = 0;
     while i < octets.len() {
-        say_some(part(octets, i, 4096));
+        say_some(to, part(octets, i, 4096))?;
         if octets.len() - i <= 4096 {
-            return;
+            return Ok(());
         }
         i += 4096;
     }
+    Ok(())
 }
 
 // Version bits or flags: 8 hex digits, the most significant first.
-pub fn say_bits(bits: u32) {
-    io::print_hex(STDOUT_FILENO, bits as u64, 8);
+pub fn say_bits<W: Write>(to: &mut W, bits: u32) -> io::Result<()> {
+    write!(to, "{bits:08x}")
 }

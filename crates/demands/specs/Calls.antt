@@ -1,16 +1,15 @@
 -- What the public calls that write promise, together: what is returned, and the octets of the lent buffer before and after. Each part is the contract's own
 -- words, as the other calls' promises are, which stand beside the definitions that they cite.
-use mathlib.Core.List.{List}
-use Prim.Native.Nat.{ℕ}
-use Rattle·filter.specs.declared.request.Request.{Request}
-use Rattle·answers.specs.{declared.written.Written.Written, Try.Try}
-use Rattle·filter_write.specs.Write.{WriteFilterReturns, WriteFilterLeaves}
-use Rattle·locator.specs.{declared.Answer.Answer, Answer.AnswerReturns, Answer.AnswerLeaves}
-use Rattle·filter_read.specs.Value.{Ping, pingFrom}
-use Rattle·mailslot.specs.declared.message.Message.{Message}
-use Rattle·mailslot_answer.specs.Ping.{mailslotPing}
-use Rattle·mailslot_write.specs.Write.{WriteMessageReturns, WriteMessageLeaves}
-use Rattle·table.specs.declared.Caller.{Caller}
+use Rattle.std.specs.Prelude.{List, ℕ}
+use Rattle.filter.specs.declared.request.Request.{Request}
+use Rattle.answers.specs.{declared.written.Written.Written, Try.Try}
+use Rattle.filter_write.specs.Write.{WriteFilterReturns, WriteFilterLeaves}
+use Rattle.locator.specs.{declared.Answer.Answer, Answer.AnswerReturns, Answer.AnswerLeaves}
+use Rattle.filter_read.specs.Value.{Ping, ping_from}
+use Rattle.mailslot.specs.declared.message.Message.{Message}
+use Rattle.mailslot_answer.specs.Ping.{mailslot_ping}
+use Rattle.mailslot_write.specs.Write.{WriteMessageReturns, WriteMessageLeaves}
+use Rattle.table.specs.declared.Caller.{Caller}
 
 pub record WriteFilterPromise (source : List ℕ) (request : Request) (before after : List ℕ) (r : Written) : Type 0 where
   pub returned : WriteFilterReturns source request before r
@@ -26,7 +25,7 @@ pub record AnswerPromise (way : List ℕ → Try Ping) (image : List ℕ) (calle
   pub left : AnswerLeaves way image caller octets before after
 
 abbrev pub AnswerPingPromise : List ℕ → Caller → List ℕ → List ℕ → List ℕ → Answer → Type 0
-AnswerPingPromise = AnswerPromise pingFrom
+AnswerPingPromise = AnswerPromise ping_from
 
 abbrev pub AnswerMailslotPromise : List ℕ → Caller → List ℕ → List ℕ → List ℕ → Answer → Type 0
-AnswerMailslotPromise = AnswerPromise mailslotPing
+AnswerMailslotPromise = AnswerPromise mailslot_ping

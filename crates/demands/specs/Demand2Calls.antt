@@ -1,14 +1,11 @@
 -- Demand 2's reading, of the three calls: what an answering call leaves in the buffer, `read_reply` and `name_text` give back together, in all three forms, as the
 -- texts and numbers that went in. By what the three contracts ensure, and the definitions.
-use mathlib.Core.Path.{_≡_}
-use mathlib.Core.List.{List}
-use Prim.Native.Nat.{ℕ, _<_}
-use lib.ListN.{length}
-use Rattle·answers.specs.declared.Form.{Form}
-use Rattle·reader_forms.specs.{declared.reading.Reading.Reading, Reading.readingLength, Reading.ReadReplyPromise, Settled.readFrom}
-use Rattle·reader_text.specs.{declared.NameText.NameText, Text.textGiven, Text.NameTextPromise}
-use Rattle·reply.specs.Reply.{Reply}
-use Rattle·demands·specs.specs.{Derivation.EveryReply, ReplyLaw.GivenBack}
+use Rattle.std.specs.Prelude.{◌≡◌, List, ℕ, ◌<◌, length}
+use Rattle.answers.specs.declared.Form.{Form}
+use Rattle.reader_forms.specs.{declared.reading.Reading.Reading, Reading.reading_length, Reading.ReadReplyPromise, Settled.read_from}
+use Rattle.reader_text.specs.{declared.NameText.NameText, Text.text_given, Text.NameTextPromise}
+use Rattle.reply.specs.Reply.{Reply}
+use Rattle.demands.specs.{Derivation.EveryReply, ReplyLaw.GivenBack}
 
 -- whatever `read_reply` returns of the octets, told the form and v, and `name_text` of each offset in them: fields with these texts give back what went in
 abbrev pub ReadsBack : Form → ℕ → Reply → List ℕ → ℕ → Type 0
@@ -16,7 +13,7 @@ ReadsBack form v r s len =
     (given : Reading) (texts : ℕ → NameText)
     → ReadReplyPromise s form v given
     → ((at : ℕ) → at < length s → NameTextPromise s at (texts at))
-    → GivenBack form r s (readFrom (λ at. textGiven (texts at)) given) × (readingLength given ≡ len)
+    → GivenBack form r s (read_from (λ at. text_given (texts at)) given) × (reading_length given ≡ len)
 
 abbrev pub Demand2Calls : Type 0
 Demand2Calls = EveryReply ReadsBack

@@ -1,52 +1,49 @@
 -- Demand 3: of every answer, each name of the reply, walked from where the layout places it, is read back as exactly its labels, with few pointers;
 -- and `read_reply` accepts the reply, and has each name from that octet, with its length, and counts as the walk does. By what the calls ensure, and the definitions.
-use mathlib.Core.Path.{_≡_}
-use mathlib.Core.List.{List, []}
-use mathlib.Core.Option.{Option, none, some}
-use Prim.Native.Nat.{ℕ, _<_, _≤_, min}
-use lib.ListN.{length, getD}
-use Rattle·answers.specs.declared.Form.{Form}
-use Rattle·answers.specs.declared.Form.the-variants.{Nt40, Response, Ex}
-use Rattle·names.specs.{Walk.WalkedName, Walk.walk, WalkRelation.Walks}
-use Rattle·octets.specs.Label as label
-use Rattle·reader.specs.ReaderWalks.{writtenOut}
-use Rattle·reader_forms.specs.{declared.reading.Fields.Fields, declared.reading.Reading.Reading, Reading.noName, Reading.ReadReplyPromise, Settled.namesRead}
-use Rattle·reader_forms.specs.Settled.{lastRead}
-use Rattle·reader_forms.specs.declared.reading.Reading.the-variants as reading
-use Rattle·reader_names.specs.{declared.NameAt.NameAt, Name.nameAs}
-use Rattle·reader_text.specs.{declared.NameText.NameText, Text.textGiven, Text.NameTextPromise}
-use Rattle·reader_text.specs.declared.TextLength.the-variants.{Octets}
-use Rattle·reply.specs.Reply.{Reply, responseNames, exNames}
-use Rattle·demands·specs.specs.Derivation.{ReplyIs, EveryAnswerOver, EveryReply}
-use Rattle·demands·specs.specs.Places.{nameStart, lastStart}
+use Rattle.std.specs.Prelude.{◌≡◌, List, [], ℕ, ◌<◌, ◌≤◌, min, length, get_or}
+use Rattle.std.proofs.Math.Option.{Option, none, some}
+use Rattle.answers.specs.declared.Form.{Form}
+use Rattle.answers.specs.declared.Form.TheVariants.{Nt40, Response, Ex}
+use Rattle.names.specs.{Walk.WalkedName, Walk.walk, WalkRelation.Walks}
+use Rattle.octets.specs.Label as label
+use Rattle.reader.specs.ReaderWalks.{written_out}
+use Rattle.reader_forms.specs.{declared.reading.Fields.Fields, declared.reading.Reading.Reading, Reading.no_name, Reading.ReadReplyPromise, Settled.names_read}
+use Rattle.reader_forms.specs.Settled.{last_read}
+use Rattle.reader_forms.specs.declared.reading.Reading.TheVariants as reading
+use Rattle.reader_names.specs.{declared.NameAt.NameAt, Name.name_as}
+use Rattle.reader_text.specs.{declared.NameText.NameText, Text.text_given, Text.NameTextPromise}
+use Rattle.reader_text.specs.declared.TextLength.TheVariants.{Octets}
+use Rattle.reply.specs.Reply.{Reply, response_names, ex_names}
+use Rattle.demands.specs.Derivation.{ReplyIs, EveryAnswerOver, EveryReply}
+use Rattle.demands.specs.Places.{name_start_lem, last_start}
 
 -- the own octets of the names of a form, in their places: NT40 has no names
-abbrev pub namesOf : Form → Reply → List (List ℕ)
-namesOf Nt40 r = []
-namesOf Response r = responseNames r
-namesOf Ex r = exNames r
+abbrev pub names_of : Form → Reply → List (List ℕ)
+names_of Nt40 r = []
+names_of Response r = response_names r
+names_of Ex r = ex_names r
 
 -- name 8, of the EX form alone, where it is written
-abbrev pub lastOf : Form → Reply → Option (List ℕ)
-lastOf Nt40 r = none
-lastOf Response r = none
-lastOf Ex r = r .nextSite
+abbrev pub last_of : Form → Reply → Option (List ℕ)
+last_of Nt40 r = none
+last_of Response r = none
+last_of Ex r = r.next_site_lem
 
 -- one name, at place k, with its first octet at `start` and its own octets `text`: the walk from there
 pub record NameWalked (s : List ℕ) (start k : ℕ) (text : List ℕ) : Type 0 where
   pub name : WalkedName
   pub found : walk s start ≡ some name
-  pub reads : name .labels ≡ label.labels text
-  pub joins : label.joined (name .labels) ≡ text
-  pub few : name .pointers ≤ min k (length (label.labels text))
+  pub reads : name.labels ≡ label.labels text
+  pub joins : label.joined name.labels ≡ text
+  pub few : name.pointers ≤ min k (length (label.labels text))
 
 -- and as the reading has it, and as `name_text` gives it from there
 pub record NameReported (s : List ℕ) (start k : ℕ) (text : List ℕ) (given : NameAt) : Type 0 where
   pub walked : NameWalked s start k text
-  pub placed : given .start ≡ start
-  pub sized : given .len ≡ length text
-  pub counted : given .pointers ≡ walked .name .pointers
-  pub told : (t : NameText) → NameTextPromise s start t → textGiven t ≡ text
+  pub placed : given.start ≡ start
+  pub sized : given.len ≡ length text
+  pub counted : given.pointers ≡ walked.name.pointers
+  pub told : (t : NameText) → NameTextPromise s start t → text_given t ≡ text
 
 -- this holds of a name and of what is given for it, which is there exactly where the name is written
 abbrev pub WhereWritten : {A : Type 0} → (List ℕ → A → Type 0) → Option (List ℕ) → Option A → Type 0
@@ -59,9 +56,9 @@ WhereWritten P (some text) (some n) = P text n
 pub record ReadingWalked (form : Form) (v : ℕ) (r : Reply) (s : List ℕ) (len : ℕ) (given : Reading) : Type 0 where
   pub read : Fields
   pub accepted : given ≡ reading.Read len read
-  pub many : length (namesRead read) ≡ length (namesOf form r)
-  pub names : (k : ℕ) → k < length (namesOf form r) → NameReported s (nameStart form s k) k (getD (namesOf form r) k []) (getD (namesRead read) k (nameAs noName))
-  pub last : WhereWritten (NameReported s (lastStart v s) 8) (lastOf form r) (lastRead read)
+  pub many : length (names_read read) ≡ length (names_of form r)
+  pub names : (k : ℕ) → k < length (names_of form r) → NameReported s (name_start_lem form s k) k (get_or (names_of form r) k []) (get_or (names_read read) k (name_as no_name))
+  pub last : WhereWritten (NameReported s (last_start v s) 8) (last_of form r) (last_read read)
 
 -- whatever `read_reply` returns of the octets, told the form and v
 abbrev pub ReadsWalked : Form → ℕ → Reply → List ℕ → ℕ → Type 0
@@ -78,20 +75,20 @@ Demand3Calls = EveryReply ReadsWalked
 -- reading is the walk's from its first offset: the length of its labels joined by dots, its count, and the octets that `name_text` gives from there.
 pub record NameIsWalk (s : List ℕ) (n : NameAt) : Type 0 where
   pub name : WalkedName
-  pub found : walk s (n .start) ≡ some name
-  pub sized : n .len ≡ length (label.joined (name .labels))
-  pub counted : n .pointers ≡ name .pointers
-  pub told : (t : NameText) → NameTextPromise s (n .start) t → (t .len ≡ Octets (n .len)) × (textGiven t ≡ label.joined (name .labels))
+  pub found : walk s n.start ≡ some name
+  pub sized : n.len ≡ length (label.joined name.labels)
+  pub counted : n.pointers ≡ name.pointers
+  pub told : (t : NameText) → NameTextPromise s n.start t → (t.len ≡ Octets n.len) × (text_given t ≡ label.joined name.labels)
 
 abbrev pub ReadingWalks : Type 0
 ReadingWalks =
     (s : List ℕ) (form : Form) (v len : ℕ) (read : Fields)
     → ReadReplyPromise s form v (reading.Read len read)
-    → ((k : ℕ) → k < length (namesRead read) → NameIsWalk s (getD (namesRead read) k (nameAs noName))) × ((n : NameAt) → lastRead read ≡ some n → NameIsWalk s n)
+    → ((k : ℕ) → k < length (names_read read) → NameIsWalk s (get_or (names_read read) k (name_as no_name))) × ((n : NameAt) → last_read read ≡ some n → NameIsWalk s n)
 
 -- and the other half: every name of the walk that keeps to the reader's two limits `name_text` gives
 abbrev pub WalkTold : Type 0
 WalkTold =
     (s : List ℕ) (at c next : ℕ) (ls : List (List ℕ)) (t : NameText)
-    → Walks s at at ls c next → length (writtenOut ls) ≤ 255 → c ≤ 16 → NameTextPromise s at t
-    → (t .len ≡ Octets (length (label.joined ls))) × (textGiven t ≡ label.joined ls)
+    → Walks s at at ls c next → length (written_out ls) ≤ 255 → c ≤ 16 → NameTextPromise s at t
+    → (t.len ≡ Octets (length (label.joined ls))) × (text_given t ≡ label.joined ls)

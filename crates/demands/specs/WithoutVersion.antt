@@ -1,31 +1,29 @@
 -- Document 02, #101: a filter without NtVer gets what its clauses get with version 1, and where that is an answer its form is NT40, whatever the roles.
-use mathlib.Core.Path.{_≡_}
-use mathlib.Core.List.{List, [], _∷_}
-use mathlib.Core.Option.{none, some}
-use Prim.Native.Nat.{ℕ}
-use Rattle·answers.specs.declared.Form.the-variants.{Nt40}
-use Rattle·answers.specs.Try.{good, _>>=_}
-use Rattle·filter.specs.{declared.request.ClauseName.ClauseName, declared.request.Request.Request, Request.clause, Request.octetsOf}
-use Rattle·filter.specs.declared.request.ClauseName.the-variants.{NtVer}
-use Rattle·filter_read.specs.{Taken.requestIn, Value.pingIn, Value.pingFrom}
-use Rattle·locator.specs.Answer.{Outcome, answerOver, answerTo}
-use Rattle·table.specs.declared.Caller.{Caller}
-use Rattle·table_whole.specs.Judgement.{tableIn}
+use Rattle.std.specs.Prelude.{◌≡◌, List, [], ◌∷◌, ℕ}
+use Rattle.std.proofs.Math.Option.{none, some}
+use Rattle.answers.specs.declared.Form.TheVariants.{Nt40}
+use Rattle.answers.specs.Try.{good, ◌>>=◌}
+use Rattle.filter.specs.{declared.request.ClauseName.ClauseName, declared.request.Request.Request, Request.clause, Request.octets_of}
+use Rattle.filter.specs.declared.request.ClauseName.TheVariants.{NtVer}
+use Rattle.filter_read.specs.{Taken.request_in, Value.ping_in, Value.ping_from}
+use Rattle.locator.specs.Answer.{Outcome, answer_over, answer_to}
+use Rattle.table.specs.declared.Caller.{Caller}
+use Rattle.table_whole.specs.Judgement.{table_in}
 
 -- version 1, as NtVer gives it
-abbrev pub versionOne : List ℕ
-versionOne = 1 ∷ 0 ∷ 0 ∷ 0 ∷ []
+abbrev pub version_one : List ℕ
+version_one = 1 ∷ 0 ∷ 0 ∷ 0 ∷ []
 
 -- a filter's clauses leave NtVer out; others, of any source, give it as 1 and are else the same: the filter's ping is theirs, and so is all that is answered, refusals too
 abbrev pub WithoutVersion : Type 0
 WithoutVersion =
     (f g : List ℕ) (q r : Request)
-    → requestIn f ≡ good q → octetsOf f (clause q NtVer) ≡ none → octetsOf g (clause r NtVer) ≡ some versionOne
-    → ((name : ClauseName) → (name ≡ NtVer → ⊥) → octetsOf f (clause q name) ≡ octetsOf g (clause r name))
-    → (pingFrom f ≡ pingIn g r)
-    × ((image : List ℕ) (caller : Caller) (room : ℕ) → answerTo image caller f room ≡ (tableIn image >>= λ t. pingIn g r >>= λ p. answerOver t caller p room))
+    → request_in f ≡ good q → octets_of f (clause q NtVer) ≡ none → octets_of g (clause r NtVer) ≡ some version_one
+    → ((name : ClauseName) → (name ≡ NtVer → ⊥) → octets_of f (clause q name) ≡ octets_of g (clause r name))
+    → (ping_from f ≡ ping_in g r)
+    × ((image : List ℕ) (caller : Caller) (room : ℕ) → answer_to image caller f room ≡ (table_in image >>= λ t. ping_in g r >>= λ p. answer_over t caller p room))
 
 abbrev pub WithoutVersionNt40 : Type 0
 WithoutVersionNt40 =
     (image : List ℕ) (caller : Caller) (filter : List ℕ) (room : ℕ) (r : Request) (a : Outcome)
-    → requestIn filter ≡ good r → octetsOf filter (clause r NtVer) ≡ none → answerTo image caller filter room ≡ good a → a .form ≡ Nt40
+    → request_in filter ≡ good r → octets_of filter (clause r NtVer) ≡ none → answer_to image caller filter room ≡ good a → a.form ≡ Nt40

@@ -1,16 +1,14 @@
 -- Document 01, "The filter": the eight clause names, and a request's clause for each.
-use mathlib.Core.Bool.{Bool, true, false}
-use mathlib.Core.List.{List, [], _∷_}
-use mathlib.Core.Option.{Option, none, some}
-use Prim.Native.Nat.{ℕ}
-use Rattle·octets.specs.Lists.{cut}
-use Rattle·filter·specs.specs.{declared.request.Clause.Clause, declared.request.ClauseName.ClauseName, declared.request.Request.Request}
-use Rattle·filter·specs.specs.declared.request.Clause.the-variants.{Absent, Present}
-use Rattle·filter·specs.specs.declared.request.ClauseName.the-variants.{DnsDomain, Host, DnsHostName, User, Aac, DomainSid, DomainGuid, NtVer}
+use Rattle.std.specs.Prelude.{Bool, true, false, List, [], ◌∷◌, ℕ}
+use Rattle.std.proofs.Math.Option.{Option, none, some}
+use Rattle.octets.specs.Lists.{cut}
+use Rattle.filter.specs.{declared.request.Clause.Clause, declared.request.ClauseName.ClauseName, declared.request.Request.Request}
+use Rattle.filter.specs.declared.request.Clause.TheVariants.{Absent, Present}
+use Rattle.filter.specs.declared.request.ClauseName.TheVariants.{DnsDomain, Host, DnsHostName, User, Aac, DomainSid, DomainGuid, NtVer}
 
 -- the clause names, in document 01's order
-abbrev pub clauseNames : List ClauseName
-clauseNames = DnsDomain ∷ Host ∷ DnsHostName ∷ User ∷ Aac ∷ DomainSid ∷ DomainGuid ∷ NtVer ∷ []
+abbrev pub clause_names : List ClauseName
+clause_names = DnsDomain ∷ Host ∷ DnsHostName ∷ User ∷ Aac ∷ DomainSid ∷ DomainGuid ∷ NtVer ∷ []
 
 -- how a name is spelled, as document 01 lists it
 abbrev pub spelling : ClauseName → List ℕ
@@ -24,34 +22,34 @@ spelling DomainGuid = 0x44 ∷ 0x6F ∷ 0x6D ∷ 0x61 ∷ 0x69 ∷ 0x6E ∷ 0x47
 spelling NtVer = 0x4E ∷ 0x74 ∷ 0x56 ∷ 0x65 ∷ 0x72 ∷ []
 
 -- the request whose clause for each name is given
-abbrev pub requestBy : (ClauseName → Clause) → Request
-requestBy f =
+abbrev pub request_by : (ClauseName → Clause) → Request
+request_by f =
     record {
-      «dns_domain» = f DnsDomain;
+      dns_domain = f DnsDomain;
       «host» = f Host;
-      «dns_host_name» = f DnsHostName;
+      dns_host_name = f DnsHostName;
       «user» = f User;
       «aac» = f Aac;
-      «domain_sid» = f DomainSid;
-      «domain_guid» = f DomainGuid;
-      «nt_ver» = f NtVer;
+      domain_sid = f DomainSid;
+      domain_guid = f DomainGuid;
+      nt_ver = f NtVer;
     }
 
 abbrev pub clause : Request → ClauseName → Clause
-clause r DnsDomain = r .«dns_domain»
-clause r Host = r .«host»
-clause r DnsHostName = r .«dns_host_name»
-clause r User = r .«user»
-clause r Aac = r .«aac»
-clause r DomainSid = r .«domain_sid»
-clause r DomainGuid = r .«domain_guid»
-clause r NtVer = r .«nt_ver»
+clause r DnsDomain = r.dns_domain
+clause r Host = r.«host»
+clause r DnsHostName = r.dns_host_name
+clause r User = r.«user»
+clause r Aac = r.«aac»
+clause r DomainSid = r.domain_sid
+clause r DomainGuid = r.domain_guid
+clause r NtVer = r.nt_ver
 
-abbrev pub isPresent : Clause → Bool
-isPresent Absent = false
-isPresent (Present start len) = true
+abbrev pub is_present : Clause → Bool
+is_present Absent = false
+is_present (Present start len) = true
 
 -- the octets of a clause: those of its stretch that lie in the source
-abbrev pub octetsOf : List ℕ → Clause → Option (List ℕ)
-octetsOf s Absent = none
-octetsOf s (Present start len) = some (cut s start len)
+abbrev pub octets_of : List ℕ → Clause → Option (List ℕ)
+octets_of s Absent = none
+octets_of s (Present start len) = some (cut s start len)

@@ -1,2 +1,4 @@
 // A request of a Netlogon ping: document 01, "The filter".
+#![tactic(auto)]
+
 pub mod request;

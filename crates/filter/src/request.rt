@@ -1,16 +1,17 @@
 // A request: a clause, present or absent, for each clause name.
-ghost use mathlib.Core.Path.{_≡_};
-ghost use Prim.Native.Nat.{_<_};
-ghost use Rattle·filter·specs.specs.Request.{requestBy, clause, isPresent};
-ghost use Rattle·filter·specs.specs.Internal.ClauseNames.{clauseNameAt, Spells, stored};
+ghost use Rattle.std.specs.Prelude.{◌≡◌, ◌<◌};
+ghost use Rattle.filter.specs.Request.{request_by, clause, is_present};
+ghost use Rattle.filter.specs.Internal.ClauseNames.{clause_name_at, Spells, stored};
 
 // A clause is absent, or present with its stretch of octets; present and empty is present.
+#[derive(Clone, Copy)]
 pub enum Clause {
     Absent,
     Present { start: usize, len: usize },
 }
 
 // The clause names, in document 01's order.
+#[derive(Clone, Copy)]
 pub enum ClauseName {
     DnsDomain,
     Host,
@@ -23,6 +24,7 @@ pub enum ClauseName {
 }
 
 // A filter's clauses, one field for each clause name, in document 01's order.
+#[derive(Clone, Copy)]
 pub struct Request {
     pub dns_domain: Clause,
     pub host: Clause,
@@ -35,6 +37,7 @@ pub struct Request {
 }
 
 // The octets that a clause name is spelled with: the first ones of an array, as no constant can be lent past a call.
+#[derive(Drop)]
 pub struct Spelling {
     pub octets: [u8; 11],
     pub len: usize,
@@ -44,8 +47,8 @@ pub const CLAUSE_COUNT: usize = 8;
 
 // The clause names by their number in document 01's order.
 pub fn clause_name_at(i: usize) -> ClauseName
-    requires { ⌜ i < 8 ⌝ }
-    ensures { λ r. ⌜ r ≡ clauseNameAt i ⌝ }
+    requires { i < 8 }
+    ensures { result ≡ clause_name_at i }
 {
     match i {
         0 => ClauseName::DnsDomain,
@@ -61,7 +64,7 @@ pub fn clause_name_at(i: usize) -> ClauseName
 
 // How a clause name is spelled.
 pub fn spelling_of(name: ClauseName) -> Spelling
-    ensures { λ r. ⌜ Spells name r ⌝ }
+    ensures { Spells name result }
 {
     match name {
         ClauseName::DnsDomain => Spelling {
@@ -101,7 +104,7 @@ pub fn spelling_of(name: ClauseName) -> Spelling
 
 // No clause is present.
 pub fn no_clauses() -> Request
-    ensures { λ r. ⌜ r ≡ requestBy (λ name. Clause.Absent) ⌝ }
+    ensures { result ≡ request_by (λ name. Clause.Absent) }
 {
     Request {
         dns_domain: Clause::Absent,
@@ -117,7 +120,7 @@ pub fn no_clauses() -> Request
 
 impl Clause {
     pub fn is_present(self) -> bool
-        ensures { λ r. ⌜ r ≡ isPresent self ⌝ }
+        ensures { result ≡ is_present self }
     {
         match self {
             Clause::Absent => false,
@@ -129,7 +132,7 @@ impl Clause {
 impl Request {
     // The clause of one name.
     pub fn clause(self, name: ClauseName) -> Clause
-        ensures { λ r. ⌜ r ≡ clause self name ⌝ }
+        ensures { result ≡ clause self name }
     {
         match name {
             ClauseName::DnsDomain => self.dns_domain,
@@ -145,7 +148,7 @@ impl Request {
 
     // The request with its clause of one name set.
     pub fn with(self, name: ClauseName, clause: Clause) -> Request
-        ensures { λ r. ⌜ r ≡ stored self name clause ⌝ }
+        ensures { result ≡ stored self name clause }
     {
         let mut dns_domain = self.dns_domain;
         let mut host = self.host;

@@ -1,28 +1,20 @@
 // The clauses of a filter, gathered one after the other.
-ghost use mathlib.Core.Path.{_≡_};
-ghost use Prim.Native.Nat.{_≤_};
-ghost use lib.ListN.{length};
-ghost use Rattle·filter_position.specs.Filter.{filterLimit, andOf, clausesOf};
-ghost use Rattle·filter_position.specs.Internal.Position.{Inside, ClauseInside, FilterInside, clausesIn};
-ghost use Rattle·filter_gather·specs.specs.Internal.Gather.{spelledAs, nameSpelled, added, gatheredFrom, gatheringOf};
-ghost use Rattle·filter_gather·specs.specs.Internal.Seen.{seenCount, decoded};
+ghost use Rattle.std.specs.Prelude.{◌≡◌, ◌≤◌, length};
+ghost use Rattle.filter_position.specs.Filter.{filter_limit, and_of, clauses_of};
+ghost use Rattle.filter_position.specs.Internal.Position.{Inside, ClauseInside, FilterInside, clauses_in};
+ghost use Rattle.filter_gather.specs.Internal.Gather.{spelled_as, name_spelled, added, gathered_from, gathering_of};
+ghost use Rattle.filter_gather.specs.Internal.Seen.{seen_count, decoded};
+
 use crate::letters::place_of;
-use crate::seen::DUPLICATE;
-use crate::seen::SEEN_COUNT;
-use crate::seen::UNKNOWN;
-use crate::seen::pack;
-use filter::request::CLAUSE_COUNT;
-use filter::request::ClauseName;
-use filter::request::clause_name_at;
-use filter_position::position::Filter;
-use filter_position::position::FilterRead;
-use filter_position::position::Position;
-use filter_position::position::RawClause;
+use crate::seen::{DUPLICATE, SEEN_COUNT, UNKNOWN, pack};
+use filter::request::{CLAUSE_COUNT, ClauseName, clause_name_at};
+use filter_position::position::{Filter, FilterRead, Position, RawClause};
 
 // How many ANDs may stand one inside the other.
 const DEPTH: u8 = 4;
 
 // What octets spell as a clause's name.
+#[derive(Drop)]
 pub enum SpelledName {
     Unknown,
     Known(ClauseName),
@@ -30,7 +22,7 @@ pub enum SpelledName {
 
 // The clause name that octets spell.
 pub fn name_of(s: &[u8]) -> SpelledName
-    ensures { λ r. ⌜ r ≡ spelledAs (nameSpelled (now (s .entry))) ⌝ }
+    ensures { result ≡ spelled_as (name_spelled s.now) }
 {
     let place = place_of(s, 0, s.len());
     if CLAUSE_COUNT <= place {
@@ -41,9 +33,9 @@ pub fn name_of(s: &[u8]) -> SpelledName
 
 // One more clause: of another name, of a name that is there already, or the first of its name.
 fn add_clause(s: &[u8], clause: RawClause, seen: &mut [u32; SEEN_COUNT])
-    requires { ⌜ (length (now s) ≤ filterLimit) × (length (now seen) ≡ seenCount) × ClauseInside (length (now s)) clause ⌝ }
-    ensures { λ _. ⌜ length (now (seen .exit)) ≡ seenCount ⌝ }
-    ensures { λ _. ⌜ decoded (now (seen .exit)) ≡ added (now (s .entry)) (decoded (now (seen .entry))) clause ⌝ }
+    requires { (length s.now ≤ filter_limit) × (length seen.old ≡ seen_count) × ClauseInside (length s.now) clause }
+    ensures seen_len { length seen.new ≡ seen_count }
+    ensures seen_after { decoded seen.new ≡ added s.now (decoded seen.old) clause }
 {
     let name_start = clause.name_start;
     let name_len = clause.name_len;
@@ -62,10 +54,11 @@ fn add_clause(s: &[u8], clause: RawClause, seen: &mut [u32; SEEN_COUNT])
 }
 
 // The clauses of one filter, with `depth` ANDs left that may stand one inside the other; false where it is not of the shape.
+#[cycle(and_of_one_of)]
 fn one_of(s: &[u8], filter: Filter, depth: u8, seen: &mut [u32; SEEN_COUNT]) -> bool
-    requires { ⌜ (length (now s) ≤ filterLimit) × (length (now seen) ≡ seenCount) × FilterInside (length (now s)) filter ⌝ }
-    ensures { λ _. ⌜ length (now (seen .exit)) ≡ seenCount ⌝ }
-    ensures { λ r. ⌜ gatheringOf r (decoded (now (seen .exit))) ≡ gatheredFrom (now (s .entry)) (decoded (now (seen .entry))) (clausesIn depth (now (s .entry)) filter) ⌝ }
+    requires { (length s.now ≤ filter_limit) × (length seen.old ≡ seen_count) × FilterInside (length s.now) filter }
+    ensures seen_len { length seen.new ≡ seen_count }
+    ensures seen_after { gathering_of result (decoded seen.new) ≡ gathered_from s.now (decoded seen.old) (clauses_in depth s.now filter) }
 {
     match filter {
         Filter::Clause(clause) => {
@@ -77,10 +70,11 @@ fn one_of(s: &[u8], filter: Filter, depth: u8, seen: &mut [u32; SEEN_COUNT]) -> 
 }
 
 // The clauses of the filters that fill an AND, one at least.
+#[cycle(and_of_one_of)]
 fn and_of(s: &[u8], inside: Position, depth: u8, seen: &mut [u32; SEEN_COUNT]) -> bool
-    requires { ⌜ (length (now s) ≤ filterLimit) × (length (now seen) ≡ seenCount) × Inside (length (now s)) inside ⌝ }
-    ensures { λ _. ⌜ length (now (seen .exit)) ≡ seenCount ⌝ }
-    ensures { λ r. ⌜ gatheringOf r (decoded (now (seen .exit))) ≡ gatheredFrom (now (s .entry)) (decoded (now (seen .entry))) (andOf depth (now (s .entry)) (inside .at) (inside .end)) ⌝ }
+    requires { (length s.now ≤ filter_limit) × (length seen.old ≡ seen_count) × Inside (length s.now) inside }
+    ensures seen_len { length seen.new ≡ seen_count }
+    ensures seen_after { gathering_of result (decoded seen.new) ≡ gathered_from s.now (decoded seen.old) (and_of depth s.now inside.at inside.end) }
 {
     if depth == 0 {
         return false;
@@ -102,9 +96,9 @@ fn and_of(s: &[u8], inside: Position, depth: u8, seen: &mut [u32; SEEN_COUNT]) -
 
 // The clauses of a whole filter: one filter that fills the octets.
 pub fn whole(s: &[u8], seen: &mut [u32; SEEN_COUNT]) -> bool
-    requires { ⌜ (length (now s) ≤ filterLimit) × (length (now seen) ≡ seenCount) ⌝ }
-    ensures { λ _. ⌜ length (now (seen .exit)) ≡ seenCount ⌝ }
-    ensures { λ r. ⌜ gatheringOf r (decoded (now (seen .exit))) ≡ gatheredFrom (now (s .entry)) (decoded (now (seen .entry))) (clausesOf (now (s .entry))) ⌝ }
+    requires { (length s.now ≤ filter_limit) × (length seen.old ≡ seen_count) }
+    ensures seen_len { length seen.new ≡ seen_count }
+    ensures seen_after { gathering_of result (decoded seen.new) ≡ gathered_from s.now (decoded seen.old) (clauses_of s.now) }
 {
     let end = s.len();
     let FilterRead::Good { filter, rest } = (Position { at: 0, end }).filter(s) else {

@@ -1,65 +1,54 @@
 // The clause name that octets spell, told by how many they are and then letter by letter: no octet waits for another.
-ghost use mathlib.Core.Path.{_≡_};
-ghost use mathlib.Core.Bool.{cond};
-ghost use mathlib.Core.List.{[], _∷_};
-ghost use Prim.Native.Nat.{_+_, _≤_};
-ghost use lib.Dec.{eqb};
-ghost use lib.ListN.{length};
-ghost use Rattle·octets.specs.Lists.{cut};
-ghost use Rattle·octets.specs.Text.{lower};
-ghost use Rattle·filter_gather·specs.specs.Internal.Gather.{nameSpelled};
-ghost use Rattle·filter_gather·specs.specs.Internal.Letters.{lettersAt, smallLetters};
-ghost use Rattle·filter.specs.declared.request.ClauseName.the-variants.{DnsDomain, DnsHostName, DomainSid, DomainGuid, NtVer};
-ghost use Rattle·filter_gather·specs.specs.Internal.Seen.{placeAs};
-use crate::seen::AAC;
-use crate::seen::DNS_DOMAIN;
-use crate::seen::DNS_HOST_NAME;
-use crate::seen::DOMAIN_GUID;
-use crate::seen::DOMAIN_SID;
-use crate::seen::HOST;
-use crate::seen::NT_VER;
-use crate::seen::USER;
+ghost use Rattle.std.specs.Prelude.{◌≡◌, cond, [], ◌∷◌, ◌+◌, ◌≤◌, eqb, length};
+ghost use Rattle.octets.specs.Lists.{cut};
+ghost use Rattle.octets.specs.Text.{lower};
+ghost use Rattle.filter_gather.specs.Internal.Gather.{name_spelled};
+ghost use Rattle.filter_gather.specs.Internal.Letters.{letters_at, small_letters};
+ghost use Rattle.filter.specs.declared.request.ClauseName.TheVariants.{DnsDomain, DnsHostName, DomainSid, DomainGuid, NtVer};
+ghost use Rattle.filter_gather.specs.Internal.Seen.{place_as};
+
+use crate::seen::{AAC, DNS_DOMAIN, DNS_HOST_NAME, DOMAIN_GUID, DOMAIN_SID, HOST, NT_VER, USER};
 use filter::request::CLAUSE_COUNT;
 use octets::text::folded;
 
 // Whether an octet is a letter, ASCII case ignored.
 fn is_letter(x: u8, small: u8) -> bool
-    ensures { λ r. ⌜ r ≡ eqb (lower x) small ⌝ }
+    ensures { result ≡ eqb (lower x) small }
 {
     folded(x, true) == small
 }
 
 fn are_two_letters(s: &[u8], at: usize, a: u8, b: u8) -> bool
-    requires { ⌜ at + 2 ≤ length (now s) ⌝ }
-    ensures { λ r. ⌜ r ≡ lettersAt (now (s .entry)) at (a ∷ b ∷ []) ⌝ }
+    requires { at + 2 ≤ length s.now }
+    ensures { result ≡ letters_at s.now at (a ∷ b ∷ []) }
 {
     is_letter(s[at], a) & is_letter(s[at + 1], b)
 }
 
 fn are_three_letters(s: &[u8], at: usize, a: u8, b: u8, c: u8) -> bool
-    requires { ⌜ at + 3 ≤ length (now s) ⌝ }
-    ensures { λ r. ⌜ r ≡ lettersAt (now (s .entry)) at (a ∷ b ∷ c ∷ []) ⌝ }
+    requires { at + 3 ≤ length s.now }
+    ensures { result ≡ letters_at s.now at (a ∷ b ∷ c ∷ []) }
 {
     is_letter(s[at], a) & are_two_letters(s, at + 1, b, c)
 }
 
 fn are_four_letters(s: &[u8], at: usize, a: u8, b: u8, c: u8, d: u8) -> bool
-    requires { ⌜ at + 4 ≤ length (now s) ⌝ }
-    ensures { λ r. ⌜ r ≡ lettersAt (now (s .entry)) at (a ∷ b ∷ c ∷ d ∷ []) ⌝ }
+    requires { at + 4 ≤ length s.now }
+    ensures { result ≡ letters_at s.now at (a ∷ b ∷ c ∷ d ∷ []) }
 {
     is_letter(s[at], a) & are_three_letters(s, at + 1, b, c, d)
 }
 
 fn is_nt_ver(s: &[u8], at: usize) -> bool
-    requires { ⌜ at + 5 ≤ length (now s) ⌝ }
-    ensures { λ r. ⌜ r ≡ lettersAt (now (s .entry)) at (smallLetters NtVer) ⌝ }
+    requires { at + 5 ≤ length s.now }
+    ensures { result ≡ letters_at s.now at (small_letters NtVer) }
 {
     are_two_letters(s, at, b'n', b't') & are_three_letters(s, at + 2, b'v', b'e', b'r')
 }
 
 fn is_dns_domain(s: &[u8], at: usize) -> bool
-    requires { ⌜ at + 9 ≤ length (now s) ⌝ }
-    ensures { λ r. ⌜ r ≡ lettersAt (now (s .entry)) at (smallLetters DnsDomain) ⌝ }
+    requires { at + 9 ≤ length s.now }
+    ensures { result ≡ letters_at s.now at (small_letters DnsDomain) }
 {
     are_three_letters(s, at, b'd', b'n', b's')
         & are_three_letters(s, at + 3, b'd', b'o', b'm')
@@ -67,8 +56,8 @@ fn is_dns_domain(s: &[u8], at: usize) -> bool
 }
 
 fn is_domain_sid(s: &[u8], at: usize) -> bool
-    requires { ⌜ at + 9 ≤ length (now s) ⌝ }
-    ensures { λ r. ⌜ r ≡ lettersAt (now (s .entry)) at (smallLetters DomainSid) ⌝ }
+    requires { at + 9 ≤ length s.now }
+    ensures { result ≡ letters_at s.now at (small_letters DomainSid) }
 {
     are_three_letters(s, at, b'd', b'o', b'm')
         & are_three_letters(s, at + 3, b'a', b'i', b'n')
@@ -76,8 +65,8 @@ fn is_domain_sid(s: &[u8], at: usize) -> bool
 }
 
 fn is_domain_guid(s: &[u8], at: usize) -> bool
-    requires { ⌜ at + 10 ≤ length (now s) ⌝ }
-    ensures { λ r. ⌜ r ≡ lettersAt (now (s .entry)) at (smallLetters DomainGuid) ⌝ }
+    requires { at + 10 ≤ length s.now }
+    ensures { result ≡ letters_at s.now at (small_letters DomainGuid) }
 {
     are_three_letters(s, at, b'd', b'o', b'm')
         & are_three_letters(s, at + 3, b'a', b'i', b'n')
@@ -85,8 +74,8 @@ fn is_domain_guid(s: &[u8], at: usize) -> bool
 }
 
 fn is_dns_host_name(s: &[u8], at: usize) -> bool
-    requires { ⌜ at + 11 ≤ length (now s) ⌝ }
-    ensures { λ r. ⌜ r ≡ lettersAt (now (s .entry)) at (smallLetters DnsHostName) ⌝ }
+    requires { at + 11 ≤ length s.now }
+    ensures { result ≡ letters_at s.now at (small_letters DnsHostName) }
 {
     are_three_letters(s, at, b'd', b'n', b's')
         & are_four_letters(s, at + 3, b'h', b'o', b's', b't')
@@ -94,7 +83,7 @@ fn is_dns_host_name(s: &[u8], at: usize) -> bool
 }
 
 fn place_if(spelled: bool, place: usize) -> usize
-    ensures { λ r. ⌜ r ≡ cond spelled place 8 ⌝ }
+    ensures { result ≡ cond spelled place 8 }
 {
     if spelled {
         return place;
@@ -104,8 +93,8 @@ fn place_if(spelled: bool, place: usize) -> usize
 
 // The place of the clause name that octets spell: 8 where they spell none.
 pub fn place_of(s: &[u8], at: usize, len: usize) -> usize
-    requires { ⌜ at + len ≤ length (now s) ⌝ }
-    ensures { λ r. ⌜ r ≡ placeAs (nameSpelled (cut (now (s .entry)) at len)) ⌝ }
+    requires { at + len ≤ length s.now }
+    ensures { result ≡ place_as (name_spelled (cut s.now at len)) }
 {
     if len == 3 {
         return place_if(are_three_letters(s, at, b'a', b'a', b'c'), AAC);

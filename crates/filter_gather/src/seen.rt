@@ -1,9 +1,8 @@
 // The clauses of a filter as numbers in an array that is lent: a request would be copied with every clause.
-ghost use mathlib.Core.Path.{_≡_};
-ghost use Prim.Native.Nat.{_<_};
-ghost use Rattle·filter_gather·specs.specs.Internal.Seen.{packed, clauseSeen, decoded};
-use filter::request::Clause;
-use filter::request::Request;
+ghost use Rattle.std.specs.Prelude.{◌≡◌, ◌<◌};
+ghost use Rattle.filter_gather.specs.Internal.Seen.{packed, clause_seen, decoded};
+
+use filter::request::{Clause, Request};
 
 // The place of each clause name: 0 where the clause is absent, else its start times 65,536 and its length. No value starts at 0, as
 // its tags stand before it.
@@ -32,15 +31,15 @@ pub const SEEN_COUNT: usize = 10;
 
 // A stretch as one number.
 pub fn pack(start: usize, len: usize) -> u32
-    requires { ⌜ (start < 65536) × (len < 65536) ⌝ }
-    ensures { λ r. ⌜ r ≡ packed start len ⌝ }
+    requires { (start < 65536) × (len < 65536) }
+    ensures { result ≡ packed start len }
 {
     (65536 * start + len) as u32
 }
 
 // A clause as it was gathered.
 pub fn clause_seen(x: u32) -> Clause
-    ensures { λ r. ⌜ r ≡ clauseSeen x ⌝ }
+    ensures { result ≡ clause_seen x }
 {
     if x == 0 {
         return Clause::Absent;
@@ -53,7 +52,7 @@ pub fn clause_seen(x: u32) -> Clause
 
 // The request that was gathered.
 pub fn request_seen(seen: &[u32; SEEN_COUNT]) -> Request
-    ensures { λ r. ⌜ r ≡ decoded (now (seen .entry)) .request ⌝ }
+    ensures { result ≡ (decoded seen.now).request }
 {
     Request {
         dns_domain: clause_seen(seen[DNS_DOMAIN]),

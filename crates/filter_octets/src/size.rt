@@ -1,16 +1,10 @@
 // How many octets a written filter takes.
-ghost use mathlib.Core.Path.{_≡_};
-ghost use Prim.Native.Nat.{_+_, _^_, _≤_, _<_, min};
-ghost use lib.ListN.{length};
-ghost use Rattle·filter.specs.Request.{clauseNames, spelling, octetsOf};
-ghost use Rattle·filter_octets·specs.specs.Octets.{equalityFor};
-ghost use Rattle·filter_octets·specs.specs.Internal.Size.{headSize, elementSize, contents};
-use filter::request::CLAUSE_COUNT;
-use filter::request::Clause;
-use filter::request::ClauseName;
-use filter::request::Request;
-use filter::request::clause_name_at;
-use filter::request::spelling_of;
+ghost use Rattle.std.specs.Prelude.{◌≡◌, ◌+◌, ◌^◌, ◌≤◌, ◌<◌, min, length};
+ghost use Rattle.filter.specs.Request.{clause_names, spelling, octets_of};
+ghost use Rattle.filter_octets.specs.Octets.{equality_for};
+ghost use Rattle.filter_octets.specs.Internal.Size.{head_size, element_size, contents};
+
+use filter::request::{CLAUSE_COUNT, Clause, ClauseName, Request, clause_name_at, spelling_of};
 use filter_position::position::SHORT_LIMIT;
 use octets::part::part;
 
@@ -22,16 +16,16 @@ pub const TWO_OCTETS_LIMIT: usize = 0x100;
 
 // How many octets a clause name takes.
 pub fn name_size(name: ClauseName) -> usize
-    ensures { λ r. ⌜ r ≡ length (spelling name) ⌝ }
-    ensures { λ r. ⌜ r ≤ 11 ⌝ }
+    ensures value { result ≡ length (spelling name) }
+    ensures upper_bound { result ≤ 11 }
 {
     spelling_of(name).len
 }
 
 // How many octets a tag and the shortest length of n octets take.
 pub fn head_size(n: usize) -> usize
-    ensures { λ r. ⌜ r ≡ headSize n ⌝ }
-    ensures { λ r. ⌜ r ≤ 4 ⌝ }
+    ensures value { result ≡ head_size n }
+    ensures upper_bound { result ≤ 4 }
 {
     if n < ONE_OCTET_LIMIT {
         return 2;
@@ -44,16 +38,16 @@ pub fn head_size(n: usize) -> usize
 
 // How many octets an element of n octets takes.
 pub fn element_size(n: usize) -> usize
-    requires { ⌜ n + 4 < 2 ^ 64 ⌝ }
-    ensures { λ r. ⌜ r ≡ elementSize n ⌝ }
-    ensures { λ r. ⌜ r ≤ n + 4 ⌝ }
+    requires { n + 4 < 2 ^ 64 }
+    ensures value { result ≡ element_size n }
+    ensures upper_bound { result ≤ n + 4 }
 {
     head_size(n) + n
 }
 
 // How many octets the equality of a clause takes.
 fn equality_size(source: &[u8], name: ClauseName, clause: Clause) -> usize
-    ensures { λ r. ⌜ r ≡ length (equalityFor name (octetsOf (now (source .entry)) clause)) ⌝ }
+    ensures { result ≡ length (equality_for name (octets_of source.now clause)) }
 {
     let Clause::Present { start, len } = clause else {
         return 0;
@@ -68,8 +62,8 @@ const CAP: usize = 4096;
 
 // A sum that stops.
 fn capped_sum(a: usize, b: usize) -> usize
-    requires { ⌜ a ≤ 4096 ⌝ }
-    ensures { λ r. ⌜ r ≡ min (a + b) 4096 ⌝ }
+    requires { a ≤ 4096 }
+    ensures { result ≡ min (a + b) 4096 }
 {
     if CAP - a < b {
         return CAP;
@@ -79,7 +73,7 @@ fn capped_sum(a: usize, b: usize) -> usize
 
 // How many octets the equalities of a request's clauses take, or 4,096 where they take more.
 pub fn contents_size(source: &[u8], request: Request) -> usize
-    ensures { λ r. ⌜ r ≡ min (length (contents (now (source .entry)) request clauseNames)) 4096 ⌝ }
+    ensures { result ≡ min (length (contents source.now request clause_names)) 4096 }
 {
     let mut size = 0;
     let mut i = 0;

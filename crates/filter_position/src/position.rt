@@ -1,11 +1,10 @@
 // Where the elements of a filter lie: document 01, "The filter".
-ghost use mathlib.Core.Path.{_≡_};
-ghost use Prim.Native.Nat.{_+_, _≤_, _<_};
-ghost use lib.ListN.{length};
-ghost use Rattle·octets.specs.Lists.{cut};
-ghost use Rattle·octets.specs.Number.{big};
-ghost use Rattle·filter_position·specs.specs.Filter.{elementAt, equality};
-ghost use Rattle·filter_position·specs.specs.Internal.Position.{lengthAt, LengthWithin, taggedAs, TaggedWithin, equalityAs, EqualityWithin, filterAt, ReadWithin, Inside};
+ghost use Rattle.std.specs.Prelude.{◌≡◌, ◌+◌, ◌≤◌, ◌<◌, length};
+ghost use Rattle.octets.specs.Lists.{cut};
+ghost use Rattle.octets.specs.Number.{big};
+ghost use Rattle.filter_position.specs.Filter.{element_at, equality};
+ghost use Rattle.filter_position.specs.Internal.Position.{length_at, LengthWithin, tagged_as, TaggedWithin, equality_as, EqualityWithin, filter_at, ReadWithin, Inside};
+
 use octets::number::big_u16_at;
 
 // The most octets that a filter may have.
@@ -26,6 +25,7 @@ pub const EQUALITY_TAG: u8 = 0xA3;
 pub const STRING_TAG: u8 = 0x04;
 
 // A clause as it stands in a filter: the stretches of its name and its value.
+#[derive(Drop)]
 pub struct RawClause {
     pub name_start: usize,
     pub name_len: usize,
@@ -34,18 +34,21 @@ pub struct RawClause {
 }
 
 // A position in a filter: what is still to be read lies from `at` to the end of the element around it.
+#[derive(Drop)]
 pub struct Position {
     pub at: usize,
     pub end: usize,
 }
 
 // The length of an element: where its contents start, and how many octets they are.
+#[derive(Drop)]
 pub enum ElementLength {
     Wrong,
     Of { start: usize, len: usize },
 }
 
 // An element: its tag, its contents, and what comes after it.
+#[derive(Drop)]
 pub enum Tagged {
     Wrong,
     Element {
@@ -56,18 +59,21 @@ pub enum Tagged {
 }
 
 // A clause, where a name and a value fill an equality.
+#[derive(Drop)]
 pub enum Equality {
     Wrong,
     Clause(RawClause),
 }
 
 // A filter is a clause, or an AND of filters that lie at a position.
+#[derive(Drop)]
 pub enum Filter {
     Clause(RawClause),
     And(Position),
 }
 
 // A filter that was read, and the position where the next one begins.
+#[derive(Drop)]
 pub enum FilterRead {
     Wrong,
     Good { filter: Filter, rest: Position },
@@ -75,18 +81,18 @@ pub enum FilterRead {
 
 // The two octets of a longer length, the first of them most significant.
 fn two_octets(s: &[u8], at: usize) -> usize
-    requires { ⌜ at + 2 ≤ length (now s) ⌝ }
-    ensures { λ r. ⌜ r ≡ big (cut (now (s .entry)) at 2) ⌝ }
-    ensures { λ r. ⌜ r < 65536 ⌝ }
+    requires { at + 2 ≤ length s.now }
+    ensures value { result ≡ big (cut s.now at 2) }
+    ensures upper_bound { result < 65536 }
 {
     big_u16_at(s, at) as usize
 }
 
 // The length of the element at `at`: one octet below 80h, or 81h and one, or 82h and two.
 fn length_at(s: &[u8], at: usize, end: usize) -> ElementLength
-    requires { ⌜ (at + 2 ≤ end) × (end ≤ length (now s)) ⌝ }
-    ensures { λ r. ⌜ r ≡ lengthAt (now (s .entry)) at end ⌝ }
-    ensures { λ r. ⌜ LengthWithin at end r ⌝ }
+    requires { (at + 2 ≤ end) × (end ≤ length s.now) }
+    ensures value { result ≡ length_at s.now at end }
+    ensures length_within { LengthWithin at end result }
 {
     let first = s[at + 1];
     if first < SHORT_LIMIT {
@@ -119,9 +125,9 @@ fn length_at(s: &[u8], at: usize, end: usize) -> ElementLength
 impl Position {
     // The element here, which ends within what it stands in.
     fn element(self, s: &[u8]) -> Tagged
-        requires { ⌜ Inside (length (now s)) self ⌝ }
-        ensures { λ r. ⌜ r ≡ taggedAs (self .end) (elementAt (now (s .entry)) (self .at) (self .end)) ⌝ }
-        ensures { λ r. ⌜ TaggedWithin self r ⌝ }
+        requires { Inside (length s.now) self }
+        ensures value { result ≡ tagged_as self.end (element_at s.now self.at self.end) }
+        ensures tagged_within { TaggedWithin self result }
     {
         let at = self.at;
         let end = self.end;
@@ -147,9 +153,9 @@ impl Position {
 
     // The clause of a name and a value that fill this stretch.
     fn equality(self, s: &[u8]) -> Equality
-        requires { ⌜ Inside (length (now s)) self ⌝ }
-        ensures { λ r. ⌜ r ≡ equalityAs (equality (now (s .entry)) (self .at) (self .end)) ⌝ }
-        ensures { λ r. ⌜ EqualityWithin (self .end) r ⌝ }
+        requires { Inside (length s.now) self }
+        ensures value { result ≡ equality_as (equality s.now self.at self.end) }
+        ensures equality_within { EqualityWithin self.end result }
     {
         let end = self.end;
         let Tagged::Element { tag, inside, rest } = self.element(s) else {
@@ -182,9 +188,9 @@ impl Position {
 
     // The filter here, and the position where the next one begins.
     pub fn filter(self, s: &[u8]) -> FilterRead
-        requires { ⌜ Inside (length (now s)) self ⌝ }
-        ensures { λ r. ⌜ r ≡ filterAt (now (s .entry)) (self .at) (self .end) ⌝ }
-        ensures { λ r. ⌜ ReadWithin self r ⌝ }
+        requires { Inside (length s.now) self }
+        ensures value { result ≡ filter_at s.now self.at self.end }
+        ensures read_within { ReadWithin self result }
     {
         let Tagged::Element { tag, inside, rest } = self.element(s) else {
             return FilterRead::Wrong;

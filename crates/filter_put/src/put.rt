@@ -1,37 +1,23 @@
 // Writes the parts of a filter into a buffer that has the room.
-ghost use mathlib.Core.Path.{_≡_};
-ghost use mathlib.Core.List.{_∷_};
-ghost use mathlib.Core.Option.{some};
-ghost use Prim.Native.Nat.{_+_, _≤_, _<_};
-ghost use lib.ListN.{length};
-ghost use Rattle·octets.specs.Buffer.{over};
-ghost use Rattle·filter_position.specs.Filter.{filterLimit, stringTag};
-ghost use Rattle·filter.specs.Request.{clauseNames, spelling, octetsOf};
-ghost use Rattle·filter_octets.specs.Octets.{lengthOctets, element, equalityFor, filterOctets};
-ghost use Rattle·filter_octets.specs.Internal.Size.{headSize, elementSize, contents};
-use filter::request::CLAUSE_COUNT;
-use filter::request::Clause;
-use filter::request::ClauseName;
-use filter::request::Request;
-use filter::request::clause_name_at;
-use filter::request::spelling_of;
-use filter_octets::size::ONE_OCTET_LIMIT;
-use filter_octets::size::TWO_OCTETS_LIMIT;
-use filter_octets::size::element_size;
-use filter_octets::size::name_size;
-use filter_position::position::AND_TAG;
-use filter_position::position::EQUALITY_TAG;
-use filter_position::position::ONE_AFTER;
-use filter_position::position::STRING_TAG;
-use filter_position::position::TWO_AFTER;
+ghost use Rattle.std.specs.Prelude.{◌≡◌, ◌∷◌, ◌+◌, ◌≤◌, ◌<◌, length};
+ghost use Rattle.std.proofs.Math.Option.{some};
+ghost use Rattle.octets.specs.Buffer.{over};
+ghost use Rattle.filter_position.specs.Filter.{filter_limit, string_tag};
+ghost use Rattle.filter.specs.Request.{clause_names, spelling, octets_of};
+ghost use Rattle.filter_octets.specs.Octets.{length_octets, element, equality_for, filter_octets};
+ghost use Rattle.filter_octets.specs.Internal.Size.{head_size, element_size, contents};
+
+use filter::request::{CLAUSE_COUNT, Clause, ClauseName, Request, clause_name_at, spelling_of};
+use filter_octets::size::{ONE_OCTET_LIMIT, TWO_OCTETS_LIMIT, element_size, name_size};
+use filter_position::position::{AND_TAG, EQUALITY_TAG, ONE_AFTER, STRING_TAG, TWO_AFTER};
 use lent::put::put_octets_at;
 use octets::part::part;
 
 // A tag and the shortest length of n octets.
 fn put_head(out: &mut [u8], tag: u8, n: usize) -> usize
-    requires { ⌜ (n < 65536) × (headSize n ≤ length (now out)) ⌝ }
-    ensures { λ r. ⌜ r ≡ headSize n ⌝ }
-    ensures { λ _. ⌜ now (out .exit) ≡ over (tag ∷ lengthOctets n) (now (out .entry)) ⌝ }
+    requires { (n < 65536) × (head_size n ≤ length out.old) }
+    ensures value { result ≡ head_size n }
+    ensures out_after { out.new ≡ over (tag ∷ length_octets n) out.old }
 {
     out[0] = tag;
     if n < ONE_OCTET_LIMIT {
@@ -51,9 +37,9 @@ fn put_head(out: &mut [u8], tag: u8, n: usize) -> usize
 
 // An octet string.
 fn put_string(out: &mut [u8], s: &[u8]) -> usize
-    requires { ⌜ (length (now s) < 65536) × (elementSize (length (now s)) ≤ length (now out)) ⌝ }
-    ensures { λ r. ⌜ r ≡ elementSize (length (now (s .entry))) ⌝ }
-    ensures { λ _. ⌜ now (out .exit) ≡ over (element stringTag (now (s .entry))) (now (out .entry)) ⌝ }
+    requires { (length s.now < 65536) × (element_size (length s.now) ≤ length out.old) }
+    ensures value { result ≡ element_size (length s.now) }
+    ensures out_after { out.new ≡ over (element string_tag s.now) out.old }
 {
     let at = put_head(out, STRING_TAG, s.len());
     put_octets_at(out, at, s)
@@ -61,9 +47,9 @@ fn put_string(out: &mut [u8], s: &[u8]) -> usize
 
 // A clause name as an octet string.
 fn put_name(out: &mut [u8], name: ClauseName) -> usize
-    requires { ⌜ elementSize (length (spelling name)) ≤ length (now out) ⌝ }
-    ensures { λ r. ⌜ r ≡ elementSize (length (spelling name)) ⌝ }
-    ensures { λ _. ⌜ now (out .exit) ≡ over (element stringTag (spelling name)) (now (out .entry)) ⌝ }
+    requires { element_size (length (spelling name)) ≤ length out.old }
+    ensures value { result ≡ element_size (length (spelling name)) }
+    ensures out_after { out.new ≡ over (element string_tag (spelling name)) out.old }
 {
     let spelling = spelling_of(name);
     let octets = spelling.octets;
@@ -73,10 +59,10 @@ fn put_name(out: &mut [u8], name: ClauseName) -> usize
 
 // The equality of a name and a value, whose contents are `size` octets.
 fn put_pair(out: &mut [u8], name: ClauseName, value: &[u8], size: usize) -> usize
-    requires { ⌜ size ≡ elementSize (length (spelling name)) + elementSize (length (now value)) ⌝ }
-    requires { ⌜ (elementSize size ≤ length (now out)) × (elementSize size ≤ filterLimit) ⌝ }
-    ensures { λ r. ⌜ r ≡ elementSize size ⌝ }
-    ensures { λ _. ⌜ now (out .exit) ≡ over (equalityFor name (some (now (value .entry)))) (now (out .entry)) ⌝ }
+    requires size_value { size ≡ element_size (length (spelling name)) + element_size (length value.now) }
+    requires size_in_bounds { (element_size size ≤ length out.old) × (element_size size ≤ filter_limit) }
+    ensures value { result ≡ element_size size }
+    ensures out_after { out.new ≡ over (equality_for name (some value.now)) out.old }
 {
     let name_at = put_head(out, EQUALITY_TAG, size);
     let value_at = name_at + put_name(&mut out[name_at..], name);
@@ -85,10 +71,10 @@ fn put_pair(out: &mut [u8], name: ClauseName, value: &[u8], size: usize) -> usiz
 
 // The equality of a clause, where it is present.
 fn put_equality(out: &mut [u8], source: &[u8], name: ClauseName, clause: Clause) -> usize
-    requires { ⌜ length (equalityFor name (octetsOf (now source) clause)) ≤ length (now out) ⌝ }
-    requires { ⌜ length (equalityFor name (octetsOf (now source) clause)) ≤ filterLimit ⌝ }
-    ensures { λ r. ⌜ r ≡ length (equalityFor name (octetsOf (now (source .entry)) clause)) ⌝ }
-    ensures { λ _. ⌜ now (out .exit) ≡ over (equalityFor name (octetsOf (now (source .entry)) clause)) (now (out .entry)) ⌝ }
+    requires clause_in_bounds { length (equality_for name (octets_of source.now clause)) ≤ length out.old }
+    requires clause_len_bound { length (equality_for name (octets_of source.now clause)) ≤ filter_limit }
+    ensures value { result ≡ length (equality_for name (octets_of source.now clause)) }
+    ensures out_after { out.new ≡ over (equality_for name (octets_of source.now clause)) out.old }
 {
     let Clause::Present { start, len } = clause else {
         return 0;
@@ -100,9 +86,9 @@ fn put_equality(out: &mut [u8], source: &[u8], name: ClauseName, clause: Clause)
 
 // The present clauses, in document 01's order.
 fn put_clauses(out: &mut [u8], source: &[u8], request: Request)
-    requires { ⌜ length (contents (now source) request clauseNames) ≤ length (now out) ⌝ }
-    requires { ⌜ length (contents (now source) request clauseNames) ≤ filterLimit ⌝ }
-    ensures { λ _. ⌜ now (out .exit) ≡ over (contents (now (source .entry)) request clauseNames) (now (out .entry)) ⌝ }
+    requires clause_names_in_bounds { length (contents source.now request clause_names) ≤ length out.old }
+    requires clause_names_len_bound { length (contents source.now request clause_names) ≤ filter_limit }
+    ensures { out.new ≡ over (contents source.now request clause_names) out.old }
 {
     let mut at = 0;
     let mut i = 0;
@@ -115,9 +101,9 @@ fn put_clauses(out: &mut [u8], source: &[u8], request: Request)
 
 // The clauses inside one AND, whose contents are `size` octets.
 pub fn put_filter(out: &mut [u8], source: &[u8], request: Request, size: usize)
-    requires { ⌜ size ≡ length (contents (now source) request clauseNames) ⌝ }
-    requires { ⌜ (elementSize size ≤ length (now out)) × (elementSize size ≤ filterLimit) ⌝ }
-    ensures { λ _. ⌜ now (out .exit) ≡ over (filterOctets (now (source .entry)) request) (now (out .entry)) ⌝ }
+    requires size_value { size ≡ length (contents source.now request clause_names) }
+    requires size_in_bounds { (element_size size ≤ length out.old) × (element_size size ≤ filter_limit) }
+    ensures { out.new ≡ over (filter_octets source.now request) out.old }
 {
     let at = put_head(out, AND_TAG, size);
     put_clauses(&mut out[at..], source, request);

@@ -1,70 +1,65 @@
 -- Document 01, "The filter" and "Answer numbers": taking a filter apart, with 5 to 8, each judged over the whole filter.
-use mathlib.Core.Path.{_≡_}
-use mathlib.Core.Bool.{Bool, not}
-use mathlib.Core.List.{List}
-use mathlib.Core.Option.{Option, none, some}
-use Prim.Native.Nat.{ℕ}
-use lib.Dec.{ltb}
-use lib.ListN.{length}
-use Rattle·answers.specs.declared.Refusal.the-variants.{FilterLength, FilterShape, UnknownClause, DuplicateClause}
-use Rattle·answers.specs.Refusal.{number}
-use Rattle·answers.specs.Try.{Try, refused, good, refusedIf, numberOf, valueOf}
-use Rattle·octets.specs.Lists.{any, first, unique, cut}
-use Rattle·octets.specs.Text.{sameFolded}
-use Rattle·filter_position.specs.{declared.position.RawClause.RawClause, Filter.filterLimit, Filter.clausesOf}
-use Rattle·filter.specs.{declared.request.Clause.Clause, declared.request.ClauseName.ClauseName, declared.request.Request.Request}
-use Rattle·filter.specs.declared.request.Clause.the-variants.{Absent, Present}
-use Rattle·filter.specs.Request.{clauseNames, spelling, requestBy}
-use Rattle·filter_read·specs.specs.declared.read.Taken.{Taken}
-use Rattle·filter_read·specs.specs.declared.read.Taken.the-variants as taken
+use Rattle.std.specs.Prelude.{◌≡◌, Bool, not, List, ℕ, ltb, length}
+use Rattle.std.proofs.Math.Option.{Option, none, some}
+use Rattle.answers.specs.declared.Refusal.TheVariants.{FilterLength, FilterShape, UnknownClause, DuplicateClause}
+use Rattle.answers.specs.Refusal.{number}
+use Rattle.answers.specs.Try.{Try, refused, good, refused_if, number_of, value_of}
+use Rattle.octets.specs.Lists.{any, first, unique, cut}
+use Rattle.octets.specs.Text.{same_folded}
+use Rattle.filter_position.specs.{declared.position.RawClause.RawClause, Filter.filter_limit, Filter.clauses_of}
+use Rattle.filter.specs.{declared.request.Clause.Clause, declared.request.ClauseName.ClauseName, declared.request.Request.Request}
+use Rattle.filter.specs.declared.request.Clause.TheVariants.{Absent, Present}
+use Rattle.filter.specs.Request.{clause_names, spelling, request_by}
+use Rattle.filter_read.specs.declared.read.Taken.{Taken}
+use Rattle.filter_read.specs.declared.read.Taken.TheVariants as taken
 
 -- a clause's name as it stands in the filter
-abbrev pub nameOctets : List ℕ → RawClause → List ℕ
-nameOctets s f = cut s (f .«name_start») (f .«name_len»)
+abbrev pub name_octets : List ℕ → RawClause → List ℕ
+name_octets s f = cut s f.name_start f.name_len
 
 -- a clause is of this name, ASCII case ignored
-unfoldable pub isNamed : List ℕ → ClauseName → RawClause → Bool
-isNamed s name f = sameFolded (nameOctets s f) (spelling name)
+unfoldable pub is_named : List ℕ → ClauseName → RawClause → Bool
+is_named s name f = same_folded (name_octets s f) (spelling name)
 
 -- 7: a clause of another name
-unfoldable pub hasUnknown : List ℕ → List RawClause → Bool
-hasUnknown s fs = any (λ f. not (any (λ name. isNamed s name f) clauseNames)) fs
+unfoldable pub has_unknown : List ℕ → List RawClause → Bool
+has_unknown s fs = any (λ f. not (any (λ name. is_named s name f) clause_names)) fs
 
 -- 8: a duplicate clause
-unfoldable pub hasDuplicate : List ℕ → List RawClause → Bool
-hasDuplicate s fs = not (unique (λ f g. sameFolded (nameOctets s f) (nameOctets s g)) fs)
+unfoldable pub has_duplicate : List ℕ → List RawClause → Bool
+has_duplicate s fs = not (unique (λ f g. same_folded (name_octets s f) (name_octets s g)) fs)
 
-abbrev pub asClause : Option RawClause → Clause
-asClause none = Absent
-asClause (some f) = Present (f .start) (f .len)
+abbrev pub as_clause : Option RawClause → Clause
+as_clause none = Absent
+as_clause (some f) = Present f.start f.len
 
 -- the request that clauses make
-unfoldable pub requestOf : List ℕ → List RawClause → Request
-requestOf s fs = requestBy (λ name. asClause (first (isNamed s name) fs))
+unfoldable pub request_of : List ℕ → List RawClause → Request
+request_of s fs = request_by (λ name. as_clause (first (is_named s name) fs))
 
-abbrev pub judgedClauses : List ℕ → Option (List RawClause) → Try Request
-judgedClauses s none = refused FilterShape
-judgedClauses s (some fs) = refusedIf (hasUnknown s fs) UnknownClause (refusedIf (hasDuplicate s fs) DuplicateClause (good (requestOf s fs)))
+abbrev pub judged_clauses : List ℕ → Option (List RawClause) → Try Request
+judged_clauses s none = refused FilterShape
+judged_clauses s (some fs) = refused_if (has_unknown s fs) UnknownClause (refused_if (has_duplicate s fs) DuplicateClause (good (request_of s fs)))
 
-unfoldable pub requestIn : List ℕ → Try Request
-requestIn s = refusedIf (ltb filterLimit (length s)) FilterLength (judgedClauses s (clausesOf s))
+unfoldable pub request_in : List ℕ → Try Request
+request_in s = refused_if (ltb filter_limit (length s)) FilterLength (judged_clauses s (clauses_of s))
 
 -- the answer of taking a filter apart, as the enum that the call returns
-abbrev pub takenAs : Try Request → Taken
-takenAs (refused r) = taken.Refused r
-takenAs (good q) = taken.Request q
+abbrev pub taken_as : Try Request → Taken
+taken_as (refused r) = taken.Refused r
+taken_as (good q) = taken.Request q
 
 -- document 01's number of it, and the request, none with a refusal
-abbrev pub takenNumber : Taken → ℕ
-takenNumber (taken.Request q) = 0
-takenNumber (taken.Refused r) = number r
+abbrev pub taken_number : Taken → ℕ
+taken_number (taken.Request q) = 0
+taken_number (taken.Refused r) = number r
 
-abbrev pub takenRequest : Taken → Option Request
-takenRequest (taken.Request q) = some q
-takenRequest (taken.Refused r) = none
+abbrev pub taken_request : Taken → Option Request
+taken_request (taken.Request q) = some q
+taken_request (taken.Refused r) = none
 
 -- what `take_apart` promises
 pub record TakeApartPromise (filter : List ℕ) (r : Taken) : Type 0 where
-  pub same : r ≡ takenAs (requestIn filter)
-  pub numbered : takenNumber r ≡ numberOf (requestIn filter)
-  pub given : takenRequest r ≡ valueOf (requestIn filter)
+  pub same : r ≡ taken_as (request_in filter)
+  pub numbered : taken_number r ≡ number_of (request_in filter)
+  pub given : taken_request r ≡ value_of (request_in filter)

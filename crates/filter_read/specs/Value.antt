@@ -1,81 +1,76 @@
 -- Document 01, "Answer numbers" 9: the values of a request's clauses, judged over the whole filter. Document 02, #101: the version asked.
-use mathlib.Core.Path.{_≡_}
-use mathlib.Core.Bool.{Bool, not, _||_}
-use mathlib.Core.List.{List}
-use mathlib.Core.Option.{Option, none, some, Option·map, Option·getD}
-use Prim.Native.Nat.{ℕ}
-use lib.Dec.{eqb}
-use lib.ListN.{length}
-use Rattle·answers.specs.declared.Refusal.the-variants.{ClauseValue}
-use Rattle·answers.specs.{Refusal.number, Wire.NETLOGON-NT-VERSION-1}
-use Rattle·answers.specs.Try.{Try, refused, good, refusedIf, _>>=_, numberOf, valueOf}
-use Rattle·octets.specs.{Lists.holds, Number.little}
-use Rattle·unicode.specs.UserName.{isUserName}
-use Rattle·filter_read·specs.specs.{declared.value.Judged.Judged, Taken.requestIn}
-use Rattle·filter_read·specs.specs.declared.value.Judged.the-variants as judged
-use Rattle·filter.specs.{declared.request.Request.Request, Request.octetsOf}
+use Rattle.std.specs.Prelude.{◌≡◌, Bool, not, ◌||◌, List, ℕ, eqb, length}
+use Rattle.std.proofs.Math.Option.{Option, none, some, map, get_or}
+use Rattle.answers.specs.declared.Refusal.TheVariants.{ClauseValue}
+use Rattle.answers.specs.{Refusal.number, Wire.netlogon_nt_version_1}
+use Rattle.answers.specs.Try.{Try, refused, good, refused_if, ◌>>=◌, number_of, value_of}
+use Rattle.octets.specs.{Lists.holds, Number.little}
+use Rattle.unicode_text.specs.UserName.{is_user_name}
+use Rattle.filter_read.specs.{declared.value.Judged.Judged, Taken.request_in}
+use Rattle.filter_read.specs.declared.value.Judged.TheVariants as judged
+use Rattle.filter.specs.{declared.request.Request.Request, Request.octets_of}
 
 -- what the clauses of a request say that the answer goes by: absent, or their octets; an absent AAC is 0
 pub record Ping : Type 0 where
-  pub dnsDomain : Option (List ℕ)
+  pub dns_domain_lem : Option (List ℕ)
   pub user : Option (List ℕ)
   pub aac : ℕ
-  pub domainSid : Option (List ℕ)
-  pub domainGuid : Option (List ℕ)
+  pub domain_sid_lem : Option (List ℕ)
+  pub domain_guid_lem : Option (List ℕ)
   pub version : ℕ
 
 -- the octets of a number are four
-abbrev pub isNumber : List ℕ → Bool
-isNumber s = eqb (length s) 4
+abbrev pub is_number : List ℕ → Bool
+is_number s = eqb (length s) 4
 
 -- 9: NtVer or AAC not 4 octets; User over 63, not UTF-8, or holding a zero octet
-unfoldable pub wrongValue : List ℕ → Request → Bool
-wrongValue s r =
-    holds (λ x. not (isNumber x)) (octetsOf s (r .«nt_ver»))
-    || holds (λ x. not (isNumber x)) (octetsOf s (r .«aac»))
-    || holds (λ x. not (isUserName x)) (octetsOf s (r .«user»))
+unfoldable pub wrong_value_lem : List ℕ → Request → Bool
+wrong_value_lem s r =
+    holds (λ x. not (is_number x)) (octets_of s r.nt_ver)
+    || holds (λ x. not (is_number x)) (octets_of s r.«aac»)
+    || holds (λ x. not (is_user_name x)) (octets_of s r.«user»)
 
 -- the version asked: the number of NtVer, and 1 where it is absent
-unfoldable pub versionAsked : List ℕ → Request → ℕ
-versionAsked s r = Option·getD (Option·map little (octetsOf s (r .«nt_ver»))) NETLOGON-NT-VERSION-1
+unfoldable pub version_asked : List ℕ → Request → ℕ
+version_asked s r = get_or (map little (octets_of s r.nt_ver)) netlogon_nt_version_1
 
-abbrev pub pingOf : List ℕ → Request → ℕ → Ping
-pingOf s r v =
+abbrev pub ping_of : List ℕ → Request → ℕ → Ping
+ping_of s r v =
     record {
-      dnsDomain = octetsOf s (r .«dns_domain»);
-      user = octetsOf s (r .«user»);
-      aac = Option·getD (Option·map little (octetsOf s (r .«aac»))) 0;
-      domainSid = octetsOf s (r .«domain_sid»);
-      domainGuid = octetsOf s (r .«domain_guid»);
+      dns_domain_lem = octets_of s r.dns_domain;
+      user = octets_of s r.«user»;
+      aac = get_or (map little (octets_of s r.«aac»)) 0;
+      domain_sid_lem = octets_of s r.domain_sid;
+      domain_guid_lem = octets_of s r.domain_guid;
       version = v;
     }
 
-unfoldable pub pingIn : List ℕ → Request → Try Ping
-pingIn s r = refusedIf (wrongValue s r) ClauseValue (good (pingOf s r (versionAsked s r)))
+unfoldable pub ping_in : List ℕ → Request → Try Ping
+ping_in s r = refused_if (wrong_value_lem s r) ClauseValue (good (ping_of s r (version_asked s r)))
 
 -- 5 to 9: the ping of a filter
-unfoldable pub pingFrom : List ℕ → Try Ping
-pingFrom filter = do
-  r ← requestIn filter
-  pingIn filter r
+unfoldable pub ping_from : List ℕ → Try Ping
+ping_from filter = do
+  r ← request_in filter
+  ping_in filter r
 
 -- the answer of judging a request's values, as the enum that the call returns
-abbrev pub judgedValues : Try Ping → Judged
-judgedValues (refused r) = judged.Refused r
-judgedValues (good p) = judged.Version (p .version)
+abbrev pub judged_values : Try Ping → Judged
+judged_values (refused r) = judged.Refused r
+judged_values (good p) = judged.Version p.version
 
 -- document 01's number of it
-abbrev pub judgedNumber : Judged → ℕ
-judgedNumber (judged.Version v) = 0
-judgedNumber (judged.Refused r) = number r
+abbrev pub judged_number : Judged → ℕ
+judged_number (judged.Version v) = 0
+judged_number (judged.Refused r) = number r
 
 -- the version asked, none with a refusal
-abbrev pub judgedVersion : Judged → Option ℕ
-judgedVersion (judged.Version v) = some v
-judgedVersion (judged.Refused r) = none
+abbrev pub judged_version : Judged → Option ℕ
+judged_version (judged.Version v) = some v
+judged_version (judged.Refused r) = none
 
 -- what `judge_values` promises
 pub record JudgeValuesPromise (filter : List ℕ) (request : Request) (r : Judged) : Type 0 where
-  pub same : r ≡ judgedValues (pingIn filter request)
-  pub numbered : judgedNumber r ≡ numberOf (pingIn filter request)
-  pub given : judgedVersion r ≡ Option·map (λ p. p .version) (valueOf (pingIn filter request))
+  pub same : r ≡ judged_values (ping_in filter request)
+  pub numbered : judged_number r ≡ number_of (ping_in filter request)
+  pub given : judged_version r ≡ map (λ p. p.version) (value_of (ping_in filter request))

@@ -1,30 +1,25 @@
 // The ping of a filter, as it stands in the octets it came in.
-ghost use mathlib.Core.Path.{_≡_};
-ghost use mathlib.Core.Bool.{false};
-ghost use mathlib.Core.Option.{Option·map, Option·getD};
-ghost use Rattle·octets.specs.Number.{little};
-ghost use Rattle·filter.specs.Request.{octetsOf};
-ghost use Rattle·filter_gather.specs.Internal.Seen.{decoded};
-ghost use Rattle·filter_read·specs.specs.Value.{pingIn, pingFrom};
-ghost use Rattle·filter_read·specs.specs.Internal.RawPing.{triedPing};
-ghost use Rattle·filter_read·specs.specs.Internal.WrongValue.{wrongNumber};
-use crate::clauses::ClausesRead;
-use crate::clauses::read_clauses;
+ghost use Rattle.std.specs.Prelude.{◌≡◌, false};
+ghost use Rattle.std.proofs.Math.Option.{map, get_or};
+ghost use Rattle.octets.specs.Number.{little};
+ghost use Rattle.filter.specs.Request.{octets_of};
+ghost use Rattle.filter_gather.specs.Internal.Seen.{decoded};
+ghost use Rattle.filter_read.specs.Value.{ping_in, ping_from};
+ghost use Rattle.filter_read.specs.Internal.RawPing.{tried_ping};
+ghost use Rattle.filter_read.specs.Internal.WrongValue.{wrong_number};
+
+use crate::clauses::{ClausesRead, read_clauses};
 use crate::value::clause_number;
 use crate::wrong_value::has_wrong_value;
 use answers::Refusal;
 use answers::wire::NETLOGON_NT_VERSION_1;
 use filter::request::Clause;
-use filter_gather::seen::AAC;
-use filter_gather::seen::DNS_DOMAIN;
-use filter_gather::seen::DOMAIN_GUID;
-use filter_gather::seen::DOMAIN_SID;
-use filter_gather::seen::NT_VER;
-use filter_gather::seen::SEEN_COUNT;
-use filter_gather::seen::USER;
-use filter_gather::seen::clause_seen;
+use filter_gather::seen::{
+    AAC, DNS_DOMAIN, DOMAIN_GUID, DOMAIN_SID, NT_VER, SEEN_COUNT, USER, clause_seen,
+};
 
 // What the answer goes by: the clauses as stretches of a lent source, AAC and version as numbers.
+#[derive(Clone, Copy)]
 pub struct RawPing {
     pub dns_domain: Clause,
     pub user: Clause,
@@ -35,6 +30,7 @@ pub struct RawPing {
 }
 
 // What reading a filter gives: its ping, or 5 to 9.
+#[derive(Drop)]
 pub enum PingRead {
     Ping(RawPing),
     Refused(Refusal),
@@ -42,8 +38,8 @@ pub enum PingRead {
 
 // The number of a clause, once 9 was judged.
 fn number_in(s: &[u8], clause: Clause, absent: u32) -> u32
-    requires { ⌜ wrongNumber (now s) clause ≡ false ⌝ }
-    ensures { λ r. ⌜ r ≡ Option·getD (Option·map little (octetsOf (now (s .entry)) clause)) absent ⌝ }
+    requires { wrong_number s.now clause ≡ false }
+    ensures { result ≡ get_or (map little (octets_of s.now clause)) absent }
 {
     let Clause::Present { start, len } = clause else {
         return absent;
@@ -53,7 +49,7 @@ fn number_in(s: &[u8], clause: Clause, absent: u32) -> u32
 
 // The values of what was gathered, judged, and the ping that they make; an absent AAC is 0, an absent version 1.
 fn judged_ping(s: &[u8], seen: &[u32; SEEN_COUNT]) -> PingRead
-    ensures { λ r. ⌜ triedPing (now (s .entry)) r ≡ pingIn (now (s .entry)) (decoded (now (seen .entry)) .request) ⌝ }
+    ensures { tried_ping s.now result ≡ ping_in s.now (decoded seen.now).request }
 {
     let nt_ver = clause_seen(seen[NT_VER]);
     let aac = clause_seen(seen[AAC]);
@@ -73,7 +69,7 @@ fn judged_ping(s: &[u8], seen: &[u32; SEEN_COUNT]) -> PingRead
 
 // A filter taken apart and its values judged.
 pub fn read_ping(filter: &[u8]) -> PingRead
-    ensures { λ r. ⌜ triedPing (now (filter .entry)) r ≡ pingFrom (now (filter .entry)) ⌝ }
+    ensures { tried_ping filter.now result ≡ ping_from filter.now }
 {
     let mut seen = [0; SEEN_COUNT];
     match read_clauses(filter, &mut seen) {

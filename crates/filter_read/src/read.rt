@@ -1,15 +1,14 @@
 // A filter taken apart.
-ghost use mathlib.Core.Path.{_≡_};
-ghost use Rattle·filter_read·specs.specs.Taken.{takenNumber, TakeApartPromise};
-use crate::clauses::ClausesRead;
-use crate::clauses::read_clauses;
-use answers::Refusal;
-use answers::number_of;
+ghost use Rattle.std.specs.Prelude.{◌≡◌};
+ghost use Rattle.filter_read.specs.Taken.{taken_number, TakeApartPromise};
+
+use crate::clauses::{ClausesRead, read_clauses};
+use answers::{Refusal, number_of};
 use filter::request::Request;
-use filter_gather::seen::SEEN_COUNT;
-use filter_gather::seen::request_seen;
+use filter_gather::seen::{SEEN_COUNT, request_seen};
 
 // What taking a filter apart gives: 0 with the request, or 5 to 8.
+#[derive(Clone, Copy)]
 pub enum Taken {
     Request(Request),
     Refused(Refusal),
@@ -17,7 +16,7 @@ pub enum Taken {
 
 // Document 01's number of it.
 pub fn taken_number(taken: Taken) -> u8
-    ensures { λ r. ⌜ r ≡ takenNumber taken ⌝ }
+    ensures { result ≡ taken_number taken }
 {
     match taken {
         Taken::Request(_) => 0,
@@ -26,7 +25,7 @@ pub fn taken_number(taken: Taken) -> u8
 }
 
 pub fn take_apart(s: &[u8]) -> Taken
-    ensures { λ r. ⌜ TakeApartPromise (now (s .entry)) r ⌝ }
+    ensures { TakeApartPromise s.now result }
 {
     let mut seen = [0; SEEN_COUNT];
     match read_clauses(s, &mut seen) {

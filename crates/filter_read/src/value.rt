@@ -1,20 +1,19 @@
 // The values of a request's clauses, judged.
-ghost use mathlib.Core.Path.{_≡_};
-ghost use mathlib.Core.Bool.{true};
-ghost use mathlib.Core.Option.{Option·getD};
-ghost use Rattle·octets.specs.Lists.{cut};
-ghost use Rattle·octets.specs.Number.{little};
-ghost use Rattle·filter_read·specs.specs.Value.{isNumber, judgedNumber, judgedVersion, JudgeValuesPromise};
+ghost use Rattle.std.specs.Prelude.{◌≡◌, true};
+ghost use Rattle.std.proofs.Math.Option.{get_or};
+ghost use Rattle.octets.specs.Lists.{cut};
+ghost use Rattle.octets.specs.Number.{little};
+ghost use Rattle.filter_read.specs.Value.{is_number, judged_number, judged_version, JudgeValuesPromise};
+
 use crate::wrong_value::has_wrong_value;
-use answers::Refusal;
-use answers::number_of;
 use answers::wire::NETLOGON_NT_VERSION_1;
-use filter::request::Clause;
-use filter::request::Request;
+use answers::{Refusal, number_of};
+use filter::request::{Clause, Request};
 use octets::number::u32_at;
 use octets::part::part;
 
 // What judging a request's values gives: the version asked for, or 9.
+#[derive(Clone, Copy)]
 pub enum Judged {
     Version(u32),
     Refused(Refusal),
@@ -22,7 +21,7 @@ pub enum Judged {
 
 // Document 01's number of it.
 pub fn judged_number(judged: Judged) -> u8
-    ensures { λ r. ⌜ r ≡ judgedNumber judged ⌝ }
+    ensures { result ≡ judged_number judged }
 {
     match judged {
         Judged::Version(_) => 0,
@@ -32,7 +31,7 @@ pub fn judged_number(judged: Judged) -> u8
 
 // The version asked, 0 with a refusal.
 pub fn judged_version(judged: Judged) -> u32
-    ensures { λ r. ⌜ r ≡ Option·getD (judgedVersion judged) 0 ⌝ }
+    ensures { result ≡ get_or (judged_version judged) 0 }
 {
     match judged {
         Judged::Version(version) => version,
@@ -42,15 +41,15 @@ pub fn judged_version(judged: Judged) -> u32
 
 // The number that the octets of NtVer or AAC make.
 pub fn clause_number(s: &[u8], start: usize, len: usize) -> u32
-    requires { ⌜ isNumber (cut (now s) start len) ≡ true ⌝ }
-    ensures { λ r. ⌜ r ≡ little (cut (now (s .entry)) start len) ⌝ }
+    requires { is_number (cut s.now start len) ≡ true }
+    ensures { result ≡ little (cut s.now start len) }
 {
     u32_at(part(s, start, len), 0)
 }
 
 // The values of a request: 9 over the whole filter, else the version asked for, 1 where none is given.
 pub fn judge_values(s: &[u8], request: Request) -> Judged
-    ensures { λ r. ⌜ JudgeValuesPromise (now (s .entry)) request r ⌝ }
+    ensures { JudgeValuesPromise s.now request result }
 {
     let nt_ver = request.nt_ver;
     let aac = request.aac;

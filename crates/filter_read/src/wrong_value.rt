@@ -1,17 +1,17 @@
 // 9: clauses whose values are wrong.
-ghost use mathlib.Core.Path.{_≡_};
-ghost use mathlib.Core.Bool.{_||_};
-ghost use Rattle·filter_read·specs.specs.Internal.WrongValue.{wrongNumber, wrongUser};
+ghost use Rattle.std.specs.Prelude.{◌≡◌, ◌||◌};
+ghost use Rattle.filter_read.specs.Internal.WrongValue.{wrong_number, wrong_user};
+
 use filter::request::Clause;
 use octets::part::part;
-use unicode::user_name::is_user_name;
+use unicode_text::user_name::is_user_name;
 
 // The octets of NtVer and of AAC.
 const NUMBER_WIDTH: usize = 4;
 
 // A clause that is present and is no number of four octets.
 fn is_wrong_number(s: &[u8], clause: Clause) -> bool
-    ensures { λ r. ⌜ r ≡ wrongNumber (now (s .entry)) clause ⌝ }
+    ensures { result ≡ wrong_number s.now clause }
 {
     let Clause::Present { start, len } = clause else {
         return false;
@@ -22,7 +22,7 @@ fn is_wrong_number(s: &[u8], clause: Clause) -> bool
 
 // A clause that is present and is no user's name: over 63 octets, not UTF-8, or holding a zero octet.
 fn is_wrong_user(s: &[u8], clause: Clause) -> bool
-    ensures { λ r. ⌜ r ≡ wrongUser (now (s .entry)) clause ⌝ }
+    ensures { result ≡ wrong_user s.now clause }
 {
     let Clause::Present { start, len } = clause else {
         return false;
@@ -33,7 +33,7 @@ fn is_wrong_user(s: &[u8], clause: Clause) -> bool
 
 // 9, over the clauses whose values are judged.
 pub fn has_wrong_value(s: &[u8], nt_ver: Clause, aac: Clause, user: Clause) -> bool
-    ensures { λ r. ⌜ r ≡ (wrongNumber (now (s .entry)) «nt_ver» || wrongNumber (now (s .entry)) aac || wrongUser (now (s .entry)) user) ⌝ }
+    ensures { result ≡ (wrong_number s.now nt_ver || wrong_number s.now aac || wrong_user s.now user) }
 {
     is_wrong_number(s, nt_ver) | is_wrong_number(s, aac) | is_wrong_user(s, user)
 }

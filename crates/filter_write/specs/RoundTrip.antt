@@ -1,25 +1,22 @@
 -- Document 01, "The filter": "Taking apart what it wrote gives the same clauses." The statements.
-use mathlib.Core.Path.{_≡_}
-use mathlib.Core.List.{List}
-use Prim.Native.Nat.{ℕ}
-use lib.ListN.{take}
-use Rattle·answers.specs.Try.{good}
-use Rattle·filter.specs.{declared.request.ClauseName.ClauseName, declared.request.Request.Request, Request.clause, Request.octetsOf}
-use Rattle·filter_read.specs.{declared.read.Taken.Taken, Taken.requestIn, Taken.TakeApartPromise}
-use Rattle·filter_read.specs.declared.read.Taken.the-variants as taken
-use Rattle·answers.specs.declared.written.Written.{Written}
-use Rattle·answers.specs.declared.written.Written.the-variants as written
-use Rattle·filter_write·specs.specs.Write.{filterFor, WriteFilterReturns, WriteFilterLeaves}
+use Rattle.std.specs.Prelude.{◌≡◌, List, ℕ, take}
+use Rattle.answers.specs.Try.{good}
+use Rattle.filter.specs.{declared.request.ClauseName.ClauseName, declared.request.Request.Request, Request.clause, Request.octets_of}
+use Rattle.filter_read.specs.{declared.read.Taken.Taken, Taken.request_in, Taken.TakeApartPromise}
+use Rattle.filter_read.specs.declared.read.Taken.TheVariants as taken
+use Rattle.answers.specs.declared.written.Written.{Written}
+use Rattle.answers.specs.declared.written.Written.TheVariants as written
+use Rattle.filter_write.specs.Write.{filter_for, WriteFilterReturns, WriteFilterLeaves}
 
 -- the same clauses: for each name both are absent, or both are present with the same octets
 abbrev pub SameClauses : List ℕ → Request → List ℕ → Request → Type 0
-SameClauses s q source r = (name : ClauseName) → octetsOf s (clause q name) ≡ octetsOf source (clause r name)
+SameClauses s q source r = (name : ClauseName) → octets_of s (clause q name) ≡ octets_of source (clause r name)
 
 -- of the definitions: for all clauses and rooms where the writer refuses nothing, its octets are taken apart to the same clauses
 abbrev pub RoundTrip : Type 0
 RoundTrip =
-    (source : List ℕ) (r : Request) (room : ℕ) (octets : List ℕ) → filterFor source r room ≡ good octets
-    → (q : Request) × (requestIn octets ≡ good q) × SameClauses octets q source r
+    (source : List ℕ) (r : Request) (room : ℕ) (octets : List ℕ) → filter_for source r room ≡ good octets
+    → (q : Request) × (request_in octets ≡ good q) × SameClauses octets q source r
 
 -- of the two calls, by what their contracts ensure: where `write_filter` answers with a length, `take_apart` of that many octets of the buffer answers with the same clauses
 abbrev pub CallsRoundTrip : Type 0

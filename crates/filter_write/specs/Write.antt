@@ -1,29 +1,24 @@
 -- Document 01, "The filter": the writer, with 6, 5 and 19.
-use Rattle·octets.specs.{Buffer.over, Lists.any}
-use mathlib.Core.Path.{_≡_}
-use mathlib.Core.Bool.{not}
-use mathlib.Core.List.{List}
-use Prim.Native.Nat.{ℕ}
-use lib.Dec.{ltb}
-use lib.ListN.{length}
-use Rattle·answers.specs.declared.Refusal.the-variants.{FilterShape, FilterLength, NoRoom}
-use Rattle·answers.specs.Try.{Try, good, refusedIf}
-use Rattle·answers.specs.{declared.written.Written.Written, Written.writtenOctets, Written.WrittenOf}
-use Rattle·filter.specs.declared.request.Request.{Request}
-use Rattle·filter_position.specs.Filter.{filterLimit}
-use Rattle·filter_octets.specs.Octets.{filterOctets}
-use Rattle·filter.specs.Request.{clauseNames, clause, isPresent}
+use Rattle.octets.specs.{Buffer.over, Lists.any}
+use Rattle.std.specs.Prelude.{◌≡◌, not, List, ℕ, ltb, length}
+use Rattle.answers.specs.declared.Refusal.TheVariants.{FilterShape, FilterLength, NoRoom}
+use Rattle.answers.specs.Try.{Try, good, refused_if}
+use Rattle.answers.specs.{declared.written.Written.Written, Written.written_octets, Written.WrittenOf}
+use Rattle.filter.specs.declared.request.Request.{Request}
+use Rattle.filter_position.specs.Filter.{filter_limit}
+use Rattle.filter_octets.specs.Octets.{filter_octets}
+use Rattle.filter.specs.Request.{clause_names, clause, is_present}
 
-unfoldable pub filterFor : List ℕ → Request → ℕ → Try (List ℕ)
-filterFor source r room =
-    let octets = filterOctets source r in
-    refusedIf (not (any (λ name. isPresent (clause r name)) clauseNames)) FilterShape
-    (refusedIf (ltb filterLimit (length octets)) FilterLength
-    (refusedIf (ltb room (length octets)) NoRoom (good octets)))
+unfoldable pub filter_for : List ℕ → Request → ℕ → Try (List ℕ)
+filter_for source r room =
+    let octets = filter_octets source r in
+    refused_if (not (any (λ name. is_present (clause r name)) clause_names)) FilterShape
+    (refused_if (ltb filter_limit (length octets)) FilterLength
+    (refused_if (ltb room (length octets)) NoRoom (good octets)))
 
 -- what `write_filter` promises to return, and to leave in the buffer
 abbrev pub WriteFilterReturns : List ℕ → Request → List ℕ → Written → Type 0
-WriteFilterReturns source request before = WrittenOf (filterFor source request (length before))
+WriteFilterReturns source request before = WrittenOf (filter_for source request (length before))
 
 abbrev pub WriteFilterLeaves : List ℕ → Request → List ℕ → List ℕ → Type 0
-WriteFilterLeaves source request before after = after ≡ over (writtenOctets (filterFor source request (length before))) before
+WriteFilterLeaves source request before after = after ≡ over (written_octets (filter_for source request (length before))) before

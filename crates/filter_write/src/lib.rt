@@ -1,2 +1,4 @@
 // A filter, written: document 01, "The filter".
+#![tactic(auto)]
+
 pub mod write;

@@ -1,16 +1,14 @@
 // Octets and numbers written into a lent buffer that has the room: at its front, or at an offset.
-ghost use mathlib.Core.Path.{_≡_};
-ghost use Prim.Native.Nat.{_+_, _≤_};
-ghost use lib.ListN.{length};
-ghost use Rattle·octets.specs.Buffer.{over};
-ghost use Rattle·octets.specs.Number.{littleOctets};
-ghost use Rattle·lent·specs.specs.Internal.OverAt.{overAt};
+ghost use Rattle.std.specs.Prelude.{◌≡◌, ◌+◌, ◌≤◌, length};
+ghost use Rattle.octets.specs.Buffer.{over};
+ghost use Rattle.octets.specs.Number.{little_octets};
+ghost use Rattle.lent.specs.Internal.OverAt.{over_at};
 
 // Octets at the front of a buffer.
 pub fn put_octets(out: &mut [u8], s: &[u8]) -> usize
-    requires { ⌜ length (now s) ≤ length (now out) ⌝ }
-    ensures { λ r. ⌜ r ≡ length (now (s .entry)) ⌝ }
-    ensures { λ _. ⌜ now (out .exit) ≡ over (now (s .entry)) (now (out .entry)) ⌝ }
+    requires { length s.now ≤ length out.old }
+    ensures value { result ≡ length s.now }
+    ensures out_after { out.new ≡ over s.now out.old }
 {
     let mut i = 0;
     while i < s.len() {
@@ -22,9 +20,9 @@ pub fn put_octets(out: &mut [u8], s: &[u8]) -> usize
 
 // A number in two octets, little-endian.
 pub fn put_u16(out: &mut [u8], n: u16) -> usize
-    requires { ⌜ 2 ≤ length (now out) ⌝ }
-    ensures { λ r. ⌜ r ≡ 2 ⌝ }
-    ensures { λ _. ⌜ now (out .exit) ≡ over (littleOctets 2 n) (now (out .entry)) ⌝ }
+    requires { 2 ≤ length out.old }
+    ensures value { result ≡ 2 }
+    ensures out_after { out.new ≡ over (little_octets 2 n) out.old }
 {
     out[0] = (n % 256) as u8;
     out[1] = (n / 256 % 256) as u8;
@@ -33,9 +31,9 @@ pub fn put_u16(out: &mut [u8], n: u16) -> usize
 
 // A number in four octets, little-endian.
 pub fn put_u32(out: &mut [u8], n: u32) -> usize
-    requires { ⌜ 4 ≤ length (now out) ⌝ }
-    ensures { λ r. ⌜ r ≡ 4 ⌝ }
-    ensures { λ _. ⌜ now (out .exit) ≡ over (littleOctets 4 n) (now (out .entry)) ⌝ }
+    requires { 4 ≤ length out.old }
+    ensures value { result ≡ 4 }
+    ensures out_after { out.new ≡ over (little_octets 4 n) out.old }
 {
     out[0] = (n % 256) as u8;
     out[1] = (n / 256 % 256) as u8;
@@ -46,25 +44,25 @@ pub fn put_u32(out: &mut [u8], n: u32) -> usize
 
 // The same at an offset; the result is the offset after what was written.
 pub fn put_octets_at(out: &mut [u8], at: usize, s: &[u8]) -> usize
-    requires { ⌜ at + length (now s) ≤ length (now out) ⌝ }
-    ensures { λ r. ⌜ r ≡ at + length (now (s .entry)) ⌝ }
-    ensures { λ _. ⌜ now (out .exit) ≡ overAt at (now (s .entry)) (now (out .entry)) ⌝ }
+    requires { at + length s.now ≤ length out.old }
+    ensures value { result ≡ at + length s.now }
+    ensures out_after { out.new ≡ over_at at s.now out.old }
 {
     at + put_octets(&mut out[at..], s)
 }
 
 pub fn put_u16_at(out: &mut [u8], at: usize, n: u16) -> usize
-    requires { ⌜ at + 2 ≤ length (now out) ⌝ }
-    ensures { λ r. ⌜ r ≡ at + 2 ⌝ }
-    ensures { λ _. ⌜ now (out .exit) ≡ overAt at (littleOctets 2 n) (now (out .entry)) ⌝ }
+    requires { at + 2 ≤ length out.old }
+    ensures value { result ≡ at + 2 }
+    ensures out_after { out.new ≡ over_at at (little_octets 2 n) out.old }
 {
     at + put_u16(&mut out[at..], n)
 }
 
 pub fn put_u32_at(out: &mut [u8], at: usize, n: u32) -> usize
-    requires { ⌜ at + 4 ≤ length (now out) ⌝ }
-    ensures { λ r. ⌜ r ≡ at + 4 ⌝ }
-    ensures { λ _. ⌜ now (out .exit) ≡ overAt at (littleOctets 4 n) (now (out .entry)) ⌝ }
+    requires { at + 4 ≤ length out.old }
+    ensures value { result ≡ at + 4 }
+    ensures out_after { out.new ≡ over_at at (little_octets 4 n) out.old }
 {
     at + put_u32(&mut out[at..], n)
 }

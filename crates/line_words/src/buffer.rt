@@ -1,9 +1,7 @@
 // The buffers that lines lend to a call.
-ghost use mathlib.Core.Path.{_≡_};
-ghost use Prim.Native.Nat.{_≤_};
-ghost use lib.ListN.{length};
-use crate::words::is_number;
-use crate::words::number_of;
+ghost use Rattle.std.specs.Prelude.{◌≡◌, ◌≤◌, length};
+
+use crate::words::{is_number, number_of};
 
 // The most room that a line may lend.
 const MOST_ROOM: u64 = 4096;
@@ -14,7 +12,7 @@ pub fn is_room(text: &[u8]) -> bool {
 
 // The octets that a line lends by a word that is a room.
 pub fn room_of(text: &[u8]) -> usize
-    ensures { λ r. ⌜ r ≤ 4096 ⌝ }
+    ensures { result ≤ 4096 }
 {
     let room = number_of(text);
     if MOST_ROOM < room {
@@ -25,7 +23,7 @@ pub fn room_of(text: &[u8]) -> usize
 
 // A lent buffer before a call: A5h in every octet.
 pub fn filled() -> [u8; 4096]
-    ensures { λ r. ⌜ 4096 ≡ length r ⌝ }
+    ensures { 4096 ≡ length result }
 {
     [0xA5; 4096]
 }

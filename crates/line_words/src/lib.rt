@@ -1,4 +1,6 @@
 // Words of vector lines: what they stand for, the buffers that they lend, and the words of an answer.
+#![tactic(auto)]
+
 pub mod buffer;
 pub mod text;
 pub mod words;

@@ -1,13 +1,13 @@
 // Texts: `=` and two digits for each octet.
 use crate::words::word;
-use console::digits::all_hex_digits;
-use console::digits::decode;
+use console::digits::{all_hex_digits, decode};
 use console::field::field_start;
-use console::say::say;
-use console::say::say_hex;
+use console::say::{say, say_hex};
 use octets::part::part;
 use octets::text::same_octets;
 use reader::field::Stretch;
+use std::io;
+use std::io::Write;
 
 pub fn is_text(text: &[u8]) -> bool {
     let digits = part(text, 1, text.len());
@@ -25,7 +25,7 @@ pub fn take_text(line: &[u8], number: usize, source: &mut [u8]) -> Stretch {
     Stretch { start, len }
 }
 
-pub fn say_text(octets: &[u8]) {
-    say(b" =");
-    say_hex(octets);
+pub fn say_text<W: Write>(to: &mut W, octets: &[u8]) -> io::Result<()> {
+    say(to, b" =")?;
+    say_hex(to, octets)
 }

@@ -1,16 +1,11 @@
 // Words of a line, and of its answer.
-use answers::written::Written;
-use answers::written::written_length;
-use answers::written::written_number;
-use console::digits::Decimal;
-use console::digits::all_hex_digits;
-use console::digits::decimal_of;
-use console::digits::decode;
+use answers::written::{Written, written_length, written_number};
+use console::digits::{Decimal, all_hex_digits, decimal_of, decode};
 use console::field::field;
-use console::say::say;
-use console::say::say_hex;
-use console::say::say_number;
+use console::say::{say, say_hex, say_number};
 use octets::number::wide;
+use std::io;
+use std::io::Write;
 
 pub fn word(line: &[u8], number: usize) -> &[u8] {
     field(line, b' ', number)
@@ -59,37 +54,43 @@ pub fn number_of(text: &[u8]) -> u64 {
 }
 
 // A line of another shape, or of a kind that no call answers.
-pub fn say_unknown() {
-    say(b"?");
+pub fn say_unknown<W: Write>(to: &mut W) -> io::Result<()> {
+    say(to, b"?")
 }
 
 // The first words of an answer: the kind of its line, and numbers.
-pub fn say_numbers(kind: &[u8], numbers: &[u64]) {
-    say(kind);
+pub fn say_numbers<W: Write>(to: &mut W, kind: &[u8], numbers: &[u64]) -> io::Result<()> {
+    say(to, kind)?;
     let mut i = 0;
     while i < numbers.len() {
-        say(b" ");
-        say_number(numbers[i]);
+        say(to, b" ")?;
+        say_number(to, numbers[i])?;
         i += 1;
     }
+    Ok(())
 }
 
 // Octets as a word: none at all is `-`.
-pub fn say_octets(octets: &[u8]) {
+pub fn say_octets<W: Write>(to: &mut W, octets: &[u8]) -> io::Result<()> {
     if octets.len() == 0 {
-        say(b" -");
-        return;
+        say(to, b" -")?;
+        return Ok(());
     }
-    say(b" ");
-    say_hex(octets);
+    say(to, b" ")?;
+    say_hex(to, octets)
 }
 
 // The answer of a call that writes, and the buffer that was lent to it.
-pub fn say_written(kind: &[u8], written: Written, out: &[u8]) {
+pub fn say_written<W: Write>(
+    to: &mut W,
+    kind: &[u8],
+    written: Written,
+    out: &[u8],
+) -> io::Result<()> {
     let numbers = [
         written_number(written) as u64,
         written_length(written) as u64,
     ];
-    say_numbers(kind, &numbers);
-    say_octets(out);
+    say_numbers(to, kind, &numbers)?;
+    say_octets(to, out)
 }

@@ -1,106 +1,117 @@
 // The filter that the arguments ask with: written from clauses, or given as it is.
-use crate::asked::AFTER_CLIENT;
-use crate::asked::ASKED_SIZE;
-use crate::asked::Asked;
-use crate::asked::WORD_SIZE;
-use crate::asked::hex_asked;
-use crate::asked::is_asked;
-use crate::asked::is_misplaced;
+use crate::asked::{AFTER_CLIENT, ASKED_SIZE, Asked, WORD_SIZE, hex_asked, is_asked, is_misplaced};
 use answers::written::Written;
-use arguments::clause::ClauseRead;
-use arguments::clause::SOURCE_SIZE;
-use arguments::clause::read_clause;
-use arguments::complaint::complain;
-use arguments::complaint::complain_of;
-use arguments::word::Word;
-use arguments::word::take_named;
-use filter::request::Request;
-use filter::request::no_clauses;
+use arguments::clause::{ClauseRead, SOURCE_SIZE, read_clause};
+use arguments::complaint::{complain, complain_of};
+use arguments::word::{Word, has_word, take_named};
+use filter::request::{Request, no_clauses};
 use filter_write::write::write_filter;
 use octets::part::part;
+use std::env::Env;
+use std::io;
+use std::io::Write;
 
+#[derive(Drop)]
 enum RequestAsked {
     Bad,
     Request(Request),
 }
 
-fn complain_of_clause(read: ClauseRead, clause: &[u8]) {
+fn complain_of_clause<W: Write>(err: &mut W, read: ClauseRead, clause: &[u8]) -> io::Result<()> {
     match read {
-        ClauseRead::NoEquals => complain_of(b"not CLAUSE=VALUE", clause),
+        ClauseRead::NoEquals => complain_of(err, b"not CLAUSE=VALUE", clause),
         ClauseRead::UnknownName => complain_of(
+            err,
             b"no clause is called so (DnsDomain, Host, DnsHostName, User, AAC, DomainSid, DomainGuid, NtVer are)",
             clause,
         ),
-        ClauseRead::Twice => complain_of(b"a clause of this name is given twice", clause),
+        ClauseRead::Twice => complain_of(err, b"a clause of this name is given twice", clause),
         ClauseRead::BadNumber => complain_of(
+            err,
             b"NtVer and AAC take a number, as 6 or 0x10, or octets, as \\06\\00\\00\\00",
             clause,
         ),
-        ClauseRead::BadEscape => complain_of(b"a backslash takes two hex digits after it", clause),
-        ClauseRead::TooLong => complain_of(b"longer than any filter", clause),
-        ClauseRead::Read(_) => {}
+        ClauseRead::BadEscape => complain_of(
+            err,
+            b"a backslash takes two hex digits after it",
+            clause,
+        ),
+        ClauseRead::TooLong => complain_of(err, b"longer than any filter", clause),
+        ClauseRead::Read(_) => Ok(()),
     }
 }
 
 // The clauses with that of one more argument.
-fn with_argument(number: usize, source: &mut [u8], request: Request) -> RequestAsked {
+fn with_argument<E: Env, W: Write>(
+    env: &E,
+    err: &mut W,
+    number: usize,
+    source: &mut [u8],
+    request: Request,
+) -> io::Result<RequestAsked> {
     let mut text = [0u8; WORD_SIZE];
-    let Word::Length(len) = take_named(number, b"a clause", &mut text) else {
-        return RequestAsked::Bad;
+    let Word::Length(len) = take_named(env, err, number, b"a clause", &mut text)? else {
+        return Ok(RequestAsked::Bad);
     };
     let clause = part(&text, 0, len);
-    if is_misplaced(clause) {
-        return RequestAsked::Bad;
+    if is_misplaced(err, clause)? {
+        return Ok(RequestAsked::Bad);
     }
     let read = read_clause(clause, source, request);
     let ClauseRead::Read(longer) = read else {
-        complain_of_clause(read, clause);
-        return RequestAsked::Bad;
+        complain_of_clause(err, read, clause)?;
+        return Ok(RequestAsked::Bad);
     };
-    RequestAsked::Request(longer)
+    Ok(RequestAsked::Request(longer))
 }
 
 // The clauses of the arguments from the first clause on.
-fn request_asked(source: &mut [u8]) -> RequestAsked {
-    let count = os::arg_count();
+fn request_asked<E: Env, W: Write>(
+    env: &E,
+    err: &mut W,
+    source: &mut [u8],
+) -> io::Result<RequestAsked> {
     let mut request = no_clauses();
-    let mut i = AFTER_CLIENT;
-    while i < count {
-        let RequestAsked::Request(longer) = with_argument(i, source, request) else {
-            return RequestAsked::Bad;
+    for i in AFTER_CLIENT..usize::MAX {
+        if !has_word(env, i) {
+            break;
+        }
+        let RequestAsked::Request(longer) = with_argument(env, err, i, source, request)? else {
+            return Ok(RequestAsked::Bad);
         };
         request = longer;
-        i += 1;
     }
-    RequestAsked::Request(request)
+    Ok(RequestAsked::Request(request))
 }
 
 // Clauses that no filter has room for ask with one that is too long: it gets its number, where the table gets none.
-fn written_filter(out: &mut [u8]) -> Asked {
-    if os::arg_count() <= AFTER_CLIENT {
-        complain(b"no clause is given\n");
-        return Asked::Bad;
+fn written_filter<E: Env, W: Write>(env: &E, err: &mut W, out: &mut [u8]) -> io::Result<Asked> {
+    if !has_word(env, AFTER_CLIENT) {
+        complain(err, b"no clause is given\n")?;
+        return Ok(Asked::Bad);
     }
     let mut source = [0u8; SOURCE_SIZE];
-    let RequestAsked::Request(request) = request_asked(&mut source) else {
-        return Asked::Bad;
+    let RequestAsked::Request(request) = request_asked(env, err, &mut source)? else {
+        return Ok(Asked::Bad);
     };
     match write_filter(&source, request, out) {
-        Written::Length(len) => Asked::Octets(len),
-        Written::Refused(_) => Asked::Octets(ASKED_SIZE),
+        Written::Length(len) => Ok(Asked::Octets(len)),
+        Written::Refused(_) => Ok(Asked::Octets(ASKED_SIZE)),
     }
 }
 
 // Puts the filter at the front of out.
-pub fn filter_asked(out: &mut [u8]) -> Asked {
-    if !is_asked(b"--filter") {
-        return written_filter(out);
+pub fn filter_asked<E: Env, W: Write>(env: &E, err: &mut W, out: &mut [u8]) -> io::Result<Asked> {
+    if !is_asked(env, b"--filter") {
+        return written_filter(env, err, out);
     }
-    if AFTER_CLIENT + 2 < os::arg_count() {
-        complain(b"no argument is taken after --filter HEX\n");
-        return Asked::Bad;
+    if has_word(env, AFTER_CLIENT + 2) {
+        complain(err, b"no argument is taken after --filter HEX\n")?;
+        return Ok(Asked::Bad);
     }
     hex_asked(
+        env,
+        err,
         AFTER_CLIENT + 1,
         b"--filter takes two hex digits for each octet",
         out,

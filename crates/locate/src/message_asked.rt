@@ -1,69 +1,65 @@
 // The mailslot message that the arguments after --mailslot ask with: written from words, or given as it is.
-use crate::asked::AFTER_CLIENT;
-use crate::asked::ASKED_SIZE;
-use crate::asked::Asked;
-use crate::asked::WORD_SIZE;
-use crate::asked::hex_asked;
+use crate::asked::{AFTER_CLIENT, ASKED_SIZE, Asked, WORD_SIZE, hex_asked};
 use answers::written::Written;
-use arguments::complaint::complain;
-use arguments::complaint::complain_of;
-use arguments::message_word::BITS;
-use arguments::message_word::COMPUTER;
-use arguments::message_word::MAILSLOT;
-use arguments::message_word::REPEAT;
-use arguments::message_word::SID;
-use arguments::message_word::TEXTS_SIZE;
-use arguments::message_word::USER;
-use arguments::message_word::VERSION;
-use arguments::message_word::WORD_COUNT;
-use arguments::message_word::WordRead;
-use arguments::message_word::read_word;
-use arguments::message_word::room_start;
-use arguments::word::Word;
-use arguments::word::position_of;
-use arguments::word::take_named;
-use arguments::word::take_word;
+use arguments::complaint::{complain, complain_of};
+use arguments::message_word::{
+    BITS, COMPUTER, MAILSLOT, REPEAT, SID, TEXTS_SIZE, USER, VERSION, WORD_COUNT, WordRead,
+    read_word, room_start,
+};
+use arguments::word::{Word, has_word, position_of, take_named, take_word};
 use mailslot::message::Message;
 use mailslot_write::write::write_message;
 use octets::part::part;
 use reader::field::Stretch;
+use std::env::Env;
+use std::io;
+use std::io::Write;
 
 const FIRST_WORD: usize = AFTER_CLIENT + 1;
 
+#[derive(Drop)]
 enum MessageAsked {
     Bad,
     Message(Message),
 }
 
-fn complain_of_word(read: WordRead, text: &[u8]) {
+fn complain_of_word<W: Write>(err: &mut W, read: WordRead, text: &[u8]) -> io::Result<()> {
     match read {
-        WordRead::NoEquals => complain_of(b"not WORD=VALUE", text),
+        WordRead::NoEquals => complain_of(err, b"not WORD=VALUE", text),
         WordRead::UnknownWord => complain_of(
+            err,
             b"no word of a message is called so (Repeat, Computer, User, Mailslot, Bits, Sid, Version are)",
             text,
         ),
-        WordRead::Twice => complain_of(b"this word is given twice", text),
+        WordRead::Twice => complain_of(err, b"this word is given twice", text),
         WordRead::BadNumber => complain_of(
+            err,
             b"Repeat, Bits and Version take a number, as 6 or 0x10, Repeat one up to 65535",
             text,
         ),
-        WordRead::BadEscape => complain_of(b"a backslash takes two hex digits after it", text),
-        WordRead::NotUtf8 => complain_of(b"Computer and User are texts in UTF-8", text),
-        WordRead::TooLong => complain_of(b"longer than any message", text),
-        WordRead::Read(_) => {}
+        WordRead::BadEscape => complain_of(err, b"a backslash takes two hex digits after it", text),
+        WordRead::NotUtf8 => complain_of(err, b"Computer and User are texts in UTF-8", text),
+        WordRead::TooLong => complain_of(err, b"longer than any message", text),
+        WordRead::Read(_) => Ok(()),
     }
 }
 
 // One more word than those that are given. What is wrong with it is told.
-fn word_asked(number: usize, source: &mut [u8], given: &[bool]) -> WordRead {
+fn word_asked<E: Env, W: Write>(
+    env: &E,
+    err: &mut W,
+    number: usize,
+    source: &mut [u8],
+    given: &[bool],
+) -> io::Result<WordRead> {
     let mut text = [0u8; WORD_SIZE];
-    let Word::Length(len) = take_named(number, b"a word", &mut text) else {
-        return WordRead::TooLong;
+    let Word::Length(len) = take_named(env, err, number, b"a word", &mut text)? else {
+        return Ok(WordRead::TooLong);
     };
     let word = part(&text, 0, len);
     let read = read_word(word, source, given);
-    complain_of_word(read, word);
-    read
+    complain_of_word(err, read, word)?;
+    Ok(read)
 }
 
 fn text_at(word: usize, len: usize) -> Stretch {
@@ -86,63 +82,72 @@ fn message_of(numbers: [u32; WORD_COUNT], lengths: [usize; WORD_COUNT]) -> Messa
 }
 
 // The message of the words: what is not given is empty, or 0.
-fn words_asked(source: &mut [u8]) -> MessageAsked {
-    let count = os::arg_count();
+fn words_asked<E: Env, W: Write>(
+    env: &E,
+    err: &mut W,
+    source: &mut [u8],
+) -> io::Result<MessageAsked> {
     let mut numbers = [0u32; WORD_COUNT];
     let mut lengths = [0usize; WORD_COUNT];
     let mut given = [false; WORD_COUNT];
-    let mut i = FIRST_WORD;
-    while i < count {
-        let WordRead::Read(one) = word_asked(i, source, &given) else {
-            return MessageAsked::Bad;
+    for i in FIRST_WORD..usize::MAX {
+        if !has_word(env, i) {
+            break;
+        }
+        let WordRead::Read(one) = word_asked(env, err, i, source, &given)? else {
+            return Ok(MessageAsked::Bad);
         };
         let word = one.word;
         if WORD_COUNT <= word {
-            return MessageAsked::Bad;
+            return Ok(MessageAsked::Bad);
         }
         numbers[word] = one.number;
         lengths[word] = one.len;
         given[word] = true;
-        i += 1;
     }
-    MessageAsked::Message(message_of(numbers, lengths))
+    Ok(MessageAsked::Message(message_of(numbers, lengths)))
 }
 
 // Words that no message can have ask with one that is too long: it gets its number, where the table gets none.
-fn written_message(out: &mut [u8]) -> Asked {
+fn written_message<E: Env, W: Write>(env: &E, err: &mut W, out: &mut [u8]) -> io::Result<Asked> {
     let mut source = [0u8; TEXTS_SIZE];
-    let MessageAsked::Message(message) = words_asked(&mut source) else {
-        return Asked::Bad;
+    let MessageAsked::Message(message) = words_asked(env, err, &mut source)? else {
+        return Ok(Asked::Bad);
     };
     match write_message(&source, message, out) {
-        Written::Length(len) => Asked::Octets(len),
-        Written::Refused(_) => Asked::Octets(ASKED_SIZE),
+        Written::Length(len) => Ok(Asked::Octets(len)),
+        Written::Refused(_) => Ok(Asked::Octets(ASKED_SIZE)),
     }
 }
 
 // Whether an argument is WORD=VALUE.
-fn is_word(number: usize) -> bool {
+fn is_word<E: Env>(env: &E, number: usize) -> bool {
     let mut text = [0u8; WORD_SIZE];
-    let Word::Length(len) = take_word(number, &mut text) else {
+    let Word::Length(len) = take_word(env, number, &mut text) else {
         return false;
     };
     position_of(part(&text, 0, len), b'=') < len
 }
 
 // Puts the message at the front of out.
-pub fn message_asked(out: &mut [u8]) -> Asked {
-    if os::arg_count() <= FIRST_WORD {
-        complain(b"neither HEX nor WORD=VALUE is given after --mailslot\n");
-        return Asked::Bad;
+pub fn message_asked<E: Env, W: Write>(env: &E, err: &mut W, out: &mut [u8]) -> io::Result<Asked> {
+    if !has_word(env, FIRST_WORD) {
+        complain(
+            err,
+            b"neither HEX nor WORD=VALUE is given after --mailslot\n",
+        )?;
+        return Ok(Asked::Bad);
     }
-    if is_word(FIRST_WORD) {
-        return written_message(out);
+    if is_word(env, FIRST_WORD) {
+        return written_message(env, err, out);
     }
-    if FIRST_WORD + 1 < os::arg_count() {
-        complain(b"no argument is taken after --mailslot HEX\n");
-        return Asked::Bad;
+    if has_word(env, FIRST_WORD + 1) {
+        complain(err, b"no argument is taken after --mailslot HEX\n")?;
+        return Ok(Asked::Bad);
     }
     hex_asked(
+        env,
+        err,
         FIRST_WORD,
         b"--mailslot takes two hex digits for each octet, or words as User=ann",
         out,

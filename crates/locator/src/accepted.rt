@@ -1,10 +1,10 @@
 // The answer to a ping from an image that was judged before: an appliance judges its table once and answers from it all day.
-ghost use Rattle·table_whole.specs.Judgement.{Accepted};
-ghost use Rattle·locator·specs.specs.Answer.{AnswerPingReturns, AnswerPingLeaves};
+ghost use Rattle.table_whole.specs.Judgement.{Accepted};
+ghost use Rattle.locator.specs.Answer.{AnswerPingReturns, AnswerPingLeaves};
+
 use crate::Answer;
 use crate::over::answer_over;
-use filter_read::ping::PingRead;
-use filter_read::ping::read_ping;
+use filter_read::ping::{PingRead, read_ping};
 use table::Caller;
 
 // What `answer_ping` promises, without judging the image again.
@@ -14,9 +14,9 @@ pub fn answer_accepted<'a>(
     filter: &'a [u8],
     reply: &mut [u8],
 ) -> Answer
-    requires { ⌜ Accepted (now image) ⌝ }
-    ensures { λ r. ⌜ AnswerPingReturns (now (image .entry)) caller (now (filter .entry)) (now (reply .entry)) r ⌝ }
-    ensures { λ _. ⌜ AnswerPingLeaves (now (image .entry)) caller (now (filter .entry)) (now (reply .entry)) (now (reply .exit)) ⌝ }
+    requires { Accepted image.now }
+    ensures answer_ping_returns { AnswerPingReturns image.now caller filter.now reply.old result }
+    ensures answer_ping_leaves { AnswerPingLeaves image.now caller filter.now reply.old reply.new }
 {
     match read_ping(filter) {
         PingRead::Refused(refusal) => Answer::Refused(refusal),

@@ -1,9 +1,10 @@
 // The locator: document 01, "Answer numbers" and "Choosing the answer".
-ghost use mathlib.Core.Path.{_≡_};
-ghost use Rattle·locator·specs.specs.Answer.{answerNumber};
-use answers::Form;
-use answers::Refusal;
-use answers::number_of;
+#![tactic(auto)]
+
+ghost use Rattle.std.specs.Prelude.{◌≡◌};
+ghost use Rattle.locator.specs.Answer.{answer_number};
+
+use answers::{Form, Refusal, number_of};
 use table::ContextNumber;
 
 pub mod accepted;
@@ -12,6 +13,7 @@ pub mod ping;
 pub mod user;
 
 // The answer to a ping: its values are those of specs/Answer.antt.
+#[derive(Clone, Copy)]
 pub enum Answer {
     Answered {
         length: usize,
@@ -23,7 +25,7 @@ pub enum Answer {
 
 // Document 01's number of it.
 pub fn answer_number(answer: Answer) -> u8
-    ensures { λ r. ⌜ r ≡ answerNumber answer ⌝ }
+    ensures { result ≡ answer_number answer }
 {
     match answer {
         Answer::Answered {

@@ -1,31 +1,26 @@
 // The answer to a ping over an accepted image, 11 to 19, however the ping came in: document 01, "Answer numbers".
-ghost use mathlib.Core.Path.{_≡_};
-ghost use mathlib.Core.Bool.{false, not};
-ghost use Prim.Native.Nat.{_+_, _≤_};
-ghost use lib.ListN.{length};
-ghost use Rattle·octets.specs.Buffer.{over};
-ghost use Rattle·octets.specs.Lists.{holds, cut};
-ghost use Rattle·unicode.specs.UserName.{isUserName};
-ghost use Rattle·filter.specs.Request.{octetsOf};
-ghost use Rattle·filter_read.specs.Internal.RawPing.{pingAt};
-ghost use Rattle·table.specs.Context.{contextOf, contextFormat};
-ghost use Rattle·table.specs.Table.{tableFrom};
-ghost use Rattle·table_whole.specs.Judgement.{Accepted};
-ghost use Rattle·choose.specs.Choose.{namesApplication};
-ghost use Rattle·locator·specs.specs.Answer.{replyTo, answerOver, answerAs, octetsWritten};
+ghost use Rattle.std.specs.Prelude.{◌≡◌, false, not, ◌+◌, ◌≤◌, length};
+ghost use Rattle.octets.specs.Buffer.{over};
+ghost use Rattle.octets.specs.Lists.{holds, cut};
+ghost use Rattle.unicode_text.specs.UserName.{is_user_name};
+ghost use Rattle.filter.specs.Request.{octets_of};
+ghost use Rattle.filter_read.specs.Internal.RawPing.{ping_at};
+ghost use Rattle.table.specs.Context.{context_of, context_format};
+ghost use Rattle.table.specs.Table.{table_from};
+ghost use Rattle.table_whole.specs.Judgement.{Accepted};
+ghost use Rattle.choose.specs.Choose.{names_application};
+ghost use Rattle.locator.specs.Answer.{reply_to, answer_over, answer_as, octets_written};
+
 use crate::Answer;
 use crate::user::is_wrong_user;
 use answers::Refusal;
 use choose::answer::form_for;
-use choose_context::context::ContextUsed;
-use choose_context::context::context_used;
+use choose_context::context::{ContextUsed, context_used};
 use choose_reply::chosen::reply_for;
 use filter_read::ping::RawPing;
 use octets::part::part;
-use reply_write::fit::Fitted;
-use reply_write::fit::fit_reply;
-use table::Caller;
-use table::context;
+use reply_write::fit::{Fitted, fit_reply};
+use table::{Caller, context};
 
 // 18 and 19, and the reply in the context used.
 fn reply_to<'a>(
@@ -37,11 +32,11 @@ fn reply_to<'a>(
     application: bool,
     reply: &mut [u8],
 ) -> Answer
-    requires { ⌜ Accepted (now image) × (context + contextFormat .width ≤ length (now image)) ⌝ }
-    requires { ⌜ application ≡ namesApplication (tableFrom (now image)) (pingAt (now source) ping) ⌝ }
-    requires { ⌜ holds (λ x. not (isUserName x)) (octetsOf (now source) (ping .user)) ≡ false ⌝ }
-    ensures { λ r. ⌜ r ≡ answerAs (replyTo (tableFrom (now (image .entry))) caller (pingAt (now (source .entry)) ping) (length (now (reply .entry))) (contextOf (cut (now (image .entry)) context (contextFormat .width)))) ⌝ }
-    ensures { λ _. ⌜ now (reply .exit) ≡ over (octetsWritten (replyTo (tableFrom (now (image .entry))) caller (pingAt (now (source .entry)) ping) (length (now (reply .entry))) (contextOf (cut (now (image .entry)) context (contextFormat .width))))) (now (reply .entry)) ⌝ }
+    requires accepted { Accepted image.now × (context + context_format.width ≤ length image.now) }
+    requires application_value { application ≡ names_application (table_from image.now) (ping_at source.now ping) }
+    requires user_value { holds (λ x. not (is_user_name x)) (octets_of source.now ping.user) ≡ false }
+    ensures value { result ≡ answer_as (reply_to (table_from image.now) caller (ping_at source.now ping) (length reply.old) (context_of (cut image.now context context_format.width))) }
+    ensures reply_after { reply.new ≡ over (octets_written (reply_to (table_from image.now) caller (ping_at source.now ping) (length reply.old) (context_of (cut image.now context context_format.width)))) reply.old }
 {
     let user = ping.user;
     let form = form_for(image, ping);
@@ -67,10 +62,10 @@ pub fn answer_over<'a>(
     ping: RawPing,
     reply: &mut [u8],
 ) -> Answer
-    requires { ⌜ Accepted (now image) ⌝ }
-    requires { ⌜ holds (λ x. not (isUserName x)) (octetsOf (now source) (ping .user)) ≡ false ⌝ }
-    ensures { λ r. ⌜ r ≡ answerAs (answerOver (tableFrom (now (image .entry))) caller (pingAt (now (source .entry)) ping) (length (now (reply .entry)))) ⌝ }
-    ensures { λ _. ⌜ now (reply .exit) ≡ over (octetsWritten (answerOver (tableFrom (now (image .entry))) caller (pingAt (now (source .entry)) ping) (length (now (reply .entry))))) (now (reply .entry)) ⌝ }
+    requires accepted { Accepted image.now }
+    requires user_value { holds (λ x. not (is_user_name x)) (octets_of source.now ping.user) ≡ false }
+    ensures value { result ≡ answer_as (answer_over (table_from image.now) caller (ping_at source.now ping) (length reply.old)) }
+    ensures reply_after { reply.new ≡ over (octets_written (answer_over (table_from image.now) caller (ping_at source.now ping) (length reply.old))) reply.old }
 {
     match context_used(image, source, ping) {
         ContextUsed::Used {

@@ -1,10 +1,10 @@
 // The answer to a ping: document 01, "What the locator takes and gives".
-ghost use Rattle·locator·specs.specs.Answer.{AnswerPingReturns, AnswerPingLeaves};
+ghost use Rattle.locator.specs.Answer.{AnswerPingReturns, AnswerPingLeaves};
+
 use crate::Answer;
 use crate::accepted::answer_accepted;
 use table::Caller;
-use table_whole::judge::Judgement;
-use table_whole::judge::judge;
+use table_whole::judge::{Judgement, judge};
 
 // Answers a filter of any octets from a table image of any octets: the table is judged first, then the filter, then the ping over the table.
 // A refusal leaves the reply buffer as it was; an answer changes its first octets, as many as the reply has.
@@ -14,8 +14,8 @@ pub fn answer_ping<'a>(
     filter: &'a [u8],
     reply: &mut [u8],
 ) -> Answer
-    ensures { λ r. ⌜ AnswerPingReturns (now (image .entry)) caller (now (filter .entry)) (now (reply .entry)) r ⌝ }
-    ensures { λ _. ⌜ AnswerPingLeaves (now (image .entry)) caller (now (filter .entry)) (now (reply .entry)) (now (reply .exit)) ⌝ }
+    ensures answer_ping_returns { AnswerPingReturns image.now caller filter.now reply.old result }
+    ensures answer_ping_leaves { AnswerPingLeaves image.now caller filter.now reply.old reply.new }
 {
     match judge(image) {
         Judgement::Refused(refusal) => Answer::Refused(refusal),

@@ -1,21 +1,18 @@
 // 18: the names of an EX reply have no empty label, and the user's name is the only one that could.
-ghost use mathlib.Core.Path.{_≡_};
-ghost use mathlib.Core.Bool.{false, not, _&&_};
-ghost use Prim.Native.Nat.{_≤_};
-ghost use lib.Dec.{eqb};
-ghost use lib.ListN.{length};
-ghost use Rattle·octets.specs.Label.{labels};
-ghost use Rattle·octets.specs.Lists.{any, holds};
-ghost use Rattle·unicode.specs.UserName.{isUserName};
-ghost use Rattle·filter.specs.Request.{octetsOf};
-ghost use Rattle·locator·specs.specs.Answer.{isEx};
+ghost use Rattle.std.specs.Prelude.{◌≡◌, false, not, ◌&&◌, ◌≤◌, eqb, length};
+ghost use Rattle.octets.specs.Label.{labels};
+ghost use Rattle.octets.specs.Lists.{any, holds};
+ghost use Rattle.unicode_text.specs.UserName.{is_user_name};
+ghost use Rattle.filter.specs.Request.{octets_of};
+ghost use Rattle.locator.specs.Answer.{is_ex};
+
 use answers::Form;
 use filter::request::Clause;
 use name_rules::name_rule::has_good_labels;
 use octets::part::part;
 
 fn is_ex(form: Form) -> bool
-    ensures { λ r. ⌜ r ≡ isEx form ⌝ }
+    ensures { result ≡ is_ex form }
 {
     match form {
         Form::Nt40 => false,
@@ -26,8 +23,8 @@ fn is_ex(form: Form) -> bool
 
 // A user's name is too short for a label of over 63 octets, so one that is not good is empty.
 fn has_empty_label(name: &[u8]) -> bool
-    requires { ⌜ length (now name) ≤ 63 ⌝ }
-    ensures { λ r. ⌜ r ≡ any (λ l. eqb (length l) 0) (labels (now (name .entry))) ⌝ }
+    requires { length name.now ≤ 63 }
+    ensures { result ≡ any (λ l. eqb (length l) 0) (labels name.now) }
 {
     if name.len() == 0 {
         return false;
@@ -36,8 +33,8 @@ fn has_empty_label(name: &[u8]) -> bool
 }
 
 pub fn is_wrong_user(form: Form, source: &[u8], user: Clause) -> bool
-    requires { ⌜ holds (λ x. not (isUserName x)) (octetsOf (now source) user) ≡ false ⌝ }
-    ensures { λ r. ⌜ r ≡ (isEx form && holds (λ name. any (λ l. eqb (length l) 0) (labels name)) (octetsOf (now (source .entry)) user)) ⌝ }
+    requires { holds (λ x. not (is_user_name x)) (octets_of source.now user) ≡ false }
+    ensures { result ≡ (is_ex form && holds (λ name. any (λ l. eqb (length l) 0) (labels name)) (octets_of source.now user)) }
 {
     if !is_ex(form) {
         return false;

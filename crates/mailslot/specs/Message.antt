@@ -1,50 +1,46 @@
 -- Document 02, #105, and source page 001: a mailslot message, the request of old logger machines. What it must be, how it is read, and its octets, written.
-use mathlib.Core.Bool.{Bool, true, false, cond, not, _&&_, _||_}
-use mathlib.Core.List.{List, [], _∷_, _++_}
-use Prim.Native.Nat.{ℕ, _+_, _*_, _-_, _%_}
-use lib.Dec.{eqb, leb, ltb}
-use lib.ListN.{length, drop, replicate}
-use Rattle·answers.specs.declared.Refusal.the-variants.{MailslotShape, NoRoom}
-use Rattle·answers.specs.Try.{Try, refused, good, refusedIf, _>>=_}
-use Rattle·answers.specs.Wire.{LOGON-SAM-LOGON-REQUEST}
-use Rattle·octets.specs.{Lists.all, Lists.holds, NameRule.sized, NameRule.without, Number.little, Sid.sidLength, Text.within}
-use Rattle·reader.specs.{declared.field.Stretch.Stretch, Reader.readConstant, Reader.readNumber, Reader.readTokens, Text.readText}
-use Rattle·reader.specs.Field.{Read, stretchOf, readOctets, readStretch}
-use Rattle·reply.specs.Reply.{u16, u32, ending}
-use Rattle·unicode.specs.{UserName.isUserName, Utf16.pointsOf16, Utf16.utf8From16}
-use Rattle·mailslot·specs.specs.declared.message.Message.{Message}
+use Rattle.std.specs.Prelude.{Bool, true, false, cond, not, ◌&&◌, ◌||◌, List, [], ◌∷◌, ◌++◌, ℕ, ◌+◌, ◌*◌, ◌-◌, ◌%◌, eqb, leb, ltb, length, drop, replicate}
+use Rattle.answers.specs.declared.Refusal.TheVariants.{MailslotShape, NoRoom}
+use Rattle.answers.specs.Try.{Try, refused, good, refused_if, ◌>>=◌}
+use Rattle.answers.specs.Wire.{logon_sam_logon_request}
+use Rattle.octets.specs.{Lists.all, Lists.holds, NameRule.sized, NameRule.without, Number.little, Sid.sid_length, Text.within}
+use Rattle.reader.specs.{declared.field.Stretch.Stretch, Reader.read_constant, Reader.read_number, Reader.read_tokens, Text.read_text}
+use Rattle.reader.specs.Field.{Read, stretch_of, read_octets, read_stretch}
+use Rattle.reply.specs.Reply.{u16, u32, ending}
+use Rattle.unicode_text.specs.{UserName.is_user_name, Utf16.points_of16, Utf16.utf8_from16}
+use Rattle.mailslot.specs.declared.message.Message.{Message}
 
 -- ---- what a message must be
 
 -- a text in UTF-16LE: whole units, no lone surrogate, and no zero unit, which would end it
-abbrev pub isText16 : List ℕ → Bool
-isText16 s = holds (without 0) (pointsOf16 s)
+abbrev pub is_text16 : List ℕ → Bool
+is_text16 s = holds (without 0) (points_of16 s)
 
 -- at most 15 units, whatever characters they make
-unfoldable pub isComputerName : List ℕ → Bool
-isComputerName s = isText16 s && leb (length s) (2 * 15)
+unfoldable pub is_computer_name : List ℕ → Bool
+is_computer_name s = is_text16 s && leb (length s) (2 * 15)
 
 -- such a text whose octets as UTF-8 are a user's name: at most 63 of them, none zero
-unfoldable pub isMessageUser : List ℕ → Bool
-isMessageUser s = holds isUserName (utf8From16 s)
+unfoldable pub is_message_user : List ℕ → Bool
+is_message_user s = holds is_user_name (utf8_from16 s)
 
-unfoldable pub isMailslotName : List ℕ → Bool
-isMailslotName s = leb (length s) 64 && all (within 0x01 0x7F) s
+unfoldable pub is_mailslot_name : List ℕ → Bool
+is_mailslot_name s = leb (length s) 64 && all (within 0x01 0x7F) s
 
 -- none, or as long as its own count says; its revision is left to 15
-unfoldable pub isMessageSid : List ℕ → Bool
-isMessageSid s = eqb (length s) 0 || (sized 8 68 s && eqb (length s) (sidLength s))
+unfoldable pub is_message_sid : List ℕ → Bool
+is_message_sid s = eqb (length s) 0 || (sized 8 68 s && eqb (length s) (sid_length s))
 
 -- every limit, for reader and writer: of the texts, which are stretches of a source, and of each number by its field
-unfoldable pub goodMessage : List ℕ → Message → Bool
-goodMessage source m =
-    ltb (m .repeat) 0x10000
-    && isComputerName (stretchOf source (m .computer))
-    && isMessageUser (stretchOf source (m .user))
-    && isMailslotName (stretchOf source (m .mailslot))
-    && ltb (m .bits) 0x100000000
-    && isMessageSid (stretchOf source (m .sid))
-    && ltb (m .version) 0x100000000
+unfoldable pub good_message : List ℕ → Message → Bool
+good_message source m =
+    ltb m.repeat 0x10000
+    && is_computer_name (stretch_of source m.computer)
+    && is_message_user (stretch_of source m.user)
+    && is_mailslot_name (stretch_of source m.mailslot)
+    && ltb m.bits 0x100000000
+    && is_message_sid (stretch_of source m.sid)
+    && ltb m.version 0x100000000
 
 -- ---- reading
 
@@ -53,79 +49,79 @@ unfoldable pub padding : ℕ → ℕ
 padding at = (4 - at % 4) % 4
 
 -- the octets before the first zero octet
-unfoldable pub beforeZero : List ℕ → List ℕ
-beforeZero [] = []
-beforeZero (x ∷ xs) = cond (eqb x 0) [] (x ∷ beforeZero xs)
+unfoldable pub before_zero : List ℕ → List ℕ
+before_zero [] = []
+before_zero (x ∷ xs) = cond (eqb x 0) [] (x ∷ before_zero xs)
 
 -- the text at `at` that a zero octet ends
-unfoldable pub readZeroEnded : List ℕ → ℕ → Try (Read Stretch)
-readZeroEnded s at = do
-  t ← readStretch s at (length (beforeZero (drop at s)))
-  z ← readOctets s (t .next) 1
-  good (record { value = t .value; next = z .next })
+unfoldable pub read_zero_ended : List ℕ → ℕ → Try (Read Stretch)
+read_zero_ended s at = do
+  t ← read_stretch s at (length (before_zero (drop at s)))
+  z ← read_octets s t.next 1
+  good (record { value = t.value; next = z.next })
 
 -- the SID by its size, after the padding; neither where the size is 0
-abbrev pub readSid : Bool → ℕ → List ℕ → ℕ → Try (Read Stretch)
-readSid true size s at = readStretch s at 0
-readSid false size s at = do
-  p ← readOctets s at (padding at)
-  readStretch s (p .next) size
+abbrev pub read_sid : Bool → ℕ → List ℕ → ℕ → Try (Read Stretch)
+read_sid true size s at = read_stretch s at 0
+read_sid false size s at = do
+  p ← read_octets s at (padding at)
+  read_stretch s p.next size
 
 -- the fields in page 001's order, with nothing left over
-unfoldable pub readFields : List ℕ → Try Message
-readFields s = do
-  o ← readConstant 2 LOGON-SAM-LOGON-REQUEST s 0
-  n ← readOctets s (o .next) 2
-  c ← readText s (n .next)
-  u ← readText s (c .next)
-  m ← readZeroEnded s (u .next)
-  b ← readNumber s (m .next)
-  z ← readNumber s (b .next)
-  d ← readSid (eqb (z .value) 0) (z .value) s (z .next)
-  v ← readNumber s (d .next)
-  readTokens s (v .next)
-      (record { repeat = little (n .value); computer = c .value; user = u .value; mailslot = m .value; bits = b .value; sid = d .value; version = v .value })
+unfoldable pub read_fields : List ℕ → Try Message
+read_fields s = do
+  o ← read_constant 2 logon_sam_logon_request s 0
+  n ← read_octets s o.next 2
+  c ← read_text s n.next
+  u ← read_text s c.next
+  m ← read_zero_ended s u.next
+  b ← read_number s m.next
+  z ← read_number s b.next
+  d ← read_sid (eqb z.value 0) z.value s z.next
+  v ← read_number s d.next
+  read_tokens s v.next
+      (record { repeat = little n.value; computer = c.value; user = u.value; mailslot = m.value; bits = b.value; sid = d.value; version = v.value })
 
 -- whatever is refused, it is 41
-abbrev pub asShape : {A : Type 0} → Try A → Try A
-asShape (refused r) = refused MailslotShape
-asShape (good a) = good a
+abbrev pub as_shape : {A : Type 0} → Try A → Try A
+as_shape (refused r) = refused MailslotShape
+as_shape (good a) = good a
 
 -- the message that octets are
-unfoldable pub messageIn : List ℕ → Try Message
-messageIn s = do
-  m ← asShape (readFields s)
-  refusedIf (not (goodMessage s m)) MailslotShape (good m)
+unfoldable pub message_in : List ℕ → Try Message
+message_in s = do
+  m ← as_shape (read_fields s)
+  refused_if (not (good_message s m)) MailslotShape (good m)
 
 -- ---- writing
 
 -- before the SID and its padding
-unfoldable pub messageHead : List ℕ → Message → List ℕ
-messageHead source m =
-    u16 LOGON-SAM-LOGON-REQUEST
-    ++ u16 (m .repeat)
-    ++ stretchOf source (m .computer)
+unfoldable pub message_head : List ℕ → Message → List ℕ
+message_head source m =
+    u16 logon_sam_logon_request
+    ++ u16 m.repeat
+    ++ stretch_of source m.computer
     ++ u16 0
-    ++ stretchOf source (m .user)
+    ++ stretch_of source m.user
     ++ u16 0
-    ++ stretchOf source (m .mailslot)
+    ++ stretch_of source m.mailslot
     ++ (0 ∷ [])
-    ++ u32 (m .bits)
-    ++ u32 (length (stretchOf source (m .sid)))
+    ++ u32 m.bits
+    ++ u32 (length (stretch_of source m.sid))
 
 -- a SID that starts behind zeros, the padding at its offset; where it has no octets, neither
-abbrev pub paddedSid : ℕ → List ℕ → List ℕ
-paddedSid at [] = []
-paddedSid at (x ∷ xs) = replicate (padding at) 0 ++ x ∷ xs
+abbrev pub padded_sid : ℕ → List ℕ → List ℕ
+padded_sid at [] = []
+padded_sid at (x ∷ xs) = replicate (padding at) 0 ++ x ∷ xs
 
-unfoldable pub messageOctets : List ℕ → Message → List ℕ
-messageOctets source m =
-    let head = messageHead source m in
-    head ++ paddedSid (length head) (stretchOf source (m .sid)) ++ ending (m .version)
+unfoldable pub message_octets : List ℕ → Message → List ℕ
+message_octets source m =
+    let head = message_head source m in
+    head ++ padded_sid (length head) (stretch_of source m.sid) ++ ending m.version
 
 -- 41, then 19, else the octets; what of a stretch lies outside the source is not there
-unfoldable pub messageFor : List ℕ → Message → ℕ → Try (List ℕ)
-messageFor source m room =
-    let octets = messageOctets source m in
-    refusedIf (not (goodMessage source m)) MailslotShape
-    (refusedIf (ltb room (length octets)) NoRoom (good octets))
+unfoldable pub message_for : List ℕ → Message → ℕ → Try (List ℕ)
+message_for source m room =
+    let octets = message_octets source m in
+    refused_if (not (good_message source m)) MailslotShape
+    (refused_if (ltb room (length octets)) NoRoom (good octets))

@@ -1,29 +1,27 @@
 -- Document 02, #105: what reading a mailslot message gives, 0 with the message or 41.
-use mathlib.Core.Path.{_≡_}
-use mathlib.Core.List.{List}
-use mathlib.Core.Option.{Option, none, some}
-use Prim.Native.Nat.{ℕ}
-use Rattle·answers.specs.Refusal.{number}
-use Rattle·answers.specs.Try.{Try, refused, good, numberOf, valueOf}
-use Rattle·mailslot·specs.specs.{declared.message.Message.Message, declared.message.MessageRead.MessageRead, Message.messageIn}
-use Rattle·mailslot·specs.specs.declared.message.MessageRead.the-variants as read
+use Rattle.std.specs.Prelude.{◌≡◌, List, ℕ}
+use Rattle.std.proofs.Math.Option.{Option, none, some}
+use Rattle.answers.specs.Refusal.{number}
+use Rattle.answers.specs.Try.{Try, refused, good, number_of, value_of}
+use Rattle.mailslot.specs.{declared.message.Message.Message, declared.message.MessageRead.MessageRead, Message.message_in}
+use Rattle.mailslot.specs.declared.message.MessageRead.TheVariants as read
 
 -- as the enum that the call returns
-abbrev pub messageAs : Try Message → MessageRead
-messageAs (refused r) = read.Refused r
-messageAs (good m) = read.Read m
+abbrev pub message_as : Try Message → MessageRead
+message_as (refused r) = read.Refused r
+message_as (good m) = read.Read m
 
 -- its number, and the message, none with a refusal
-abbrev pub messageNumber : MessageRead → ℕ
-messageNumber (read.Read m) = 0
-messageNumber (read.Refused r) = number r
+abbrev pub message_number : MessageRead → ℕ
+message_number (read.Read m) = 0
+message_number (read.Refused r) = number r
 
-abbrev pub messageGiven : MessageRead → Option Message
-messageGiven (read.Read m) = some m
-messageGiven (read.Refused r) = none
+abbrev pub message_given : MessageRead → Option Message
+message_given (read.Read m) = some m
+message_given (read.Refused r) = none
 
 -- what `read_message` promises
 pub record ReadMessagePromise (octets : List ℕ) (r : MessageRead) : Type 0 where
-  pub same : r ≡ messageAs (messageIn octets)
-  pub numbered : messageNumber r ≡ numberOf (messageIn octets)
-  pub given : messageGiven r ≡ valueOf (messageIn octets)
+  pub same : r ≡ message_as (message_in octets)
+  pub numbered : message_number r ≡ number_of (message_in octets)
+  pub given : message_given r ≡ value_of (message_in octets)

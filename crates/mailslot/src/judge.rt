@@ -1,16 +1,15 @@
 // What the texts, the SID and the numbers of a message must be, for reader and writer.
-ghost use mathlib.Core.Path.{_≡_};
-ghost use Prim.Native.Nat.{_≤_};
-ghost use lib.ListN.{length};
-ghost use Rattle·mailslot·specs.specs.Message.{isComputerName, isMessageUser, isMailslotName, isMessageSid, goodMessage};
-ghost use Rattle·mailslot·specs.specs.Internal.Runs.{NameRun};
-ghost use Rattle·mailslot·specs.specs.Internal.Shape.{isSidSize};
+ghost use Rattle.std.specs.Prelude.{◌≡◌, ◌≤◌, length};
+ghost use Rattle.mailslot.specs.Message.{is_computer_name, is_message_user, is_mailslot_name, is_message_sid, good_message};
+ghost use Rattle.mailslot.specs.Internal.Runs.{NameRun};
+ghost use Rattle.mailslot.specs.Internal.Shape.{is_sid_size};
+
 use crate::message::Message;
 use crate::text::text_run;
 use octets::number::wide;
 use octets::part::part;
 use reader::field::Stretch;
-use unicode::utf8::octet_at;
+use unicode_text::utf8::octet_at;
 
 pub const MAILSLOT_NAME_MOST: usize = 64;
 
@@ -23,14 +22,14 @@ pub const SID_MOST: u32 = 68;
 pub const COMPUTER_NAME_MOST: usize = 30;
 
 pub fn is_message_user(s: &[u8]) -> bool
-    ensures { λ r. ⌜ r ≡ isMessageUser (now (s .entry)) ⌝ }
+    ensures { result ≡ is_message_user s.now }
 {
     text_run(s, 0) == s.len()
 }
 
 // A text of so few units is no longer than a user's name may be.
 pub fn is_computer_name(s: &[u8]) -> bool
-    ensures { λ r. ⌜ r ≡ isComputerName (now (s .entry)) ⌝ }
+    ensures { result ≡ is_computer_name s.now }
 {
     if COMPUTER_NAME_MOST < s.len() {
         return false;
@@ -40,8 +39,8 @@ pub fn is_computer_name(s: &[u8]) -> bool
 
 // Where the octets from an offset on end that a mailslot's name may have.
 pub fn name_run(s: &[u8], start: usize) -> usize
-    requires { ⌜ start ≤ length (now s) ⌝ }
-    ensures { λ r. ⌜ NameRun (now (s .entry)) start r ⌝ }
+    requires { start ≤ length s.now }
+    ensures { NameRun s.now start result }
 {
     let mut at = start;
     while at < s.len() {
@@ -55,7 +54,7 @@ pub fn name_run(s: &[u8], start: usize) -> usize
 }
 
 pub fn is_mailslot_name(s: &[u8]) -> bool
-    ensures { λ r. ⌜ r ≡ isMailslotName (now (s .entry)) ⌝ }
+    ensures { result ≡ is_mailslot_name s.now }
 {
     if MAILSLOT_NAME_MOST < s.len() {
         return false;
@@ -65,13 +64,13 @@ pub fn is_mailslot_name(s: &[u8]) -> bool
 
 // Whether a SID of this count has so many octets; no octets are no SID.
 pub fn is_sid_size(size: u32, count: u8) -> bool
-    ensures { λ r. ⌜ r ≡ isSidSize size count ⌝ }
+    ensures { result ≡ is_sid_size size count }
 {
     (size == 0) | ((SID_LEAST <= size) & (size <= SID_MOST) & (size == SID_LEAST + 4 * wide(count)))
 }
 
 pub fn is_message_sid(s: &[u8]) -> bool
-    ensures { λ r. ⌜ r ≡ isMessageSid (now (s .entry)) ⌝ }
+    ensures { result ≡ is_message_sid s.now }
 {
     if (SID_MOST as usize) < s.len() {
         return false;
@@ -82,7 +81,7 @@ pub fn is_message_sid(s: &[u8]) -> bool
 // Every limit of a message whose texts stand in a source; each number has its field's width already. No test waits for another: most
 // messages pass them all.
 pub fn is_good_message(source: &[u8], message: Message) -> bool
-    ensures { λ r. ⌜ r ≡ goodMessage (now (source .entry)) message ⌝ }
+    ensures { result ≡ good_message source.now message }
 {
     let computer = message.computer;
     let user = message.user;

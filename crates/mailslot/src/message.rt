@@ -1,8 +1,8 @@
 // What a mailslot message says, and what reading one gives.
-ghost use mathlib.Core.Path.{_≡_};
-ghost use Rattle·mailslot·specs.specs.Read.{messageNumber};
-use answers::Refusal;
-use answers::number_of;
+ghost use Rattle.std.specs.Prelude.{◌≡◌};
+ghost use Rattle.mailslot.specs.Read.{message_number};
+
+use answers::{Refusal, number_of};
 use reader::field::Stretch;
 
 // By its limits no message has more octets.
@@ -10,6 +10,7 @@ pub const MESSAGE_MOST: usize = 316;
 
 // The texts are stretches of the message, or of a source that one is written from: computer and user in UTF-16LE, without the zero unit
 // that ends them, the mailslot's name without its zero octet, and the SID, of no octets where there is none.
+#[derive(Clone, Copy)]
 pub struct Message {
     pub repeat: u16,
     pub computer: Stretch,
@@ -21,6 +22,7 @@ pub struct Message {
 }
 
 // The message, or 41.
+#[derive(Clone, Copy)]
 pub enum MessageRead {
     Read(Message),
     Refused(Refusal),
@@ -28,7 +30,7 @@ pub enum MessageRead {
 
 // Its number.
 pub fn message_number(read: MessageRead) -> u8
-    ensures { λ r. ⌜ r ≡ messageNumber read ⌝ }
+    ensures { result ≡ message_number read }
 {
     match read {
         MessageRead::Read(_) => 0,

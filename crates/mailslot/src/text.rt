@@ -1,11 +1,9 @@
 // Texts in UTF-16LE that a user's name may be, character by character.
-ghost use mathlib.Core.Path.{_≡_};
-ghost use mathlib.Core.Bool.{true};
-ghost use Prim.Native.Nat.{_+_, _*_, _≤_, _<_};
-ghost use lib.ListN.{length};
-ghost use Rattle·octets.specs.Number.{u16At};
-ghost use Rattle·transcode.specs.Transcode.{areOctets};
-ghost use Rattle·mailslot·specs.specs.Internal.Runs.{CharacterSize, octetsFor, Running, TextRun};
+ghost use Rattle.std.specs.Prelude.{◌≡◌, true, ◌+◌, ◌*◌, ◌≤◌, ◌<◌, length};
+ghost use Rattle.octets.specs.Number.{u16_at};
+ghost use Rattle.transcode.specs.Transcode.{are_octets};
+ghost use Rattle.mailslot.specs.Internal.Runs.{CharacterSize, octets_for, Running, TextRun};
+
 use octets::name_rule::USER_NAME_MOST;
 use octets::number::u16_at;
 use transcode::octet::first_octet;
@@ -19,8 +17,8 @@ const AFTER_LOW: u16 = 0xE000;
 
 // The octets of UTF-8 of a pair of surrogates: 4, or 0 where the unit stands alone.
 fn pair_size(s: &[u8], at: usize, unit: u16) -> usize
-    requires { ⌜ (at + 2 ≤ length (now s)) × (unit ≡ u16At (now s) at) × (0xD800 ≤ unit) × (unit < 0xE000) ⌝ }
-    ensures { λ r. ⌜ CharacterSize (now (s .entry)) at r ⌝ }
+    requires { (at + 2 ≤ length s.now) × (unit ≡ u16_at s.now at) × (0xD800 ≤ unit) × (unit < 0xE000) }
+    ensures { CharacterSize s.now at result }
 {
     if FIRST_LOW <= unit {
         return 0;
@@ -37,8 +35,8 @@ fn pair_size(s: &[u8], at: usize, unit: u16) -> usize
 
 // The octets of UTF-8 of the character at an offset; 0 at a zero unit and at a lone surrogate.
 fn character_size(s: &[u8], at: usize) -> usize
-    requires { ⌜ at + 2 ≤ length (now s) ⌝ }
-    ensures { λ r. ⌜ CharacterSize (now (s .entry)) at r ⌝ }
+    requires { at + 2 ≤ length s.now }
+    ensures { CharacterSize s.now at result }
 {
     let unit = u16_at(s, at);
     if unit == 0 {
@@ -58,7 +56,7 @@ fn character_size(s: &[u8], at: usize) -> usize
 
 // The octets of the same character in UTF-16LE.
 fn octets_for(size: usize) -> usize
-    ensures { λ r. ⌜ (r ≡ octetsFor size) × (2 ≤ r) × (r ≤ 4) ⌝ }
+    ensures { (result ≡ octets_for size) × (2 ≤ result) × (result ≤ 4) }
 {
     if size < 4 {
         return 2;
@@ -67,7 +65,7 @@ fn octets_for(size: usize) -> usize
 }
 
 fn fewer(a: usize, b: usize) -> usize
-    ensures { λ r. ⌜ (r ≤ a) × (r ≤ b) ⌝ }
+    ensures { (result ≤ a) × (result ≤ b) }
 {
     if a < b {
         return a;
@@ -77,8 +75,8 @@ fn fewer(a: usize, b: usize) -> usize
 
 // How many plain letters stand from an offset on, of one octet of UTF-8 each, as most texts have no others: no more than a user may have.
 fn plain_run(s: &[u8], start: usize) -> usize
-    requires { ⌜ (start ≤ length (now s)) × (areOctets (now s) ≡ true) ⌝ }
-    ensures { λ r. ⌜ Running (now (s .entry)) start (start + 2 * r) r ⌝ }
+    requires { (start ≤ length s.now) × (are_octets s.now ≡ true) }
+    ensures { Running s.now start (start + 2 * result) result }
 {
     let units = fewer((s.len() - start) / 2, USER_NAME_MOST);
     let mut i = 0;
@@ -94,8 +92,8 @@ fn plain_run(s: &[u8], start: usize) -> usize
 
 // Where the longest user from an offset on ends: it stops at a zero unit, at a lone surrogate, and before the character that is too much.
 pub fn text_run(s: &[u8], start: usize) -> usize
-    requires { ⌜ start ≤ length (now s) ⌝ }
-    ensures { λ r. ⌜ TextRun (now (s .entry)) start r ⌝ }
+    requires { start ≤ length s.now }
+    ensures { TextRun s.now start result }
 {
     // Compiled to nothing: it tells the proof that these are octets.
     let _octet = first_octet(s);

@@ -1,12 +1,11 @@
 -- Document 02, #105: what `answer_mailslot` promises to return, and to leave in the buffer.
-use mathlib.Core.List.{List}
-use Prim.Native.Nat.{ℕ}
-use Rattle·locator.specs.{declared.Answer.Answer, Answer.AnswerReturns, Answer.AnswerLeaves}
-use Rattle·mailslot_answer·specs.specs.Ping.{mailslotPing}
-use Rattle·table.specs.declared.Caller.{Caller}
+use Rattle.std.specs.Prelude.{List, ℕ}
+use Rattle.locator.specs.{declared.Answer.Answer, Answer.AnswerReturns, Answer.AnswerLeaves}
+use Rattle.mailslot_answer.specs.Ping.{mailslot_ping}
+use Rattle.table.specs.declared.Caller.{Caller}
 
 abbrev pub AnswerMailslotReturns : List ℕ → Caller → List ℕ → List ℕ → Answer → Type 0
-AnswerMailslotReturns = AnswerReturns mailslotPing
+AnswerMailslotReturns = AnswerReturns mailslot_ping
 
 abbrev pub AnswerMailslotLeaves : List ℕ → Caller → List ℕ → List ℕ → List ℕ → Type 0
-AnswerMailslotLeaves = AnswerLeaves mailslotPing
+AnswerMailslotLeaves = AnswerLeaves mailslot_ping

@@ -1,8 +1,8 @@
 // The answer to a mailslot message from an image that was judged before.
-ghost use Rattle·table_whole.specs.Judgement.{Accepted};
-ghost use Rattle·mailslot_answer·specs.specs.Answer.{AnswerMailslotReturns, AnswerMailslotLeaves};
-use crate::ping::SOURCE_SIZE;
-use crate::ping::put_ping;
+ghost use Rattle.table_whole.specs.Judgement.{Accepted};
+ghost use Rattle.mailslot_answer.specs.Answer.{AnswerMailslotReturns, AnswerMailslotLeaves};
+
+use crate::ping::{SOURCE_SIZE, put_ping};
 use locator::Answer;
 use locator::over::answer_over;
 use mailslot::message::MessageRead;
@@ -16,9 +16,9 @@ pub fn answer_mailslot_accepted<'a>(
     message: &'a [u8],
     reply: &mut [u8],
 ) -> Answer
-    requires { ⌜ Accepted (now image) ⌝ }
-    ensures { λ r. ⌜ AnswerMailslotReturns (now (image .entry)) caller (now (message .entry)) (now (reply .entry)) r ⌝ }
-    ensures { λ _. ⌜ AnswerMailslotLeaves (now (image .entry)) caller (now (message .entry)) (now (reply .entry)) (now (reply .exit)) ⌝ }
+    requires { Accepted image.now }
+    ensures answer_mailslot_returns { AnswerMailslotReturns image.now caller message.now reply.old result }
+    ensures answer_mailslot_leaves { AnswerMailslotLeaves image.now caller message.now reply.old reply.new }
 {
     match read_message(message) {
         MessageRead::Refused(refusal) => Answer::Refused(refusal),

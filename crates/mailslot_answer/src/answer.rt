@@ -1,10 +1,10 @@
 // The answer to a mailslot message: document 02, #105.
-ghost use Rattle·mailslot_answer·specs.specs.Answer.{AnswerMailslotReturns, AnswerMailslotLeaves};
+ghost use Rattle.mailslot_answer.specs.Answer.{AnswerMailslotReturns, AnswerMailslotLeaves};
+
 use crate::accepted::answer_mailslot_accepted;
 use locator::Answer;
 use table::Caller;
-use table_whole::judge::Judgement;
-use table_whole::judge::judge;
+use table_whole::judge::{Judgement, judge};
 
 // Answers a message of any octets from a table image of any octets: the table is judged first, then the message, 41, then the ping over the table.
 // A refusal leaves the reply buffer as it was; an answer changes its first octets, as many as the reply has.
@@ -14,8 +14,8 @@ pub fn answer_mailslot<'a>(
     message: &'a [u8],
     reply: &mut [u8],
 ) -> Answer
-    ensures { λ r. ⌜ AnswerMailslotReturns (now (image .entry)) caller (now (message .entry)) (now (reply .entry)) r ⌝ }
-    ensures { λ _. ⌜ AnswerMailslotLeaves (now (image .entry)) caller (now (message .entry)) (now (reply .entry)) (now (reply .exit)) ⌝ }
+    ensures answer_mailslot_returns { AnswerMailslotReturns image.now caller message.now reply.old result }
+    ensures answer_mailslot_leaves { AnswerMailslotLeaves image.now caller message.now reply.old reply.new }
 {
     match judge(image) {
         Judgement::Refused(refusal) => Answer::Refused(refusal),

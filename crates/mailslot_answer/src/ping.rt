@@ -1,11 +1,11 @@
 // The ping that a mailslot message is.
-ghost use mathlib.Core.Path.{_≡_};
-ghost use lib.ListN.{length};
-ghost use Rattle·answers.specs.Try.{good};
-ghost use Rattle·filter_read.specs.Internal.RawPing.{pingAt};
-ghost use Rattle·mailslot.specs.Message.{messageIn};
-ghost use Rattle·mailslot_answer·specs.specs.Ping.{messagePing};
-ghost use Rattle·mailslot_answer·specs.specs.Internal.Source.{sourceSize, ClauseAt};
+ghost use Rattle.std.specs.Prelude.{◌≡◌, length};
+ghost use Rattle.answers.specs.Try.{good};
+ghost use Rattle.filter_read.specs.Internal.RawPing.{ping_at};
+ghost use Rattle.mailslot.specs.Message.{message_in};
+ghost use Rattle.mailslot_answer.specs.Ping.{message_ping};
+ghost use Rattle.mailslot_answer.specs.Internal.Source.{source_size, ClauseAt};
+
 use filter::request::Clause;
 use filter_read::ping::RawPing;
 use lent::put::put_octets_at;
@@ -18,7 +18,7 @@ pub const SOURCE_SIZE: usize = 131;
 
 // Here, unlike in a filter, what is empty is absent.
 fn clause_at(start: usize, len: usize) -> Clause
-    ensures { λ r. ⌜ ClauseAt start len r ⌝ }
+    ensures { ClauseAt start len result }
 {
     if len == 0 {
         return Clause::Absent;
@@ -28,8 +28,8 @@ fn clause_at(start: usize, len: usize) -> Clause
 
 // Puts the user as UTF-8 and the SID into the source, of which the clauses are stretches: so the answer has no third lender.
 pub fn put_ping(source: &mut [u8], message: &[u8], read: Message) -> RawPing
-    requires { ⌜ (messageIn (now message) ≡ good read) × (length (now source) ≡ sourceSize) ⌝ }
-    ensures { λ r. ⌜ pingAt (now (source .exit)) r ≡ messagePing (now (message .entry)) read ⌝ }
+    requires { (message_in message.now ≡ good read) × (length source.old ≡ source_size) }
+    ensures { ping_at source.new result ≡ message_ping message.now read }
 {
     let user = read.user;
     let sid = read.sid;

@@ -1,21 +1,16 @@
 // `mailwrite` lines: a mailslot message is written from its fields.
-ghost use Prim.Native.Nat.{_≤_};
-ghost use lib.ListN.{length};
-use line_words::buffer::filled;
-use line_words::buffer::is_room;
-use line_words::buffer::room_of;
-use line_words::text::is_text;
-use line_words::text::take_text;
-use line_words::words::bits_of;
-use line_words::words::is_four_octets;
-use line_words::words::is_number;
-use line_words::words::number_of;
-use line_words::words::say_unknown;
-use line_words::words::say_written;
-use line_words::words::word;
+ghost use Rattle.std.specs.Prelude.{◌≤◌, length};
+
+use line_words::buffer::{filled, is_room, room_of};
+use line_words::text::{is_text, take_text};
+use line_words::words::{
+    bits_of, is_four_octets, is_number, number_of, say_unknown, say_written, word,
+};
 use mailslot::message::Message;
 use mailslot_write::write::write_message;
 use octets::part::part;
+use std::io;
+use std::io::Write;
 
 // The words by their numbers.
 const ROOM: usize = 1;
@@ -58,20 +53,30 @@ fn message_in(line: &[u8], source: &mut [u8]) -> Message {
     }
 }
 
-fn write_into(source: &[u8], message: Message, out: &mut [u8], room: usize)
-    requires { ⌜ room ≤ length (now out) ⌝ }
+fn write_into<W: Write>(
+    to: &mut W,
+    source: &[u8],
+    message: Message,
+    out: &mut [u8],
+    room: usize,
+) -> io::Result<()>
+    requires { room ≤ length out.old }
 {
     let start = 0;
     let written = write_message(source, message, &mut out[start..room]);
-    say_written(b"mailwrite", written, part(out, start, room));
+    say_written(to, b"mailwrite", written, part(out, start, room))
 }
 
-pub fn answer_mailwrite_line(line: &[u8], space: &mut [u8]) {
+pub fn answer_mailwrite_line<W: Write>(
+    to: &mut W,
+    line: &[u8],
+    space: &mut [u8],
+) -> io::Result<()> {
     if !is_room(word(line, ROOM)) | !are_fields(line) {
-        say_unknown();
-        return;
+        say_unknown(to)?;
+        return Ok(());
     }
     let message = message_in(line, space);
     let mut out = filled();
-    write_into(space, message, &mut out, room_of(word(line, ROOM)));
+    write_into(to, space, message, &mut out, room_of(word(line, ROOM)))
 }

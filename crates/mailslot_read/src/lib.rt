@@ -1,3 +1,5 @@
 // A mailslot message, read.
+#![tactic(auto)]
+
 pub mod part;
 pub mod read;

@@ -1,30 +1,22 @@
 // The parts of a message: each text is judged while its end is looked for, and what stands behind the texts is arithmetic on one offset.
-ghost use mathlib.Core.Path.{_≡_};
-ghost use mathlib.Core.Bool.{true, _&&_};
-ghost use Prim.Native.Nat.{_+_, _≤_};
-ghost use lib.Dec.{eqb};
-ghost use lib.ListN.{length};
-ghost use Rattle·answers.specs.Wire.{LmNtToken, Lm20Token};
-ghost use Rattle·octets.specs.Number.{u16At};
-ghost use Rattle·transcode.specs.Transcode.{areOctets};
-ghost use Rattle·mailslot.specs.Message.{isMessageUser, messageIn};
-ghost use Rattle·mailslot.specs.Read.{messageAs};
-ghost use Rattle·mailslot.specs.Longest.{messageMost};
-ghost use Rattle·mailslot.specs.Internal.Shape.{EndsText, EndsName, OneEnd, Texts};
+ghost use Rattle.std.specs.Prelude.{◌≡◌, true, ◌&&◌, ◌+◌, ◌≤◌, eqb, length};
+ghost use Rattle.answers.specs.Wire.{LmNtToken, Lm20Token};
+ghost use Rattle.octets.specs.Number.{u16_at};
+ghost use Rattle.transcode.specs.Transcode.{are_octets};
+ghost use Rattle.mailslot.specs.Message.{is_message_user, message_in};
+ghost use Rattle.mailslot.specs.Read.{message_as};
+ghost use Rattle.mailslot.specs.Longest.{message_most};
+ghost use Rattle.mailslot.specs.Internal.Shape.{EndsText, EndsName, OneEnd, Texts};
+
 use answers::Refusal;
-use answers::wire::LM_NT_TOKEN;
-use answers::wire::LM20_TOKEN;
-use mailslot::judge::MAILSLOT_NAME_MOST;
-use mailslot::judge::is_sid_size;
-use mailslot::judge::name_run;
-use mailslot::message::Message;
-use mailslot::message::MessageRead;
+use answers::wire::{LM_NT_TOKEN, LM20_TOKEN};
+use mailslot::judge::{MAILSLOT_NAME_MOST, is_sid_size, name_run};
+use mailslot::message::{Message, MessageRead};
 use mailslot::padding::sid_padding;
 use mailslot::text::text_run;
-use octets::number::u16_at;
-use octets::number::u32_at;
+use octets::number::{u16_at, u32_at};
 use reader::field::Stretch;
-use unicode::utf8::octet_at;
+use unicode_text::utf8::octet_at;
 
 // The texts stand behind the opcode and the repeat count.
 pub const TEXTS_AT: usize = 4;
@@ -34,7 +26,7 @@ const NUMBERS_SIZE: usize = 16;
 
 // Where the text from an offset on ends, a good user; the message's end where it doesn't.
 pub fn text_end(message: &[u8], start: usize) -> usize
-    ensures { λ r. ⌜ OneEnd (EndsText isMessageUser (now (message .entry)) start) (length (now (message .entry))) r ⌝ }
+    ensures { OneEnd (EndsText is_message_user message.now start) (length message.now) result }
 {
     if message.len() < start {
         return message.len();
@@ -51,7 +43,7 @@ pub fn text_end(message: &[u8], start: usize) -> usize
 
 // Where the mailslot's name ends from an offset on; the message's end where it doesn't.
 pub fn name_end(message: &[u8], start: usize) -> usize
-    ensures { λ r. ⌜ OneEnd (EndsName (now (message .entry)) start) (length (now (message .entry))) r ⌝ }
+    ensures { OneEnd (EndsName message.now start) (length message.now) result }
 {
     if message.len() < start {
         return message.len();
@@ -71,8 +63,8 @@ pub fn name_end(message: &[u8], start: usize) -> usize
 
 // Whether the two tokens stand at an offset.
 fn has_tokens(message: &[u8], at: usize) -> bool
-    requires { ⌜ at + 4 ≤ length (now message) ⌝ }
-    ensures { λ r. ⌜ r ≡ (eqb (u16At (now (message .entry)) at) LmNtToken && eqb (u16At (now (message .entry)) (at + 2)) Lm20Token) ⌝ }
+    requires { at + 4 ≤ length message.now }
+    ensures { result ≡ (eqb (u16_at message.now at) LmNtToken && eqb (u16_at message.now (at + 2)) Lm20Token) }
 {
     (u16_at(message, at) == LM_NT_TOKEN) & (u16_at(message, at + 2) == LM20_TOKEN)
 }
@@ -84,8 +76,8 @@ pub fn read_numbers(
     user_end: usize,
     mailslot_end: usize,
 ) -> MessageRead
-    requires { ⌜ (length (now message) ≤ messageMost) × (areOctets (now message) ≡ true) × Texts (now message) «computer_end» «user_end» «mailslot_end» ⌝ }
-    ensures { λ r. ⌜ r ≡ messageAs (messageIn (now (message .entry))) ⌝ }
+    requires { (length message.now ≤ message_most) × (are_octets message.now ≡ true) × Texts message.now computer_end user_end mailslot_end }
+    ensures { result ≡ message_as (message_in message.now) }
 {
     let bits_at = mailslot_end + 1;
     if message.len() - bits_at < NUMBERS_SIZE {

@@ -1,20 +1,17 @@
 // A mailslot message, read: document 02, #105.
-ghost use Rattle·mailslot.specs.Read.{ReadMessagePromise};
-use crate::part::TEXTS_AT;
-use crate::part::name_end;
-use crate::part::read_numbers;
-use crate::part::text_end;
+ghost use Rattle.mailslot.specs.Read.{ReadMessagePromise};
+
+use crate::part::{TEXTS_AT, name_end, read_numbers, text_end};
 use answers::Refusal;
 use answers::wire::LOGON_SAM_LOGON_REQUEST;
 use mailslot::judge::COMPUTER_NAME_MOST;
-use mailslot::message::MESSAGE_MOST;
-use mailslot::message::MessageRead;
+use mailslot::message::{MESSAGE_MOST, MessageRead};
 use octets::number::u16_at;
 use transcode::octet::first_octet;
 
 // A text that doesn't end hands the message's end on to the next, and so to the one test of them all.
 pub fn read_message(message: &[u8]) -> MessageRead
-    ensures { λ r. ⌜ ReadMessagePromise (now (message .entry)) r ⌝ }
+    ensures { ReadMessagePromise message.now result }
 {
     if MESSAGE_MOST < message.len() {
         return MessageRead::Refused(Refusal::MailslotShape);

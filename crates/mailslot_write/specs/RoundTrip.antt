@@ -1,31 +1,28 @@
 -- Document 02, #105: a reader and a writer, "reading back what was written". The statements.
-use mathlib.Core.Path.{_≡_}
-use mathlib.Core.List.{List}
-use Prim.Native.Nat.{ℕ}
-use lib.ListN.{take}
-use Rattle·answers.specs.declared.written.Written.{Written}
-use Rattle·answers.specs.declared.written.Written.the-variants as written
-use Rattle·answers.specs.Try.{good}
-use Rattle·mailslot.specs.{declared.message.Message.Message, declared.message.MessageRead.MessageRead, Message.messageIn, Message.messageFor, Read.ReadMessagePromise}
-use Rattle·mailslot.specs.declared.message.MessageRead.the-variants as read
-use Rattle·mailslot_write·specs.specs.Write.{WriteMessageReturns, WriteMessageLeaves}
-use Rattle·reader.specs.Field.{stretchOf}
+use Rattle.std.specs.Prelude.{◌≡◌, List, ℕ, take}
+use Rattle.answers.specs.declared.written.Written.{Written}
+use Rattle.answers.specs.declared.written.Written.TheVariants as written
+use Rattle.answers.specs.Try.{good}
+use Rattle.mailslot.specs.{declared.message.Message.Message, declared.message.MessageRead.MessageRead, Message.message_in, Message.message_for, Read.ReadMessagePromise}
+use Rattle.mailslot.specs.declared.message.MessageRead.TheVariants as read
+use Rattle.mailslot_write.specs.Write.{WriteMessageReturns, WriteMessageLeaves}
+use Rattle.reader.specs.Field.{stretch_of}
 
 -- the same message: the same numbers, and the same octets of each text
 pub record SameMessage (s : List ℕ) (q : Message) (source : List ℕ) (m : Message) : Type 0 where
-  pub repeat : q .repeat ≡ m .repeat
-  pub computer : stretchOf s (q .computer) ≡ stretchOf source (m .computer)
-  pub user : stretchOf s (q .user) ≡ stretchOf source (m .user)
-  pub mailslot : stretchOf s (q .mailslot) ≡ stretchOf source (m .mailslot)
-  pub bits : q .bits ≡ m .bits
-  pub sid : stretchOf s (q .sid) ≡ stretchOf source (m .sid)
-  pub version : q .version ≡ m .version
+  pub repeat : q.repeat ≡ m.repeat
+  pub computer : stretch_of s q.computer ≡ stretch_of source m.computer
+  pub user : stretch_of s q.user ≡ stretch_of source m.user
+  pub mailslot : stretch_of s q.mailslot ≡ stretch_of source m.mailslot
+  pub bits : q.bits ≡ m.bits
+  pub sid : stretch_of s q.sid ≡ stretch_of source m.sid
+  pub version : q.version ≡ m.version
 
 -- of the definitions: for all messages and rooms where the writer refuses nothing, its octets read back to the same message
 abbrev pub RoundTrip : Type 0
 RoundTrip =
-    (source : List ℕ) (m : Message) (room : ℕ) (octets : List ℕ) → messageFor source m room ≡ good octets
-    → (q : Message) × (messageIn octets ≡ good q) × SameMessage octets q source m
+    (source : List ℕ) (m : Message) (room : ℕ) (octets : List ℕ) → message_for source m room ≡ good octets
+    → (q : Message) × (message_in octets ≡ good q) × SameMessage octets q source m
 
 -- of the two calls, by what their contracts ensure: where `write_message` answers with a length, `read_message` of that many octets of the buffer gives the same message
 abbrev pub CallsRoundTrip : Type 0

@@ -1,10 +1,9 @@
 // How many octets a message has, known before the first is written.
-ghost use mathlib.Core.Path.{_≡_};
-ghost use Prim.Native.Nat.{_≤_};
-ghost use lib.ListN.{length};
-ghost use Rattle·reader.specs.Field.{stretchOf};
-ghost use Rattle·mailslot.specs.Longest.{messageMost};
-ghost use Rattle·mailslot.specs.Message.{messageHead, messageOctets};
+ghost use Rattle.std.specs.Prelude.{◌≡◌, ◌≤◌, length};
+ghost use Rattle.reader.specs.Field.{stretch_of};
+ghost use Rattle.mailslot.specs.Longest.{message_most};
+ghost use Rattle.mailslot.specs.Message.{message_head, message_octets};
+
 use mailslot::message::Message;
 use mailslot::padding::sid_padding;
 use octets::part::part;
@@ -18,15 +17,15 @@ const ENDING: usize = 4 + 2 + 2;
 
 // The octets of a stretch: as many of them as lie in the source.
 pub fn stretch_octets(source: &[u8], stretch: Stretch) -> &[u8]
-    ensures { λ r. ⌜ now r ≡ stretchOf (now (source .entry)) stretch ⌝ }
+    ensures { result.now ≡ stretch_of source.now stretch }
 {
     part(source, stretch.start, stretch.len)
 }
 
 // How many octets stand before the SID and its padding.
 fn head_size(source: &[u8], message: Message) -> usize
-    requires { ⌜ length (messageOctets (now source) message) ≤ messageMost ⌝ }
-    ensures { λ r. ⌜ r ≡ length (messageHead (now (source .entry)) message) ⌝ }
+    requires { length (message_octets source.now message) ≤ message_most }
+    ensures { result ≡ length (message_head source.now message) }
 {
     let computer = message.computer;
     let user = message.user;
@@ -39,8 +38,8 @@ fn head_size(source: &[u8], message: Message) -> usize
 
 // How many octets a message has.
 pub fn message_size(source: &[u8], message: Message) -> usize
-    requires { ⌜ length (messageOctets (now source) message) ≤ messageMost ⌝ }
-    ensures { λ r. ⌜ r ≡ length (messageOctets (now (source .entry)) message) ⌝ }
+    requires { length (message_octets source.now message) ≤ message_most }
+    ensures { result ≡ length (message_octets source.now message) }
 {
     let sid = message.sid;
     let size = stretch_octets(source, sid).len();

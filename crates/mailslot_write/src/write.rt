@@ -1,5 +1,6 @@
 // Writes a mailslot message.
-ghost use Rattle·mailslot_write·specs.specs.Write.{WriteMessageReturns, WriteMessageLeaves};
+ghost use Rattle.mailslot_write.specs.Write.{WriteMessageReturns, WriteMessageLeaves};
+
 use crate::put::put_message;
 use crate::size::message_size;
 use answers::Refusal;
@@ -10,8 +11,8 @@ use mailslot::message::Message;
 // Writes a message whose texts lie in the source: 41 where a limit is not kept, then 19, and the buffer unchanged.
 // Its length is known before the first octet is written.
 pub fn write_message(source: &[u8], message: Message, out: &mut [u8]) -> Written
-    ensures { λ r. ⌜ WriteMessageReturns (now (source .entry)) message (now (out .entry)) r ⌝ }
-    ensures { λ _. ⌜ WriteMessageLeaves (now (source .entry)) message (now (out .entry)) (now (out .exit)) ⌝ }
+    ensures write_message_returns { WriteMessageReturns source.now message out.old result }
+    ensures write_message_leaves { WriteMessageLeaves source.now message out.old out.new }
 {
     if !is_good_message(source, message) {
         return Written::Refused(Refusal::MailslotShape);

@@ -1,23 +1,20 @@
 // What DNS, NetBIOS and site names must be, and a SID.
-ghost use mathlib.Core.Path.{_≡_};
-ghost use Rattle·octets.specs.Lists.{all};
-ghost use Rattle·octets.specs.Label.{parts};
-ghost use Rattle·name_rules·specs.specs.Internal.LabelStep.{labelStep, InLabel};
-ghost use Rattle·octets.specs.NameRule.{sized, isDnsName, isPlainName, isNetbiosName, isSiteName};
-ghost use Rattle·octets.specs.Sid.{isSid};
-use octets::name_rule::DNS_NAME_MOST;
-use octets::name_rule::DOT;
-use octets::name_rule::NETBIOS_NAME_MOST;
-use octets::name_rule::SITE_NAME_MOST;
+ghost use Rattle.std.specs.Prelude.{◌≡◌};
+ghost use Rattle.octets.specs.Lists.{all};
+ghost use Rattle.octets.specs.Label.{parts};
+ghost use Rattle.name_rules.specs.Internal.LabelStep.{label_step, InLabel};
+ghost use Rattle.octets.specs.NameRule.{sized, is_dns_name, is_plain_name, is_netbios_name, is_site_name};
+ghost use Rattle.octets.specs.Sid.{is_sid};
+
+use octets::name_rule::{DNS_NAME_MOST, DOT, NETBIOS_NAME_MOST, SITE_NAME_MOST};
 use octets::number::wide;
-use octets::text::is_printable;
-use octets::text::lacks;
+use octets::text::{is_printable, lacks};
 
 // How many octets a label may have.
 const LABEL_MOST: usize = 63;
 
 fn is_sized(s: &[u8], low: usize, high: usize) -> bool
-    ensures { λ r. ⌜ r ≡ sized low high (now (s .entry)) ⌝ }
+    ensures { result ≡ sized low high s.now }
 {
     if s.len() < low {
         return false;
@@ -26,14 +23,15 @@ fn is_sized(s: &[u8], low: usize, high: usize) -> bool
 }
 
 // What an octet does to the label it stands in: a wrong length, or the octets of the label so far.
+#[derive(Drop)]
 pub enum LabelStep {
     Bad,
     Length(usize),
 }
 
 fn label_step(n: usize, x: u8) -> LabelStep
-    ensures { λ r. ⌜ r ≡ labelStep n x ⌝ }
-    ensures { λ r. ⌜ InLabel r ⌝ }
+    ensures value { result ≡ label_step n x }
+    ensures in_label { InLabel result }
 {
     if x == DOT {
         if n == 0 {
@@ -49,7 +47,7 @@ fn label_step(n: usize, x: u8) -> LabelStep
 
 // Whether no label is empty or too long.
 pub fn has_good_labels(s: &[u8]) -> bool
-    ensures { λ r. ⌜ r ≡ all (sized 1 63) (parts (now (s .entry))) ⌝ }
+    ensures { result ≡ all (sized 1 63) (parts s.now) }
 {
     let mut n = 0;
     let mut i = 0;
@@ -64,7 +62,7 @@ pub fn has_good_labels(s: &[u8]) -> bool
 }
 
 pub fn is_dns_name(s: &[u8]) -> bool
-    ensures { λ r. ⌜ r ≡ isDnsName (now (s .entry)) ⌝ }
+    ensures { result ≡ is_dns_name s.now }
 {
     if !is_sized(s, 1, DNS_NAME_MOST) {
         return false;
@@ -76,7 +74,7 @@ pub fn is_dns_name(s: &[u8]) -> bool
 }
 
 fn is_plain_name(s: &[u8], room: usize) -> bool
-    ensures { λ r. ⌜ r ≡ isPlainName room (now (s .entry)) ⌝ }
+    ensures { result ≡ is_plain_name room s.now }
 {
     if !is_sized(s, 1, room) {
         return false;
@@ -88,19 +86,19 @@ fn is_plain_name(s: &[u8], room: usize) -> bool
 }
 
 pub fn is_netbios_name(s: &[u8]) -> bool
-    ensures { λ r. ⌜ r ≡ isNetbiosName (now (s .entry)) ⌝ }
+    ensures { result ≡ is_netbios_name s.now }
 {
     is_plain_name(s, NETBIOS_NAME_MOST)
 }
 
 pub fn is_site_name(s: &[u8]) -> bool
-    ensures { λ r. ⌜ r ≡ isSiteName (now (s .entry)) ⌝ }
+    ensures { result ≡ is_site_name s.now }
 {
     is_plain_name(s, SITE_NAME_MOST)
 }
 
 pub fn is_sid(s: &[u8]) -> bool
-    ensures { λ r. ⌜ r ≡ isSid (now (s .entry)) ⌝ }
+    ensures { result ≡ is_sid s.now }
 {
     if s.len() < 8 {
         return false;

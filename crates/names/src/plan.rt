@@ -1,24 +1,23 @@
 // Plans names before an octet is written: how much of each is written out, and what ends it.
-ghost use mathlib.Core.Path.{_≡_};
-ghost use Prim.Native.Nat.{_+_, _≤_, _<_};
-ghost use lib.ListN.{length, take, drop};
-ghost use Rattle·octets.specs.Label.{labels};
-ghost use Rattle·names·specs.specs.Internal.Plan.{toDot, startsLabel, literalOctets, literalSize, CommonTail, offersSize, tailsFrom, firstAim, betterAim, AimWithin, endingOctets, nameTails, namesTails, planBy, Fit, AllFit, PlanOf, PlansOf, ShortTexts};
-use lent::stretch::Lender;
-use lent::stretch::Stretch;
-use lent::stretch::slot_text;
+ghost use Rattle.std.specs.Prelude.{◌≡◌, ◌+◌, ◌≤◌, ◌<◌, length, take, drop};
+ghost use Rattle.octets.specs.Label.{labels};
+ghost use Rattle.names.specs.Internal.Plan.{to_dot, starts_label, literal_octets, literal_size, CommonTail, offers_size, tails_from, first_aim, better_aim, AimWithin, ending_octets, name_tails, names_tails, plan_by, Fit, AllFit, PlanOf, PlansOf, ShortTexts};
+
+use lent::stretch::{Lender, Stretch, slot_text};
 use octets::name_rule::DOT;
 
 // The most names of a reply.
 pub const NAMES_MOST: usize = 9;
 
 // What ends a name: a zero octet, or a pointer to an offset.
+#[derive(Clone, Copy)]
 pub enum Ending {
     Zero,
     Pointer(usize),
 }
 
 // A name as it will be written: its text, its offset in the reply, how many octets of its labels are written out, and what ends it.
+#[derive(Clone, Copy)]
 pub struct PlannedName {
     pub text: Stretch,
     pub offset: usize,
@@ -27,12 +26,14 @@ pub struct PlannedName {
 }
 
 // Where a pointer may end a name: the octets of its labels before it, and the offset it points to.
+#[derive(Drop)]
 pub enum Aim {
     At { before: usize, offset: usize },
     Nothing,
 }
 
 // Names one after the other, and the offset after the last.
+#[derive(Drop)]
 pub struct NamesPlan {
     pub names: [PlannedName; NAMES_MOST],
     pub end: usize,
@@ -40,8 +41,8 @@ pub struct NamesPlan {
 
 // Where the label that starts at an offset ends: at the next dot or the end.
 pub fn label_end(text: &[u8], start: usize) -> usize
-    requires { ⌜ start ≤ length (now text) ⌝ }
-    ensures { λ r. ⌜ (r ≡ start + toDot (drop start (now (text .entry)))) × (r ≤ length (now (text .entry))) ⌝ }
+    requires { start ≤ length text.now }
+    ensures { (result ≡ start + to_dot (drop start text.now)) × (result ≤ length text.now) }
 {
     let mut end = start;
     while end < text.len() {
@@ -55,8 +56,8 @@ pub fn label_end(text: &[u8], start: usize) -> usize
 
 // A label starts at the front and after each dot.
 pub fn starts_label(text: &[u8], at: usize) -> bool
-    requires { ⌜ at ≤ length (now text) ⌝ }
-    ensures { λ r. ⌜ r ≡ startsLabel (now (text .entry)) at ⌝ }
+    requires { at ≤ length text.now }
+    ensures { result ≡ starts_label text.now at }
 {
     if at == 0 {
         return true;
@@ -66,7 +67,7 @@ pub fn starts_label(text: &[u8], at: usize) -> bool
 
 // How many octets two texts have in common at their ends: what decides for every tail of a name at once.
 fn common_tail(a: &[u8], b: &[u8]) -> usize
-    ensures { λ r. ⌜ CommonTail (now (a .entry)) (now (b .entry)) r ⌝ }
+    ensures { CommonTail a.now b.now result }
 {
     let mut n = 0;
     while n < a.len() {
@@ -83,8 +84,8 @@ fn common_tail(a: &[u8], b: &[u8]) -> usize
 
 // Whether a name planned before offers a tail of some size: its octets are common, and a label that is written out starts there.
 fn offers_tail(earlier: &[u8], literal: usize, size: usize, common: usize) -> bool
-    requires { ⌜ common ≤ length (now earlier) ⌝ }
-    ensures { λ r. ⌜ r ≡ offersSize (now (earlier .entry)) literal size common ⌝ }
+    requires { common ≤ length earlier.now }
+    ensures { result ≡ offers_size earlier.now literal size common }
 {
     if common < size {
         return false;
@@ -98,9 +99,9 @@ fn offers_tail(earlier: &[u8], literal: usize, size: usize, common: usize) -> bo
 
 // Where a pointer into one name planned before may end a text first.
 fn aim_in(earlier: &[u8], offset: usize, literal: usize, text: &[u8]) -> Aim
-    requires { ⌜ (length (now earlier) ≤ 255) × (offset ≤ 8192) × (literal ≤ length (literalOctets (now earlier))) ⌝ }
-    ensures { λ r. ⌜ r ≡ firstAim (tailsFrom offset literal (labels (now (earlier .entry)))) (labels (now (text .entry))) ⌝ }
-    ensures { λ r. ⌜ AimWithin (length (now (text .entry))) r ⌝ }
+    requires { (length earlier.now ≤ 255) × (offset ≤ 8192) × (literal ≤ length (literal_octets earlier.now)) }
+    ensures value { result ≡ first_aim (tails_from offset literal (labels earlier.now)) (labels text.now) }
+    ensures aim_within { AimWithin (length text.now) result }
 {
     if text.len() == 0 {
         return Aim::Nothing;
@@ -122,9 +123,9 @@ fn aim_in(earlier: &[u8], offset: usize, literal: usize, text: &[u8]) -> Aim
 
 // The same for a name as it is planned.
 fn aim_at<'a>(table: &'a [u8], request: &'a [u8], name: PlannedName, text: &[u8]) -> Aim
-    requires { ⌜ Fit (now table) (now request) name ⌝ }
-    ensures { λ r. ⌜ r ≡ firstAim (nameTails (now (table .entry)) (now (request .entry)) name) (labels (now (text .entry))) ⌝ }
-    ensures { λ r. ⌜ AimWithin (length (now (text .entry))) r ⌝ }
+    requires { Fit table.now request.now name }
+    ensures value { result ≡ first_aim (name_tails table.now request.now name) (labels text.now) }
+    ensures aim_within { AimWithin (length text.now) result }
 {
     let earlier = slot_text(table, request, name.text);
     aim_in(earlier, name.offset, name.literal, text)
@@ -132,7 +133,7 @@ fn aim_at<'a>(table: &'a [u8], request: &'a [u8], name: PlannedName, text: &[u8]
 
 // The aim with fewer octets before it, the first where they agree.
 fn better(a: Aim, b: Aim) -> Aim
-    ensures { λ r. ⌜ r ≡ betterAim a b ⌝ }
+    ensures { result ≡ better_aim a b }
 {
     let Aim::At { before, offset: _ } = a else {
         return b;
@@ -158,9 +159,9 @@ fn best_aim<'a>(
     count: usize,
     text: &[u8],
 ) -> Aim
-    requires { ⌜ (count ≤ 9) × AllFit (now table) (now request) (take count names) ⌝ }
-    ensures { λ r. ⌜ r ≡ firstAim (namesTails (now (table .entry)) (now (request .entry)) (take count names)) (labels (now (text .entry))) ⌝ }
-    ensures { λ r. ⌜ AimWithin (length (now (text .entry))) r ⌝ }
+    requires { (count ≤ 9) × AllFit table.now request.now (take count names) }
+    ensures value { result ≡ first_aim (names_tails table.now request.now (take count names)) (labels text.now) }
+    ensures aim_within { AimWithin (length text.now) result }
 {
     let mut aim = Aim::Nothing;
     let mut i = 0;
@@ -173,8 +174,8 @@ fn best_aim<'a>(
 
 // How many octets the labels of a text of n octets take, written out.
 fn literal_size(n: usize) -> usize
-    requires { ⌜ n ≤ 255 ⌝ }
-    ensures { λ r. ⌜ r ≡ literalSize n ⌝ }
+    requires { n ≤ 255 }
+    ensures { result ≡ literal_size n }
 {
     if n == 0 {
         return 0;
@@ -184,8 +185,8 @@ fn literal_size(n: usize) -> usize
 
 // The plan of a name of `size` octets by its aim.
 fn planned(text: Stretch, size: usize, offset: usize, aim: Aim) -> PlannedName
-    requires { ⌜ size ≤ 255 ⌝ }
-    ensures { λ r. ⌜ r ≡ planBy text size offset aim ⌝ }
+    requires { size ≤ 255 }
+    ensures { result ≡ plan_by text size offset aim }
 {
     let Aim::At {
         before,
@@ -216,9 +217,9 @@ pub fn plan_name<'a>(
     text: Stretch,
     offset: usize,
 ) -> PlannedName
-    requires { ⌜ (count ≤ 9) × (text .len ≤ 255) × (offset ≤ 8192) ⌝ }
-    requires { ⌜ AllFit (now table) (now request) (take count names) ⌝ }
-    ensures { λ r. ⌜ PlanOf (now (table .entry)) (now (request .entry)) (take count names) text offset r ⌝ }
+    requires count_bound { (count ≤ 9) × (text.len ≤ 255) × (offset ≤ 8192) }
+    requires all_fit { AllFit table.now request.now (take count names) }
+    ensures { PlanOf table.now request.now (take count names) text offset result }
 {
     let octets = slot_text(table, request, text);
     let aim = best_aim(table, request, names, count, octets);
@@ -227,8 +228,8 @@ pub fn plan_name<'a>(
 
 // How many octets a planned name takes.
 pub fn name_size(name: PlannedName) -> usize
-    requires { ⌜ name .literal ≤ 256 ⌝ }
-    ensures { λ r. ⌜ r ≡ name .literal + length (endingOctets (name .ending)) ⌝ }
+    requires { name.literal ≤ 256 }
+    ensures { result ≡ name.literal + length (ending_octets name.ending) }
 {
     let ending = name.ending;
     match ending {
@@ -260,8 +261,8 @@ pub fn plan_names<'a>(
     count: usize,
     offset: usize,
 ) -> NamesPlan
-    requires { ⌜ (count ≤ 9) × (offset ≤ 4096) × ShortTexts texts count ⌝ }
-    ensures { λ r. ⌜ PlansOf (now (table .entry)) (now (request .entry)) texts count offset r ⌝ }
+    requires { (count ≤ 9) × (offset ≤ 4096) × ShortTexts texts count }
+    ensures { PlansOf table.now request.now texts count offset result }
 {
     let mut names = blank_names();
     let mut end = offset;

@@ -1,20 +1,15 @@
 // Writes planned names into the front of a buffer that has the room.
-ghost use mathlib.Core.Path.{_≡_};
-ghost use Prim.Native.Nat.{_+_, _≤_, _<_};
-ghost use lib.ListN.{length, getD, take};
-ghost use Rattle·octets.specs.Buffer.{over};
-ghost use Rattle·names.specs.Internal.Plan.{literalOctets, endingOctets, PointsLow, nameOctets, namesOctets, Fit, AllFit};
+ghost use Rattle.std.specs.Prelude.{◌≡◌, ◌+◌, ◌≤◌, ◌<◌, length, get_or, take};
+ghost use Rattle.octets.specs.Buffer.{over};
+ghost use Rattle.names.specs.Internal.Plan.{literal_octets, ending_octets, PointsLow, name_octets, names_octets, Fit, AllFit};
+
 use lent::stretch::slot_text;
-use names::plan::Ending;
-use names::plan::NAMES_MOST;
-use names::plan::PlannedName;
-use names::plan::label_end;
-use names::plan::starts_label;
+use names::plan::{Ending, NAMES_MOST, PlannedName, label_end, starts_label};
 
 // The octet at an offset of a text's labels written out.
 fn literal_octet(text: &[u8], at: usize) -> u8
-    requires { ⌜ (length (now text) ≤ 255) × (at < length (literalOctets (now text))) ⌝ }
-    ensures { λ r. ⌜ r ≡ getD (literalOctets (now (text .entry))) at 0 ⌝ }
+    requires { (length text.now ≤ 255) × (at < length (literal_octets text.now)) }
+    ensures { result ≡ get_or (literal_octets text.now) at 0 }
 {
     if starts_label(text, at) {
         return (label_end(text, at) - at) as u8;
@@ -24,8 +19,8 @@ fn literal_octet(text: &[u8], at: usize) -> u8
 
 // The first `literal` octets of a text's labels written out.
 fn put_labels(out: &mut [u8], text: &[u8], literal: usize)
-    requires { ⌜ (length (now text) ≤ 255) × (literal ≤ length (literalOctets (now text))) × (literal ≤ length (now out)) ⌝ }
-    ensures { λ _. ⌜ now (out .exit) ≡ over (take literal (literalOctets (now (text .entry)))) (now (out .entry)) ⌝ }
+    requires { (length text.now ≤ 255) × (literal ≤ length (literal_octets text.now)) × (literal ≤ length out.old) }
+    ensures { out.new ≡ over (take literal (literal_octets text.now)) out.old }
 {
     let mut i = 0;
     while i < literal {
@@ -36,9 +31,9 @@ fn put_labels(out: &mut [u8], text: &[u8], literal: usize)
 
 // A zero octet, or a pointer: its top two bits set, then its offset.
 fn put_ending(out: &mut [u8], ending: Ending) -> usize
-    requires { ⌜ (length (endingOctets ending) ≤ length (now out)) × PointsLow ending ⌝ }
-    ensures { λ r. ⌜ r ≡ length (endingOctets ending) ⌝ }
-    ensures { λ _. ⌜ now (out .exit) ≡ over (endingOctets ending) (now (out .entry)) ⌝ }
+    requires { (length (ending_octets ending) ≤ length out.old) × PointsLow ending }
+    ensures value { result ≡ length (ending_octets ending) }
+    ensures out_after { out.new ≡ over (ending_octets ending) out.old }
 {
     let Ending::Pointer(offset) = ending else {
         out[0] = 0;
@@ -51,10 +46,10 @@ fn put_ending(out: &mut [u8], ending: Ending) -> usize
 
 // One planned name.
 pub fn put_name<'a>(out: &mut [u8], table: &'a [u8], request: &'a [u8], name: PlannedName) -> usize
-    requires { ⌜ Fit (now table) (now request) name ⌝ }
-    requires { ⌜ length (nameOctets (now table) (now request) name) ≤ length (now out) ⌝ }
-    ensures { λ r. ⌜ r ≡ length (nameOctets (now (table .entry)) (now (request .entry)) name) ⌝ }
-    ensures { λ _. ⌜ now (out .exit) ≡ over (nameOctets (now (table .entry)) (now (request .entry)) name) (now (out .entry)) ⌝ }
+    requires fit { Fit table.now request.now name }
+    requires name_in_bounds { length (name_octets table.now request.now name) ≤ length out.old }
+    ensures value { result ≡ length (name_octets table.now request.now name) }
+    ensures out_after { out.new ≡ over (name_octets table.now request.now name) out.old }
 {
     let literal = name.literal;
     let ending = name.ending;
@@ -70,10 +65,10 @@ pub fn put_names<'a>(
     names: [PlannedName; NAMES_MOST],
     count: usize,
 ) -> usize
-    requires { ⌜ (count ≤ 9) × AllFit (now table) (now request) (take count names) ⌝ }
-    requires { ⌜ length (namesOctets (now table) (now request) (take count names)) ≤ length (now out) ⌝ }
-    ensures { λ r. ⌜ r ≡ length (namesOctets (now (table .entry)) (now (request .entry)) (take count names)) ⌝ }
-    ensures { λ _. ⌜ now (out .exit) ≡ over (namesOctets (now (table .entry)) (now (request .entry)) (take count names)) (now (out .entry)) ⌝ }
+    requires count_bound { (count ≤ 9) × AllFit table.now request.now (take count names) }
+    requires names_in_bounds { length (names_octets table.now request.now (take count names)) ≤ length out.old }
+    ensures value { result ≡ length (names_octets table.now request.now (take count names)) }
+    ensures out_after { out.new ≡ over (names_octets table.now request.now (take count names)) out.old }
 {
     let mut at = 0;
     let mut i = 0;

@@ -1,7 +1,5 @@
 -- What writing leaves in a lent buffer.
-use mathlib.Core.List.{List, _++_}
-use Prim.Native.Nat.{ℕ}
-use lib.ListN.{length, drop}
+use Rattle.std.specs.Prelude.{List, ◌++◌, ℕ, length, drop}
 
 -- octets laid over a buffer's first ones; the others stay as they were
 unfoldable pub over : List ℕ → List ℕ → List ℕ

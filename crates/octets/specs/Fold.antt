@@ -1,19 +1,14 @@
 -- Document 02, #108: Unicode's simple case folding, statuses C and S of CaseFolding.txt, for the code points below 530h; higher ones stand for themselves.
-use mathlib.Core.Path.{_≡_}
-use mathlib.Core.Bool.{true, false, cond}
-use mathlib.Core.List.{List, [], _∷_, map}
-use Prim.Native.Nat.{ℕ, zero, suc, _+_, _≤_}
-use lib.Dec.{eqb, ltb}
-use lib.ListN.{length, getD}
-use Rattle·octets·specs.specs.Lists.{all, any}
+use Rattle.std.specs.Prelude.{◌≡◌, true, false, cond, List, [], ◌∷◌, map, ℕ, zero, suc, ◌+◌, ◌≤◌, eqb, ltb, length, get_or}
+use Rattle.octets.specs.Lists.{all, any}
 
 -- one entry for each code point below
-abbrev pub foldEnd : ℕ
-foldEnd = 0x530
+abbrev pub fold_end : ℕ
+fold_end = 0x530
 
 -- the file's lines of these statuses in its order: a code point, and what it folds to, which may stand past the table
-unfoldable pub foldPairs : List (ℕ × ℕ)
-foldPairs =
+unfoldable pub fold_pairs : List (ℕ × ℕ)
+fold_pairs =
     (0x041, 0x061) ∷ (0x042, 0x062) ∷ (0x043, 0x063) ∷ (0x044, 0x064) ∷ (0x045, 0x065) ∷ (0x046, 0x066) ∷ (0x047, 0x067) ∷ (0x048, 0x068) ∷ (0x049, 0x069) ∷
     (0x04A, 0x06A) ∷ (0x04B, 0x06B) ∷ (0x04C, 0x06C) ∷ (0x04D, 0x06D) ∷ (0x04E, 0x06E) ∷ (0x04F, 0x06F) ∷ (0x050, 0x070) ∷ (0x051, 0x071) ∷ (0x052, 0x072) ∷
     (0x053, 0x073) ∷ (0x054, 0x074) ∷ (0x055, 0x075) ∷ (0x056, 0x076) ∷ (0x057, 0x077) ∷ (0x058, 0x078) ∷ (0x059, 0x079) ∷ (0x05A, 0x07A) ∷ (0x0B5, 0x3BC) ∷
@@ -66,28 +61,28 @@ foldPairs =
     []
 
 -- n entries from a code point on: what the next pair says, if it is the code point's, else the code point itself
-unfoldable pub foldFrom : ℕ → ℕ → List (ℕ × ℕ) → List ℕ
-foldFrom zero c pairs = []
-foldFrom (suc n) c [] = c ∷ foldFrom n (c + 1) []
-foldFrom (suc n) c (p ∷ pairs) = cond (eqb (p .0) c) (p .1) c ∷ foldFrom n (c + 1) (cond (eqb (p .0) c) pairs (p ∷ pairs))
+unfoldable pub fold_from : ℕ → ℕ → List (ℕ × ℕ) → List ℕ
+fold_from zero c pairs = []
+fold_from (suc n) c [] = c ∷ fold_from n (c + 1) []
+fold_from (suc n) c (p ∷ pairs) = cond (eqb p.0 c) p.1 c ∷ fold_from n (c + 1) (cond (eqb p.0 c) pairs (p ∷ pairs))
 
-unfoldable pub foldTable : List ℕ
-foldTable = foldFrom foldEnd 0 foldPairs
+unfoldable pub fold_table_lem : List ℕ
+fold_table_lem = fold_from fold_end 0 fold_pairs
 
-unfoldable pub foldPoint : ℕ → ℕ
-foldPoint c = cond (ltb c foldEnd) (getD foldTable c 0) c
+unfoldable pub fold_point : ℕ → ℕ
+fold_point c = cond (ltb c fold_end) (get_or fold_table_lem c 0) c
 
 -- code point by code point
-unfoldable pub foldPoints : List ℕ → List ℕ
-foldPoints = map foldPoint
+unfoldable pub fold_points : List ℕ → List ℕ
+fold_points = map fold_point
 
 -- what the pairs come to: each folds its code point, and a code point without one stands for itself, as all past the table do
 pub record FoldsAsPaired : Type 0 where
-  pub pairs : length foldPairs ≡ 441
-  pub entries : length foldTable ≡ 1328
-  pub paired : all (λ p. eqb (foldPoint (p .0)) (p .1)) foldPairs ≡ true
-  pub alone : (c : ℕ) → any (λ p. eqb (p .0) c) foldPairs ≡ false → foldPoint c ≡ c
-  pub past : (c : ℕ) → foldEnd ≤ c → foldPoint c ≡ c
-  pub oWithStroke : foldPoint 0xD8 ≡ 0xF8
-  pub aWithStroke : foldPoint 0x23A ≡ 0x2C65
-  pub sharpS : foldPoint 0xDF ≡ 0xDF
+  pub pairs : length fold_pairs ≡ 441
+  pub entries : length fold_table_lem ≡ 1328
+  pub paired : all (λ p. eqb (fold_point p.0) p.1) fold_pairs ≡ true
+  pub alone : (c : ℕ) → any (λ p. eqb p.0 c) fold_pairs ≡ false → fold_point c ≡ c
+  pub past : (c : ℕ) → fold_end ≤ c → fold_point c ≡ c
+  pub o_with_stroke : fold_point 0xD8 ≡ 0xF8
+  pub a_with_stroke : fold_point 0x23A ≡ 0x2C65
+  pub sharp_s : fold_point 0xDF ≡ 0xDF

@@ -1,10 +1,7 @@
 -- Numbers in octets, at any width: document 01, "The table image" and "Reply octets" little-endian, "The filter" big-endian, as pointers are.
-use mathlib.Core.Bool.{Bool, not}
-use mathlib.Core.List.{List, [], _∷_, reverse}
-use Prim.Native.Nat.{ℕ, zero, suc, _+_, _*_, _/_, _%_}
-use lib.Bits.{bitAnd}
-use lib.Dec.{eqb}
-use Rattle·octets·specs.specs.Lists.{cut}
+use Rattle.std.specs.Prelude.{Bool, not, List, [], ◌∷◌, reverse, ℕ, zero, suc, ◌+◌, ◌*◌, ◌/◌, ◌%◌, eqb}
+use Rattle.std.specs.Int.Bits.{bit_and}
+use Rattle.octets.specs.Lists.{cut}
 
 -- the number that octets make, the least significant first
 unfoldable pub little : List ℕ → ℕ
@@ -16,20 +13,20 @@ unfoldable pub big : List ℕ → ℕ
 big xs = little (reverse xs)
 
 -- a number in w octets
-unfoldable pub littleOctets : ℕ → ℕ → List ℕ
-littleOctets zero n = []
-littleOctets (suc w) n = (n % 256) ∷ littleOctets w (n / 256)
+unfoldable pub little_octets : ℕ → ℕ → List ℕ
+little_octets zero n = []
+little_octets (suc w) n = (n % 256) ∷ little_octets w (n / 256)
 
-unfoldable pub bigOctets : ℕ → ℕ → List ℕ
-bigOctets w n = reverse (littleOctets w n)
+unfoldable pub big_octets : ℕ → ℕ → List ℕ
+big_octets w n = reverse (little_octets w n)
 
 -- the numbers at an offset
-abbrev pub u16At : List ℕ → ℕ → ℕ
-u16At s at = little (cut s at 2)
+abbrev pub u16_at : List ℕ → ℕ → ℕ
+u16_at s at = little (cut s at 2)
 
-abbrev pub u32At : List ℕ → ℕ → ℕ
-u32At s at = little (cut s at 4)
+abbrev pub u32_at : List ℕ → ℕ → ℕ
+u32_at s at = little (cut s at 4)
 
 -- some bit of the mask is set
 unfoldable pub has : ℕ → ℕ → Bool
-has bits mask = not (eqb (bitAnd bits mask) 0)
+has bits mask = not (eqb (bit_and bits mask) 0)

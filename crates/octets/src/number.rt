@@ -1,44 +1,42 @@
 // Numbers in octets.
-ghost use mathlib.Core.Path.{_≡_};
-ghost use Prim.Native.Nat.{_+_, _≤_, _<_};
-ghost use lib.ListN.{length};
-ghost use Rattle·octets·specs.specs.Number.{u16At, u32At, big, has};
-ghost use Rattle·octets·specs.specs.Lists.{cut};
+ghost use Rattle.std.specs.Prelude.{◌≡◌, ◌+◌, ◌≤◌, ◌<◌, length};
+ghost use Rattle.octets.specs.Number.{u16_at, u32_at, big, has};
+ghost use Rattle.octets.specs.Lists.{cut};
 
 // An octet as a wider number; it stays below 256.
 pub fn wide(x: u8) -> u32
-    ensures { λ r. ⌜ (r ≡ x) × (r < 256) ⌝ }
+    ensures { (result ≡ x) × (result < 256) }
 {
     x as u32
 }
 
 // The little-endian number of two octets at an offset.
 pub fn u16_at(s: &[u8], at: usize) -> u16
-    requires { ⌜ at + 2 ≤ length (now s) ⌝ }
-    ensures { λ r. ⌜ r ≡ u16At (now (s .entry)) at ⌝ }
+    requires { at + 2 ≤ length s.now }
+    ensures { result ≡ u16_at s.now at }
 {
     (wide(s[at]) + 256 * wide(s[at + 1])) as u16
 }
 
 // The little-endian number of four octets at an offset.
 pub fn u32_at(s: &[u8], at: usize) -> u32
-    requires { ⌜ at + 4 ≤ length (now s) ⌝ }
-    ensures { λ r. ⌜ r ≡ u32At (now (s .entry)) at ⌝ }
+    requires { at + 4 ≤ length s.now }
+    ensures { result ≡ u32_at s.now at }
 {
     (u16_at(s, at) as u32) + 65536 * (u16_at(s, at + 2) as u32)
 }
 
 // The big-endian number of two octets at an offset.
 pub fn big_u16_at(s: &[u8], at: usize) -> u16
-    requires { ⌜ at + 2 ≤ length (now s) ⌝ }
-    ensures { λ r. ⌜ r ≡ big (cut (now (s .entry)) at 2) ⌝ }
+    requires { at + 2 ≤ length s.now }
+    ensures { result ≡ big (cut s.now at 2) }
 {
     (256 * wide(s[at]) + wide(s[at + 1])) as u16
 }
 
 // Whether some bit of a mask is set.
 pub fn has_bits(bits: u32, mask: u32) -> bool
-    ensures { λ r. ⌜ r ≡ has bits mask ⌝ }
+    ensures { result ≡ has bits mask }
 {
     bits & mask != 0
 }

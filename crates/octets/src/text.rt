@@ -1,15 +1,13 @@
 // Texts: comparing them, and what their octets must be.
-ghost use mathlib.Core.Path.{_≡_};
-ghost use mathlib.Core.List.{map};
-ghost use Prim.Native.Nat.{_+_, _≤_, _<_};
-ghost use lib.ListN.{length};
-ghost use Rattle·octets·specs.specs.Internal.Class.{isOf};
-ghost use Rattle·octets·specs.specs.Internal.FoldIf.{foldIf};
-ghost use Rattle·octets·specs.specs.Lists.{all, cut};
-ghost use Rattle·octets·specs.specs.NameRule.{printable, without};
-ghost use Rattle·octets·specs.specs.Text.{same, sameFolded, allZero};
+ghost use Rattle.std.specs.Prelude.{◌≡◌, map, ◌+◌, ◌≤◌, ◌<◌, length};
+ghost use Rattle.octets.specs.Internal.Class.{is_of};
+ghost use Rattle.octets.specs.Internal.FoldIf.{fold_if};
+ghost use Rattle.octets.specs.Lists.{all, cut};
+ghost use Rattle.octets.specs.NameRule.{printable, without};
+ghost use Rattle.octets.specs.Text.{same, same_folded, all_zero};
 
 // A class of octets that a text may be made of.
+#[derive(Clone, Copy)]
 pub enum Class {
     Zero,
     Printable,
@@ -17,7 +15,7 @@ pub enum Class {
 }
 
 fn is_of(class: Class, x: u8) -> bool
-    ensures { λ r. ⌜ r ≡ isOf class x ⌝ }
+    ensures { result ≡ is_of class x }
 {
     match class {
         Class::Zero => x == 0,
@@ -33,7 +31,7 @@ fn is_of(class: Class, x: u8) -> bool
 
 // Whether each octet is of a class.
 fn all_of(s: &[u8], class: Class) -> bool
-    ensures { λ r. ⌜ r ≡ all (isOf class) (now (s .entry)) ⌝ }
+    ensures { result ≡ all (is_of class) s.now }
 {
     let mut i = 0;
     while i < s.len() {
@@ -47,8 +45,8 @@ fn all_of(s: &[u8], class: Class) -> bool
 
 // Whether the eight octets from an offset on are zero. None waits for another, so that the compiler makes one test of them.
 fn are_eight_zero(s: &[u8], at: usize) -> bool
-    requires { ⌜ at + 8 ≤ length (now s) ⌝ }
-    ensures { λ r. ⌜ r ≡ allZero (cut (now (s .entry)) at 8) ⌝ }
+    requires { at + 8 ≤ length s.now }
+    ensures { result ≡ all_zero (cut s.now at 8) }
 {
     (s[at] == 0)
         & (s[at + 1] == 0)
@@ -62,7 +60,7 @@ fn are_eight_zero(s: &[u8], at: usize) -> bool
 
 // Eight octets at a time, then those that are left.
 pub fn all_zero(s: &[u8]) -> bool
-    ensures { λ r. ⌜ r ≡ allZero (now (s .entry)) ⌝ }
+    ensures { result ≡ all_zero s.now }
 {
     let mut i = 0;
     while 8 <= s.len() - i {
@@ -75,21 +73,21 @@ pub fn all_zero(s: &[u8]) -> bool
 }
 
 pub fn is_printable(s: &[u8]) -> bool
-    ensures { λ r. ⌜ r ≡ printable (now (s .entry)) ⌝ }
+    ensures { result ≡ printable s.now }
 {
     all_of(s, Class::Printable)
 }
 
 // Whether no octet is x.
 pub fn lacks(s: &[u8], x: u8) -> bool
-    ensures { λ r. ⌜ r ≡ without x (now (s .entry)) ⌝ }
+    ensures { result ≡ without x s.now }
 {
     all_of(s, Class::Other(x))
 }
 
 // An octet as it is compared: with ASCII case ignored, A to Z are a to z.
 pub fn folded(x: u8, ignore_case: bool) -> u8
-    ensures { λ r. ⌜ r ≡ foldIf «ignore_case» x ⌝ }
+    ensures { result ≡ fold_if ignore_case x }
 {
     if ignore_case {
         if 65 <= x {
@@ -103,7 +101,7 @@ pub fn folded(x: u8, ignore_case: bool) -> u8
 
 // Whether two texts are the same, octet for octet as they are compared.
 pub fn alike(a: &[u8], b: &[u8], ignore_case: bool) -> bool
-    ensures { λ r. ⌜ r ≡ same (map (foldIf «ignore_case») (now (a .entry))) (map (foldIf «ignore_case») (now (b .entry))) ⌝ }
+    ensures { result ≡ same (map (fold_if ignore_case) a.now) (map (fold_if ignore_case) b.now) }
 {
     if a.len() != b.len() {
         return false;
@@ -121,14 +119,14 @@ pub fn alike(a: &[u8], b: &[u8], ignore_case: bool) -> bool
 }
 
 pub fn same_octets(a: &[u8], b: &[u8]) -> bool
-    ensures { λ r. ⌜ r ≡ same (now (a .entry)) (now (b .entry)) ⌝ }
+    ensures { result ≡ same a.now b.now }
 {
     alike(a, b, false)
 }
 
 // The same with ASCII case ignored.
 pub fn same_folded(a: &[u8], b: &[u8]) -> bool
-    ensures { λ r. ⌜ r ≡ sameFolded (now (a .entry)) (now (b .entry)) ⌝ }
+    ensures { result ≡ same_folded a.now b.now }
 {
     alike(a, b, true)
 }

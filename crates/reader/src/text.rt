@@ -1,15 +1,14 @@
 // A UTF-16 text of a received reply, which ends in a zero unit.
-ghost use mathlib.Core.Path.{_≡_};
-ghost use lib.ListN.{length};
-ghost use Rattle·reader·specs.specs.Text.{unitOf, turn, readText};
-ghost use Rattle·reader·specs.specs.Internal.Text.{textIn, unitStep, StepWithin};
-use crate::field::FieldRead;
-use crate::field::Stretch;
-use crate::field::octets_at;
+ghost use Rattle.std.specs.Prelude.{◌≡◌, length};
+ghost use Rattle.reader.specs.Text.{unit_of, turn, read_text};
+ghost use Rattle.reader.specs.Internal.Text.{text_in, unit_step, StepWithin};
+
+use crate::field::{FieldRead, Stretch, octets_at};
 use answers::Refusal;
 use octets::number::u16_at;
 
 // A unit: the zero unit that ends a text, a unit of its own, the first or the second half of a pair.
+#[derive(Drop)]
 pub enum Unit16 {
     Ends,
     Plain,
@@ -18,6 +17,7 @@ pub enum Unit16 {
 }
 
 // What a unit leads to: the text ends, it goes on, after a high surrogate or not, or it is no UTF-16.
+#[derive(Drop)]
 pub enum Turn {
     Stop,
     Go(bool),
@@ -25,17 +25,20 @@ pub enum Turn {
 }
 
 // A unit that was read, and where the next one starts; or why the text is none.
+#[derive(Drop)]
 pub enum UnitStep {
     Stop(usize),
     Go { after_high: bool, next: usize },
     Refused(Refusal),
 }
 
+#[derive(Drop)]
 pub struct TextField {
     pub stretch: Stretch,
     pub next: usize,
 }
 
+#[derive(Drop)]
 pub enum TextRead {
     Text(TextField),
     Refused(Refusal),
@@ -48,7 +51,7 @@ const FIRST_LOW: u16 = 0xDC00;
 const AFTER_LOW: u16 = 0xE000;
 
 fn unit_of(unit: u16) -> Unit16
-    ensures { λ r. ⌜ r ≡ unitOf unit ⌝ }
+    ensures { result ≡ unit_of unit }
 {
     if unit == 0 {
         return Unit16::Ends;
@@ -67,7 +70,7 @@ fn unit_of(unit: u16) -> Unit16
 
 // After a high surrogate nothing but a low one may come, and a low one nowhere else.
 fn turn_of(after_high: bool, unit: Unit16) -> Turn
-    ensures { λ r. ⌜ r ≡ turn «after_high» unit ⌝ }
+    ensures { result ≡ turn after_high unit }
 {
     if after_high {
         return match unit {
@@ -87,8 +90,8 @@ fn turn_of(after_high: bool, unit: Unit16) -> Turn
 
 // 31 where a unit is not all there, 33 at a lone surrogate.
 fn unit_step(reply: &[u8], at: usize, after_high: bool) -> UnitStep
-    ensures { λ r. ⌜ r ≡ unitStep (now (reply .entry)) at «after_high» ⌝ }
-    ensures { λ r. ⌜ StepWithin (length (now (reply .entry))) at r ⌝ }
+    ensures value { result ≡ unit_step reply.now at after_high }
+    ensures step_within { StepWithin (length reply.now) at result }
 {
     let next = match octets_at(reply, at, 2) {
         FieldRead::Next(next) => next,
@@ -106,7 +109,7 @@ fn unit_step(reply: &[u8], at: usize, after_high: bool) -> UnitStep
 
 // The text at an offset, as its stretch before the zero unit.
 pub fn read_text(reply: &[u8], start: usize) -> TextRead
-    ensures { λ r. ⌜ textIn r ≡ readText (now (reply .entry)) start ⌝ }
+    ensures { text_in result ≡ read_text reply.now start }
 {
     let mut at = start;
     let mut pending = false;

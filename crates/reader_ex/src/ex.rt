@@ -1,40 +1,25 @@
 // An EX, read: numbers, a GUID, eight names, the address where v asks for it, and name 8 where the version shows it.
-ghost use mathlib.Core.Path.{_≡_};
-ghost use Rattle·reader.specs.Reader.{readEx};
-ghost use Rattle·reader_forms.specs.Reading.{readingAs};
-ghost use Rattle·reader_ex·specs.specs.Internal.Ex.{HeadOf, fieldsOf};
-use answers::Form;
-use answers::Refusal;
-use answers::wire::NETLOGON_NT_VERSION_5EX_WITH_IP;
-use answers::wire::SBZ;
+ghost use Rattle.std.specs.Prelude.{◌≡◌};
+ghost use Rattle.reader.specs.Reader.{read_ex};
+ghost use Rattle.reader_forms.specs.Reading.{reading_as};
+ghost use Rattle.reader_ex.specs.Internal.Ex.{HeadOf, fields_of};
+
+use answers::wire::{NETLOGON_NT_VERSION_5EX_WITH_IP, SBZ};
+use answers::{Form, Refusal};
 use octets::number::has_bits;
 use octets::size::GUID_SIZE;
-use reader::field::FieldRead;
-use reader::field::NumberRead;
-use reader::field::OpcodeRead;
-use reader::field::Stretch;
-use reader::field::fixed_u16_at;
-use reader::field::number_at;
-use reader::field::octets_at;
-use reader::field::opcode_of;
-use reader_forms::ending::Ending;
-use reader_forms::ending::tokens_at;
-use reader_forms::reading::Address;
-use reader_forms::reading::ExFields;
-use reader_forms::reading::Fields;
-use reader_forms::reading::Reading;
-use reader_last::address::AddressRead;
-use reader_last::address::read_address;
-use reader_last::last::Last;
-use reader_last::last::LastRead;
-use reader_last::last::has_next_site;
-use reader_last::last::read_last;
+use reader::field::{
+    FieldRead, NumberRead, OpcodeRead, Stretch, fixed_u16_at, number_at, octets_at, opcode_of,
+};
+use reader_forms::ending::{Ending, tokens_at};
+use reader_forms::reading::{Address, ExFields, Fields, Reading};
+use reader_last::address::{AddressRead, read_address};
+use reader_last::last::{Last, LastRead, has_next_site, read_last};
 use reader_names::NameAt;
-use reader_names::list::NAMES_IN_A_ROW;
-use reader_names::list::NamesEnd;
-use reader_names::list::read_names;
+use reader_names::list::{NAMES_IN_A_ROW, NamesEnd, read_names};
 
 // What stands before the names.
+#[derive(Drop)]
 pub struct Head {
     pub opcode: u16,
     pub flags: u32,
@@ -42,13 +27,14 @@ pub struct Head {
     pub next: usize,
 }
 
+#[derive(Drop)]
 pub enum HeadRead {
     Head(Head),
     Refused(Refusal),
 }
 
 fn read_head(reply: &[u8]) -> HeadRead
-    ensures { λ r. ⌜ HeadOf (now (reply .entry)) r ⌝ }
+    ensures { HeadOf reply.now result }
 {
     let first = match opcode_of(reply, Form::Ex) {
         OpcodeRead::Opcode(field) => field,
@@ -79,7 +65,7 @@ fn read_head(reply: &[u8]) -> HeadRead
 
 // The names at their places.
 fn fields_of(head: Head, names: [NameAt; NAMES_IN_A_ROW], ipv4: Address, last: Last) -> ExFields
-    ensures { λ r. ⌜ r ≡ fieldsOf head names ipv4 last ⌝ }
+    ensures { result ≡ fields_of head names ipv4 last }
 {
     let guid = head.guid;
     let next_site = last.next_site;
@@ -102,7 +88,7 @@ fn fields_of(head: Head, names: [NameAt; NAMES_IN_A_ROW], ipv4: Address, last: L
 }
 
 pub fn read_ex(reply: &[u8], version: u32) -> Reading
-    ensures { λ r. ⌜ r ≡ readingAs (now (reply .entry)) (readEx version (now (reply .entry))) ⌝ }
+    ensures { result ≡ reading_as reply.now (read_ex version reply.now) }
 {
     let head = match read_head(reply) {
         HeadRead::Head(head) => head,

@@ -1,2 +1,4 @@
 // The form EX of a received reply, read.
+#![tactic(auto)]
+
 pub mod ex;

@@ -1,103 +1,101 @@
 -- Document 01, "Reading a reply": what the reader gives, as the call returns it. A name is its first offset, the length of its text and its pointer count.
-use Rattle·answers.specs.{declared.Form.Form, Refusal.number}
-use mathlib.Core.Path.{_≡_}
-use mathlib.Core.List.{List, [], map}
-use mathlib.Core.Option.{Option, none, some, Option·map}
-use Prim.Native.Nat.{ℕ}
-use lib.ListN.{length, getD}
-use Rattle·answers.specs.Try.{Try, refused, good, numberOf, valueOf}
-use Rattle·reader.specs.declared.field.Stretch.{Stretch}
-use Rattle·reader.specs.Reader as reader
-use Rattle·reader_names.specs.{declared.NameAt.NameAt, Name.nameAs}
-use Rattle·reader_forms·specs.specs.{declared.reading.Nt40Fields.Nt40Fields, declared.reading.ResponseFields.ResponseFields, declared.reading.Address.Address}
-use Rattle·reader_forms·specs.specs.{declared.reading.NextSite.NextSite, declared.reading.ExFields.ExFields, declared.reading.Fields.Fields}
-use Rattle·reader_forms·specs.specs.declared.reading.Reading.{Reading}
-use Rattle·reader_forms·specs.specs.declared.reading.Address.the-variants as address
-use Rattle·reader_forms·specs.specs.declared.reading.NextSite.the-variants as nextSite
-use Rattle·reader_forms·specs.specs.declared.reading.Fields.the-variants as fields
-use Rattle·reader_forms·specs.specs.declared.reading.Reading.the-variants as reading
+use Rattle.answers.specs.{declared.Form.Form, Refusal.number}
+use Rattle.std.specs.Prelude.{◌≡◌, List, [], map, ℕ, length, get_or}
+use Rattle.std.proofs.Math.Option
+use Rattle.std.proofs.Math.Option.{Option, none, some}
+use Rattle.answers.specs.Try.{Try, refused, good, number_of, value_of}
+use Rattle.reader.specs.declared.field.Stretch.{Stretch}
+use Rattle.reader.specs.Reader as reader
+use Rattle.reader_names.specs.{declared.NameAt.NameAt, Name.name_as}
+use Rattle.reader_forms.specs.{declared.reading.Nt40Fields.Nt40Fields, declared.reading.ResponseFields.ResponseFields, declared.reading.Address.Address}
+use Rattle.reader_forms.specs.{declared.reading.NextSite.NextSite, declared.reading.ExFields.ExFields, declared.reading.Fields.Fields}
+use Rattle.reader_forms.specs.declared.reading.Reading.{Reading}
+use Rattle.reader_forms.specs.declared.reading.Address.TheVariants as address
+use Rattle.reader_forms.specs.declared.reading.NextSite.TheVariants as next_site_lem
+use Rattle.reader_forms.specs.declared.reading.Fields.TheVariants as fields
+use Rattle.reader_forms.specs.declared.reading.Reading.TheVariants as reading
 
 -- what stands past the last name, where no form has a place: a reading has 3 names or 8, as `ReadingSettled` implies
-abbrev pub noName : reader.NameRead
-noName = record { start = 0; text = []; pointers = 0 }
+abbrev pub no_name : reader.NameRead
+no_name = record { start = 0; text = []; pointers = 0 }
 
 -- the name at a place
-abbrev pub nameIn : List reader.NameRead → ℕ → NameAt
-nameIn names k = getD (map nameAs names) k (nameAs noName)
+abbrev pub name_in : List reader.NameRead → ℕ → NameAt
+name_in names k = get_or (map name_as names) k (name_as no_name)
 
-abbrev pub nt40As : reader.Nt40Fields → Nt40Fields
-nt40As f = record { opcode = f .opcode; server = f .server; user = f .user; domain = f .domain; version = f .version }
+abbrev pub nt40_as : reader.Nt40Fields → Nt40Fields
+nt40_as f = record { opcode = f.opcode; server = f.server; user = f.user; domain = f.domain; version = f.version }
 
-abbrev pub responseAs : reader.ResponseFields → ResponseFields
-responseAs f =
+abbrev pub response_as : reader.ResponseFields → ResponseFields
+response_as f =
     record {
-      opcode = f .opcode;
-      server = f .server;
-      user = f .user;
-      domain = f .domain;
-      guid = f .guid;
-      forest = nameIn (f .names) 0;
-      context = nameIn (f .names) 1;
-      host = nameIn (f .names) 2;
-      ipv4 = f .ipv4;
-      flags = f .flags;
-      version = f .version;
+      opcode = f.opcode;
+      server = f.server;
+      user = f.user;
+      domain = f.domain;
+      guid = f.guid;
+      forest = name_in f.names 0;
+      context = name_in f.names 1;
+      host = name_in f.names 2;
+      ipv4 = f.ipv4;
+      flags = f.flags;
+      version = f.version;
     }
 
-abbrev pub addressAs : Option Stretch → Address
-addressAs none = address.Absent
-addressAs (some t) = address.At t
+abbrev pub address_as : Option Stretch → Address
+address_as none = address.Absent
+address_as (some t) = address.At t
 
-abbrev pub nextSiteAs : Option reader.NameRead → NextSite
-nextSiteAs none = nextSite.Absent
-nextSiteAs (some n) = nextSite.Name (nameAs n)
+abbrev pub next_site_as : Option reader.NameRead → NextSite
+next_site_as none = next_site_lem.Absent
+next_site_as (some n) = next_site_lem.Name (name_as n)
 
 -- the names at places 0 to 7, and name 8 where it is present
-abbrev pub exAs : reader.ExFields → ExFields
-exAs f =
+abbrev pub ex_as : reader.ExFields → ExFields
+ex_as f =
     record {
-      opcode = f .opcode;
-      flags = f .flags;
-      guid = f .guid;
-      forest = nameIn (f .names) 0;
-      context = nameIn (f .names) 1;
-      host = nameIn (f .names) 2;
-      «context_netbios» = nameIn (f .names) 3;
-      «server_netbios» = nameIn (f .names) 4;
-      user = nameIn (f .names) 5;
-      «own_site» = nameIn (f .names) 6;
-      «client_site» = nameIn (f .names) 7;
-      ipv4 = addressAs (f .ipv4);
-      «next_site» = nextSiteAs (f .nextSite);
-      version = f .version;
+      opcode = f.opcode;
+      flags = f.flags;
+      guid = f.guid;
+      forest = name_in f.names 0;
+      context = name_in f.names 1;
+      host = name_in f.names 2;
+      context_netbios = name_in f.names 3;
+      server_netbios = name_in f.names 4;
+      user = name_in f.names 5;
+      own_site = name_in f.names 6;
+      client_site = name_in f.names 7;
+      ipv4 = address_as f.ipv4;
+      next_site = next_site_as f.next_site_lem;
+      version = f.version;
     }
 
-abbrev pub fieldsAs : reader.Fields → Fields
-fieldsAs (reader.nt40 f) = fields.Nt40 (nt40As f)
-fieldsAs (reader.response f) = fields.Response (responseAs f)
-fieldsAs (reader.ex f) = fields.Ex (exAs f)
+abbrev pub fields_as : reader.Fields → Fields
+fields_as (reader.nt40 f) = fields.Nt40 (nt40_as f)
+fields_as (reader.response f) = fields.Response (response_as f)
+fields_as (reader.ex f) = fields.Ex (ex_as f)
 
 -- the reading of a reply's octets, as the enum that the call returns
-abbrev pub readingAs : List ℕ → Try reader.Fields → Reading
-readingAs s (refused r) = reading.Refused r
-readingAs s (good f) = reading.Read (length s) (fieldsAs f)
+abbrev pub reading_as : List ℕ → Try reader.Fields → Reading
+reading_as s (refused r) = reading.Refused r
+reading_as s (good f) = reading.Read (length s) (fields_as f)
 
 -- document 01's values of a reading: its number; with a refusal length 0 and no fields
-abbrev pub readingNumber : Reading → ℕ
-readingNumber (reading.Read len f) = 0
-readingNumber (reading.Refused r) = number r
+abbrev pub reading_number : Reading → ℕ
+reading_number (reading.Read len f) = 0
+reading_number (reading.Refused r) = number r
 
-abbrev pub readingLength : Reading → ℕ
-readingLength (reading.Read len f) = len
-readingLength (reading.Refused r) = 0
+abbrev pub reading_length : Reading → ℕ
+reading_length (reading.Read len f) = len
+reading_length (reading.Refused r) = 0
 
-abbrev pub readingFields : Reading → Option Fields
-readingFields (reading.Read len f) = some f
-readingFields (reading.Refused r) = none
+abbrev pub reading_fields : Reading → Option Fields
+reading_fields (reading.Read len f) = some f
+reading_fields (reading.Refused r) = none
 
 -- what `read_reply` promises
 pub record ReadReplyPromise (reply : List ℕ) (form : Form) (v : ℕ) (r : Reading) : Type 0 where
-  pub same : r ≡ readingAs reply (reader.readIn form v reply)
-  pub numbered : readingNumber r ≡ numberOf (reader.readIn form v reply)
-  pub sized : readingLength r ≡ reader.readLength (reader.readIn form v reply) reply
-  pub given : readingFields r ≡ Option·map fieldsAs (valueOf (reader.readIn form v reply))
+  pub same : r ≡ reading_as reply (reader.read_in form v reply)
+  pub numbered : reading_number r ≡ number_of (reader.read_in form v reply)
+  pub sized : reading_length r ≡ reader.read_length (reader.read_in form v reply) reply
+  pub given : reading_fields r ≡ Option.map fields_as (value_of (reader.read_in form v reply))

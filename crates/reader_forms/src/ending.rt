@@ -1,12 +1,11 @@
 // What ends every reply: the version and the two tokens, and nothing after them.
-ghost use Rattle·reader_forms·specs.specs.Internal.Ending.{TokensEnd, VersionEnds};
-use answers::Refusal;
-use answers::wire::LM_NT_TOKEN;
-use answers::wire::LM20_TOKEN;
-use reader::field::FieldRead;
-use reader::field::fixed_u16_at;
-use reader::field::fixed_u32_at;
+ghost use Rattle.reader_forms.specs.Internal.Ending.{TokensEnd, VersionEnds};
 
+use answers::Refusal;
+use answers::wire::{LM_NT_TOKEN, LM20_TOKEN};
+use reader::field::{FieldRead, fixed_u16_at, fixed_u32_at};
+
+#[derive(Drop)]
 pub enum Ending {
     Whole,
     Refused(Refusal),
@@ -14,7 +13,7 @@ pub enum Ending {
 
 // 35 where octets are left over.
 pub fn tokens_at(reply: &[u8], at: usize) -> Ending
-    ensures { λ r. ⌜ TokensEnd (now (reply .entry)) at r ⌝ }
+    ensures { TokensEnd reply.now at result }
 {
     let next = match fixed_u16_at(reply, at, LM_NT_TOKEN) {
         FieldRead::Next(next) => next,
@@ -32,7 +31,7 @@ pub fn tokens_at(reply: &[u8], at: usize) -> Ending
 
 // A fixed version, and the tokens.
 pub fn ending_at(reply: &[u8], at: usize, version: u32) -> Ending
-    ensures { λ r. ⌜ VersionEnds (now (reply .entry)) at version r ⌝ }
+    ensures { VersionEnds reply.now at version result }
 {
     match fixed_u32_at(reply, at, version) {
         FieldRead::Next(next) => tokens_at(reply, next),

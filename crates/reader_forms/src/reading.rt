@@ -1,11 +1,12 @@
 // What reading a reply gives, by value: numbers, stretches of the reply, and names by their first offsets.
-ghost use mathlib.Core.Path.{_≡_};
-ghost use Rattle·reader_forms·specs.specs.Reading.{readingNumber};
-use answers::Refusal;
-use answers::number_of;
+ghost use Rattle.std.specs.Prelude.{◌≡◌};
+ghost use Rattle.reader_forms.specs.Reading.{reading_number};
+
+use answers::{Refusal, number_of};
 use reader::field::Stretch;
 use reader_names::NameAt;
 
+#[derive(Clone, Copy)]
 pub struct Nt40Fields {
     pub opcode: u16,
     pub server: Stretch,
@@ -14,6 +15,7 @@ pub struct Nt40Fields {
     pub version: u32,
 }
 
+#[derive(Clone, Copy)]
 pub struct ResponseFields {
     pub opcode: u16,
     pub server: Stretch,
@@ -29,17 +31,20 @@ pub struct ResponseFields {
 }
 
 // The server's address, where v asked for it.
+#[derive(Clone, Copy)]
 pub enum Address {
     Absent,
     At(Stretch),
 }
 
 // Name 8, where it is present.
+#[derive(Clone, Copy)]
 pub enum NextSite {
     Absent,
     Name(NameAt),
 }
 
+#[derive(Clone, Copy)]
 pub struct ExFields {
     pub opcode: u16,
     pub flags: u32,
@@ -58,6 +63,7 @@ pub struct ExFields {
 }
 
 // The fields of a reply in its form.
+#[derive(Clone, Copy)]
 pub enum Fields {
     Nt40(Nt40Fields),
     Response(ResponseFields),
@@ -65,6 +71,7 @@ pub enum Fields {
 }
 
 // A reply that was read, with its length, or a refusal, which has neither length nor fields.
+#[derive(Clone, Copy)]
 pub enum Reading {
     Read { length: usize, fields: Fields },
     Refused(Refusal),
@@ -72,7 +79,7 @@ pub enum Reading {
 
 // Document 01's number of a reading.
 pub fn reading_number(reading: Reading) -> u8
-    ensures { λ r. ⌜ r ≡ readingNumber reading ⌝ }
+    ensures { result ≡ reading_number reading }
 {
     match reading {
         Reading::Read {

@@ -1,29 +1,26 @@
 // The server's address in an EX, where v asks for it.
-ghost use Rattle·reader_last·specs.specs.Internal.Address.{AddressOf};
+ghost use Rattle.reader_last.specs.Internal.Address.{AddressOf};
+
 use answers::Refusal;
-use answers::wire::DC_SOCK_ADDR_SIZE;
-use answers::wire::SIN_FAMILY;
-use answers::wire::SIN_ZERO;
+use answers::wire::{DC_SOCK_ADDR_SIZE, SIN_FAMILY, SIN_ZERO};
 use octets::size::IPV4_SIZE;
-use reader::field::FieldRead;
-use reader::field::Stretch;
-use reader::field::fixed_at;
-use reader::field::fixed_u32_at;
-use reader::field::octets_at;
+use reader::field::{FieldRead, Stretch, fixed_at, fixed_u32_at, octets_at};
 use reader_forms::reading::Address;
 
+#[derive(Drop)]
 pub struct AddressField {
     pub address: Address,
     pub next: usize,
 }
 
+#[derive(Drop)]
 pub enum AddressRead {
     Address(AddressField),
     Refused(Refusal),
 }
 
 pub fn read_address(reply: &[u8], asked: bool, at: usize) -> AddressRead
-    ensures { λ r. ⌜ AddressOf (now (reply .entry)) asked at r ⌝ }
+    ensures { AddressOf reply.now asked at result }
 {
     if !asked {
         return AddressRead::Address(AddressField {

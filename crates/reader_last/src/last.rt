@@ -1,27 +1,25 @@
 // Name 8 of an EX, where it is present, and the version that goes with it.
-ghost use mathlib.Core.Path.{_≡_};
-ghost use mathlib.Core.Bool.{true};
-ghost use Rattle·reader.specs.Reader.{hasNextSite};
-ghost use Rattle·reader_last·specs.specs.Internal.Last.{LastOf};
-use answers::Refusal;
-use answers::wire::ENDING_SIZE;
-use answers::wire::EX_VERSION;
-use answers::wire::EX_VERSION_WITH_NEXT_SITE;
-use answers::wire::NETLOGON_NT_VERSION_WITH_CLOSEST_SITE;
-use octets::number::has_bits;
-use octets::number::u32_at;
-use reader::field::FieldRead;
-use reader::field::fixed_u32_at;
-use reader_forms::reading::NextSite;
-use reader_names::read::NameRead;
-use reader_names::read::read_name;
+ghost use Rattle.std.specs.Prelude.{◌≡◌, true};
+ghost use Rattle.reader.specs.Reader.{has_next_site};
+ghost use Rattle.reader_last.specs.Internal.Last.{LastOf};
 
+use answers::Refusal;
+use answers::wire::{
+    ENDING_SIZE, EX_VERSION, EX_VERSION_WITH_NEXT_SITE, NETLOGON_NT_VERSION_WITH_CLOSEST_SITE,
+};
+use octets::number::{has_bits, u32_at};
+use reader::field::{FieldRead, fixed_u32_at};
+use reader_forms::reading::NextSite;
+use reader_names::read::{NameRead, read_name};
+
+#[derive(Drop)]
 pub struct Last {
     pub next_site: NextSite,
     pub version: u32,
     pub next: usize,
 }
 
+#[derive(Drop)]
 pub enum LastRead {
     Last(Last),
     Refused(Refusal),
@@ -29,7 +27,7 @@ pub enum LastRead {
 
 // Name 8 is present exactly when the version 8 octets from the end is 15h, whatever v asks.
 pub fn has_next_site(reply: &[u8]) -> bool
-    ensures { λ r. ⌜ r ≡ hasNextSite (now (reply .entry)) ⌝ }
+    ensures { result ≡ has_next_site reply.now }
 {
     if reply.len() < ENDING_SIZE {
         return false;
@@ -39,7 +37,7 @@ pub fn has_next_site(reply: &[u8]) -> bool
 
 // Name 8 and the version that goes with it: 34 where v lacks its bit.
 fn read_next_site(reply: &[u8], asked: u32, at: usize) -> LastRead
-    ensures { λ r. ⌜ LastOf (now (reply .entry)) true asked at r ⌝ }
+    ensures { LastOf reply.now true asked at result }
 {
     let site = match read_name(reply, at) {
         NameRead::Name(field) => field,
@@ -62,7 +60,7 @@ fn read_next_site(reply: &[u8], asked: u32, at: usize) -> LastRead
 
 // The version is judged again where it stands.
 pub fn read_last(reply: &[u8], present: bool, asked: u32, at: usize) -> LastRead
-    ensures { λ r. ⌜ LastOf (now (reply .entry)) present asked at r ⌝ }
+    ensures { LastOf reply.now present asked at result }
 {
     if present {
         return read_next_site(reply, asked, at);

@@ -1,11 +1,12 @@
 // What stands at an offset of a name: the top two bits of its octet decide.
-ghost use mathlib.Core.Path.{_≡_};
-ghost use Rattle·names.specs.Walk.{lookAt};
-ghost use Rattle·reader_names·specs.specs.Internal.Look.{lookIn};
-use octets::number::big_u16_at;
-use octets::number::wide;
+ghost use Rattle.std.specs.Prelude.{◌≡◌};
+ghost use Rattle.names.specs.Walk.{look_at};
+ghost use Rattle.reader_names.specs.Internal.Look.{look_in};
+
+use octets::number::{big_u16_at, wide};
 
 // The name's end, a label of so many octets, a pointer to an offset; an octet is missing, or the top bits are of no kind.
+#[derive(Drop)]
 pub enum Look {
     End,
     Label(usize),
@@ -21,7 +22,7 @@ const TOP_BITS: u8 = 0xC0;
 const OFFSET_BITS: u16 = 0x3FFF;
 
 pub fn look_at(reply: &[u8], at: usize) -> Look
-    ensures { λ r. ⌜ lookIn r ≡ lookAt (now (reply .entry)) at ⌝ }
+    ensures { look_in result ≡ look_at reply.now at }
 {
     if reply.len() <= at {
         return Look::Missing;

@@ -1,19 +1,18 @@
 // A name of a received reply, read: where it starts, its text's length, its pointers, and where the next field starts.
-ghost use mathlib.Core.Path.{_≡_};
-ghost use mathlib.Core.Bool.{cond};
-ghost use lib.Dec.{eqb};
-ghost use Rattle·reader_names·specs.specs.Internal.NameRead.{NameOf};
+ghost use Rattle.std.specs.Prelude.{◌≡◌, cond, eqb};
+ghost use Rattle.reader_names.specs.Internal.NameRead.{NameOf};
+
 use crate::NameAt;
-use crate::step::NameStep;
-use crate::step::name_step;
-use crate::step::text_len;
+use crate::step::{NameStep, name_step, text_len};
 use answers::Refusal;
 
+#[derive(Drop)]
 pub struct NameField {
     pub name: NameAt,
     pub next: usize,
 }
 
+#[derive(Drop)]
 pub enum NameRead {
     Name(NameField),
     Refused(Refusal),
@@ -21,7 +20,7 @@ pub enum NameRead {
 
 // A name's field ends with its first pointer, and where it has none, with its zero.
 fn field_end(pointers: usize, before: usize, here: usize) -> usize
-    ensures { λ r. ⌜ r ≡ cond (eqb pointers 0) here before ⌝ }
+    ensures { result ≡ cond (eqb pointers 0) here before }
 {
     if pointers == 0 {
         return here;
@@ -31,7 +30,7 @@ fn field_end(pointers: usize, before: usize, here: usize) -> usize
 
 // At most 16 pointers are followed, and 255 octets written out: a bound that no reply moves.
 pub fn read_name(reply: &[u8], start: usize) -> NameRead
-    ensures { λ r. ⌜ NameOf (now (reply .entry)) start r ⌝ }
+    ensures { NameOf reply.now start result }
 {
     let mut run = start;
     let mut at = start;

@@ -1,11 +1,9 @@
 // A name's next step: the walk's rules, with limits on its octets and its pointers.
-ghost use mathlib.Core.Path.{_≡_};
-ghost use Prim.Native.Nat.{_-_, _≤_, _<_};
-ghost use lib.ListN.{length};
-ghost use Rattle·reader.specs.Name.{cutAfter};
-ghost use Rattle·reader_names·specs.specs.Internal.Step.{labelStep, pointerStep, nameStep, StepWithin};
-use crate::look::Look;
-use crate::look::look_at;
+ghost use Rattle.std.specs.Prelude.{◌≡◌, ◌-◌, ◌≤◌, ◌<◌, length};
+ghost use Rattle.reader.specs.Name.{cut_after};
+ghost use Rattle.reader_names.specs.Internal.Step.{label_step, pointer_step, name_step, StepWithin};
+
+use crate::look::{Look, look_at};
 use answers::Refusal;
 
 // The most octets of a name written out, its final zero counted.
@@ -14,6 +12,7 @@ pub const WRITTEN_MOST: usize = 255;
 const POINTERS_MOST: usize = 16;
 
 // The name ends, a label of so many octets is read, a pointer to an offset is followed; or why there is no name.
+#[derive(Drop)]
 pub enum NameStep {
     Ends,
     Label(usize),
@@ -23,7 +22,7 @@ pub enum NameStep {
 
 // Octets missing are 31, but after a pointer was followed every fault is 33.
 fn cut_after(pointers: usize) -> Refusal
-    ensures { λ r. ⌜ r ≡ cutAfter pointers ⌝ }
+    ensures { result ≡ cut_after pointers }
 {
     if pointers == 0 {
         return Refusal::ReplyCut;
@@ -33,8 +32,8 @@ fn cut_after(pointers: usize) -> Refusal
 
 // The limit is judged at the length octet, before the label's octets are asked for.
 fn label_step(reply: &[u8], at: usize, len: usize, spent: usize, pointers: usize) -> NameStep
-    requires { ⌜ (at < length (now reply)) × (len ≤ 63) × (spent ≤ 254) ⌝ }
-    ensures { λ r. ⌜ r ≡ labelStep (now (reply .entry)) at spent pointers len ⌝ }
+    requires { (at < length reply.now) × (len ≤ 63) × (spent ≤ 254) }
+    ensures { result ≡ label_step reply.now at spent pointers len }
 {
     if WRITTEN_MOST < spent + 1 + len + 1 {
         return NameStep::Refused(Refusal::ReplyText);
@@ -47,7 +46,7 @@ fn label_step(reply: &[u8], at: usize, len: usize, spent: usize, pointers: usize
 
 // A pointer must aim below the start of the run of labels it stands in.
 fn pointer_step(run: usize, aim: usize, pointers: usize) -> NameStep
-    ensures { λ r. ⌜ r ≡ pointerStep run pointers aim ⌝ }
+    ensures { result ≡ pointer_step run pointers aim }
 {
     if run <= aim {
         return NameStep::Refused(Refusal::ReplyText);
@@ -60,9 +59,9 @@ fn pointer_step(run: usize, aim: usize, pointers: usize) -> NameStep
 
 // The step at an offset, in a run of labels that starts at `run`, with `spent` octets written out and `pointers` followed so far.
 pub fn name_step(reply: &[u8], run: usize, at: usize, spent: usize, pointers: usize) -> NameStep
-    requires { ⌜ (spent ≤ 254) × (pointers ≤ 16) ⌝ }
-    ensures { λ r. ⌜ r ≡ nameStep (now (reply .entry)) run at spent pointers ⌝ }
-    ensures { λ r. ⌜ StepWithin (length (now (reply .entry))) run at spent pointers r ⌝ }
+    requires { (spent ≤ 254) × (pointers ≤ 16) }
+    ensures value { result ≡ name_step reply.now run at spent pointers }
+    ensures step_within { StepWithin (length reply.now) run at spent pointers result }
 {
     match look_at(reply, at) {
         Look::End => NameStep::Ends,
@@ -75,7 +74,7 @@ pub fn name_step(reply: &[u8], run: usize, at: usize, spent: usize, pointers: us
 
 // How many octets the labels have when joined by dots, once so many are written out.
 pub fn text_len(spent: usize) -> usize
-    ensures { λ r. ⌜ r ≡ spent - 1 ⌝ }
+    ensures { result ≡ spent - 1 }
 {
     if spent == 0 {
         return 0;

@@ -1,22 +1,17 @@
 // How the two older forms start: the opcode and three texts. With the version and the tokens that is all of an NT40.
-ghost use mathlib.Core.Path.{_≡_};
-ghost use Rattle·reader.specs.Reader.{readOpening, readNt40};
-ghost use Rattle·reader_forms.specs.Reading.{readingAs};
-ghost use Rattle·reader_older·specs.specs.Internal.Opening.{openingIn};
-use answers::Form;
-use answers::Refusal;
-use answers::wire::NT40_VERSION;
-use reader::field::OpcodeRead;
-use reader::field::Stretch;
-use reader::field::opcode_of;
-use reader::text::TextRead;
-use reader::text::read_text;
-use reader_forms::ending::Ending;
-use reader_forms::ending::ending_at;
-use reader_forms::reading::Fields;
-use reader_forms::reading::Nt40Fields;
-use reader_forms::reading::Reading;
+ghost use Rattle.std.specs.Prelude.{◌≡◌};
+ghost use Rattle.reader.specs.Reader.{read_opening, read_nt40};
+ghost use Rattle.reader_forms.specs.Reading.{reading_as};
+ghost use Rattle.reader_older.specs.Internal.Opening.{opening_in};
 
+use answers::wire::NT40_VERSION;
+use answers::{Form, Refusal};
+use reader::field::{OpcodeRead, Stretch, opcode_of};
+use reader::text::{TextRead, read_text};
+use reader_forms::ending::{Ending, ending_at};
+use reader_forms::reading::{Fields, Nt40Fields, Reading};
+
+#[derive(Drop)]
 pub struct Opening {
     pub opcode: u16,
     pub server: Stretch,
@@ -25,6 +20,7 @@ pub struct Opening {
     pub next: usize,
 }
 
+#[derive(Drop)]
 pub enum OpeningRead {
     Opening(Opening),
     Refused(Refusal),
@@ -32,7 +28,7 @@ pub enum OpeningRead {
 
 // Both older forms have the opcodes of NT40.
 pub fn read_opening(reply: &[u8]) -> OpeningRead
-    ensures { λ r. ⌜ openingIn r ≡ readOpening (now (reply .entry)) ⌝ }
+    ensures { opening_in result ≡ read_opening reply.now }
 {
     let first = match opcode_of(reply, Form::Nt40) {
         OpcodeRead::Opcode(field) => field,
@@ -63,7 +59,7 @@ pub fn read_opening(reply: &[u8]) -> OpeningRead
 }
 
 pub fn read_nt40(reply: &[u8]) -> Reading
-    ensures { λ r. ⌜ r ≡ readingAs (now (reply .entry)) (readNt40 (now (reply .entry))) ⌝ }
+    ensures { result ≡ reading_as reply.now (read_nt40 reply.now) }
 {
     let opening = match read_opening(reply) {
         OpeningRead::Opening(opening) => opening,

@@ -1,47 +1,38 @@
 // A RESPONSE, read: after the opening a GUID, sixteen zeros, three names, an address and flags.
-ghost use mathlib.Core.Path.{_≡_};
-ghost use Rattle·reader.specs.Reader.{readResponse};
-ghost use Rattle·reader_forms.specs.Reading.{readingAs};
-ghost use Rattle·reader_older·specs.specs.Internal.Response.{HeadOf, BodyOf, fieldsOf};
-use crate::opening::Opening;
-use crate::opening::OpeningRead;
-use crate::opening::read_opening;
+ghost use Rattle.std.specs.Prelude.{◌≡◌};
+ghost use Rattle.reader.specs.Reader.{read_response};
+ghost use Rattle.reader_forms.specs.Reading.{reading_as};
+ghost use Rattle.reader_older.specs.Internal.Response.{HeadOf, BodyOf, fields_of};
+
+use crate::opening::{Opening, OpeningRead, read_opening};
 use answers::Refusal;
-use answers::wire::NULL_GUID;
-use answers::wire::RESPONSE_VERSION;
-use octets::size::GUID_SIZE;
-use octets::size::IPV4_SIZE;
-use reader::field::FieldRead;
-use reader::field::NumberRead;
-use reader::field::Stretch;
-use reader::field::fixed_at;
-use reader::field::number_at;
-use reader::field::octets_at;
-use reader_forms::ending::Ending;
-use reader_forms::ending::ending_at;
-use reader_forms::reading::Fields;
-use reader_forms::reading::Reading;
-use reader_forms::reading::ResponseFields;
+use answers::wire::{NULL_GUID, RESPONSE_VERSION};
+use octets::size::{GUID_SIZE, IPV4_SIZE};
+use reader::field::{FieldRead, NumberRead, Stretch, fixed_at, number_at, octets_at};
+use reader_forms::ending::{Ending, ending_at};
+use reader_forms::reading::{Fields, Reading, ResponseFields};
 use reader_names::NameAt;
-use reader_names::list::NamesEnd;
-use reader_names::list::read_names;
+use reader_names::list::{NamesEnd, read_names};
 
 // A RESPONSE has the first three of the names.
 const NAMES: usize = 3;
 
 // What stands before the names.
+#[derive(Drop)]
 pub struct Head {
     pub opening: Opening,
     pub guid: Stretch,
     pub next: usize,
 }
 
+#[derive(Drop)]
 pub enum HeadRead {
     Head(Head),
     Refused(Refusal),
 }
 
 // The names, the address and the flags.
+#[derive(Drop)]
 pub struct Body {
     pub forest: NameAt,
     pub context: NameAt,
@@ -51,13 +42,14 @@ pub struct Body {
     pub next: usize,
 }
 
+#[derive(Drop)]
 pub enum BodyRead {
     Body(Body),
     Refused(Refusal),
 }
 
 fn read_head(reply: &[u8]) -> HeadRead
-    ensures { λ r. ⌜ HeadOf (now (reply .entry)) r ⌝ }
+    ensures { HeadOf reply.now result }
 {
     let opening = match read_opening(reply) {
         OpeningRead::Opening(opening) => opening,
@@ -83,7 +75,7 @@ fn read_head(reply: &[u8]) -> HeadRead
 }
 
 fn read_body(reply: &[u8], at: usize) -> BodyRead
-    ensures { λ r. ⌜ BodyOf (now (reply .entry)) at r ⌝ }
+    ensures { BodyOf reply.now at result }
 {
     let read = read_names(reply, at, NAMES);
     let end = read.end;
@@ -117,7 +109,7 @@ fn read_body(reply: &[u8], at: usize) -> BodyRead
 }
 
 fn fields_of(head: Head, body: Body) -> ResponseFields
-    ensures { λ r. ⌜ r ≡ fieldsOf head body ⌝ }
+    ensures { result ≡ fields_of head body }
 {
     let opening = head.opening;
     let server = opening.server;
@@ -144,7 +136,7 @@ fn fields_of(head: Head, body: Body) -> ResponseFields
 }
 
 pub fn read_response(reply: &[u8]) -> Reading
-    ensures { λ r. ⌜ r ≡ readingAs (now (reply .entry)) (readResponse (now (reply .entry))) ⌝ }
+    ensures { result ≡ reading_as reply.now (read_response reply.now) }
 {
     let head = match read_head(reply) {
         HeadRead::Head(head) => head,

@@ -1,8 +1,10 @@
 // The texts of names of a received reply: document 01, "Reading a reply".
-ghost use mathlib.Core.Path.{_≡_};
-ghost use Rattle·reader_text·specs.specs.Text.{textNumber, textLength};
-use answers::Refusal;
-use answers::number_of;
+#![tactic(auto)]
+
+ghost use Rattle.std.specs.Prelude.{◌≡◌};
+ghost use Rattle.reader_text.specs.Text.{text_number, text_length};
+
+use answers::{Refusal, number_of};
 use reader_names::step::WRITTEN_MOST;
 
 pub mod label;
@@ -12,12 +14,14 @@ pub mod text;
 pub const TEXT_MOST: usize = WRITTEN_MOST - 2;
 
 // How many octets a name's text has, or why there is no name.
+#[derive(Clone, Copy)]
 pub enum TextLength {
     Octets(usize),
     Refused(Refusal),
 }
 
 // A name's labels joined by dots, at the front of room for the longest; zeros after them. An empty name has length 0, a refused one none.
+#[derive(Drop)]
 pub struct NameText {
     pub len: TextLength,
     pub octets: [u8; TEXT_MOST],
@@ -25,7 +29,7 @@ pub struct NameText {
 
 // Document 01's number of a name's text.
 pub fn text_number(len: TextLength) -> u8
-    ensures { λ r. ⌜ r ≡ textNumber len ⌝ }
+    ensures { result ≡ text_number len }
 {
     match len {
         TextLength::Octets(_) => 0,
@@ -35,7 +39,7 @@ pub fn text_number(len: TextLength) -> u8
 
 // Its length, 0 with a refusal.
 pub fn text_length(len: TextLength) -> usize
-    ensures { λ r. ⌜ r ≡ textLength len ⌝ }
+    ensures { result ≡ text_length len }
 {
     match len {
         TextLength::Octets(length) => length,

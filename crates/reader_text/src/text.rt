@@ -1,17 +1,14 @@
 // The text of a name of a received reply, from its first offset: its labels joined by dots.
-ghost use Rattle·reader_text·specs.specs.Text.{NameTextPromise};
-use crate::NameText;
-use crate::TEXT_MOST;
-use crate::TextLength;
+ghost use Rattle.reader_text.specs.Text.{NameTextPromise};
+
 use crate::label::put_label;
+use crate::{NameText, TEXT_MOST, TextLength};
 use octets::part::part;
-use reader_names::step::NameStep;
-use reader_names::step::name_step;
-use reader_names::step::text_len;
+use reader_names::step::{NameStep, name_step, text_len};
 
 // Any offset may be asked for; where the reader accepts no name, its refusal is given, and no octets.
 pub fn name_text(reply: &[u8], start: usize) -> NameText
-    ensures { λ r. ⌜ NameTextPromise (now (reply .entry)) start r ⌝ }
+    ensures { NameTextPromise reply.now start result }
 {
     let mut octets = [0; TEXT_MOST];
     let mut run = start;

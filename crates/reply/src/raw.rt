@@ -13,6 +13,7 @@ pub const NEXT_SITE: usize = 8;
 pub const SLOTS: usize = 9;
 
 // A text that is absent is a stretch of no octets.
+#[derive(Clone, Copy)]
 pub struct RawReply {
     pub opcode: u16,
     pub flags: u32,

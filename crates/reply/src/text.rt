@@ -1,21 +1,20 @@
 // Texts in UTF-16LE, as the two older forms have them.
-ghost use mathlib.Core.Path.{_≡_};
-ghost use Prim.Native.Nat.{_+_, _≤_, _<_};
-ghost use lib.ListN.{length};
-ghost use Rattle·octets.specs.Buffer.{over};
-ghost use Rattle·lent.specs.Internal.OverAt.{overAt};
-ghost use Rattle·reply·specs.specs.Reply.{text16};
-ghost use Rattle·reply·specs.specs.Internal.RawReply.{slotText, Short};
+ghost use Rattle.std.specs.Prelude.{◌≡◌, ◌+◌, ◌≤◌, ◌<◌, length};
+ghost use Rattle.octets.specs.Buffer.{over};
+ghost use Rattle.lent.specs.Internal.OverAt.{over_at};
+ghost use Rattle.reply.specs.Reply.{text16};
+ghost use Rattle.reply.specs.Internal.RawReply.{slot_text, Short};
+
 use crate::raw::RawReply;
 use lent::put::put_u16_at;
 use lent::stretch::slot_text;
-use unicode::utf16::put_utf16;
+use unicode_text::utf16::put_utf16;
 
 // A text, ended by a zero unit.
 fn put_text(out: &mut [u8], s: &[u8]) -> usize
-    requires { ⌜ (length (now s) ≤ 255) × (length (text16 (now s)) ≤ length (now out)) ⌝ }
-    ensures { λ r. ⌜ r ≡ length (text16 (now (s .entry))) ⌝ }
-    ensures { λ _. ⌜ now (out .exit) ≡ over (text16 (now (s .entry))) (now (out .entry)) ⌝ }
+    requires { (length s.now ≤ 255) × (length (text16 s.now) ≤ length out.old) }
+    ensures value { result ≡ length (text16 s.now) }
+    ensures out_after { out.new ≡ over (text16 s.now) out.old }
 {
     let at = put_utf16(out, s);
     put_u16_at(out, at, 0)
@@ -30,10 +29,10 @@ pub fn put_slot_at<'a>(
     raw: RawReply,
     slot: usize,
 ) -> usize
-    requires { ⌜ Short raw × (slot < 9) ⌝ }
-    requires { ⌜ at + length (text16 (slotText (now table) (now request) (raw .slots) slot)) ≤ length (now out) ⌝ }
-    ensures { λ r. ⌜ r ≡ at + length (text16 (slotText (now (table .entry)) (now (request .entry)) (raw .slots) slot)) ⌝ }
-    ensures { λ _. ⌜ now (out .exit) ≡ overAt at (text16 (slotText (now (table .entry)) (now (request .entry)) (raw .slots) slot)) (now (out .entry)) ⌝ }
+    requires short { Short raw × (slot < 9) }
+    requires slot_in_bounds { at + length (text16 (slot_text table.now request.now raw.slots slot)) ≤ length out.old }
+    ensures value { result ≡ at + length (text16 (slot_text table.now request.now raw.slots slot)) }
+    ensures out_after { out.new ≡ over_at at (text16 (slot_text table.now request.now raw.slots slot)) out.old }
 {
     let slots = raw.slots;
     let text = slots[slot];

@@ -1,36 +1,25 @@
 // The form EX.
-ghost use mathlib.Core.Path.{_≡_};
-ghost use Prim.Native.Nat.{_+_, _≤_};
-ghost use lib.ListN.{length};
-ghost use Rattle·octets.specs.Buffer.{over};
-ghost use Rattle·lent.specs.Internal.OverAt.{overAt};
-ghost use Rattle·lent.specs.Internal.Stretch.{octetsAt};
-ghost use Rattle·reply.specs.Reply.{exHead, addressIf, exOctets};
-ghost use Rattle·reply.specs.Internal.RawReply.{replyIn};
-ghost use Rattle·reply.specs.Internal.Plan.{lastName, lastOctets, LastFits, ExPlan};
-use answers::wire::DC_SOCK_ADDR_SIZE;
-use answers::wire::EX_VERSION;
-use answers::wire::EX_VERSION_WITH_NEXT_SITE;
-use answers::wire::SBZ;
-use answers::wire::SIN_FAMILY;
-use answers::wire::SIN_ZERO;
-use lent::put::put_octets_at;
-use lent::put::put_u16_at;
-use lent::put::put_u32_at;
-use reply::fields::put_ending_at;
-use reply::fields::put_guid_at;
-use reply::fields::put_ipv4_at;
-use reply::fields::put_last_name_at;
-use reply::fields::put_names_at;
+ghost use Rattle.std.specs.Prelude.{◌≡◌, ◌+◌, ◌≤◌, length};
+ghost use Rattle.octets.specs.Buffer.{over};
+ghost use Rattle.lent.specs.Internal.OverAt.{over_at};
+ghost use Rattle.lent.specs.Internal.Stretch.{octets_at};
+ghost use Rattle.reply.specs.Reply.{ex_head, address_if, ex_octets};
+ghost use Rattle.reply.specs.Internal.RawReply.{reply_in};
+ghost use Rattle.reply.specs.Internal.Plan.{last_name, last_octets, LastFits, ExPlan};
+
+use answers::wire::{
+    DC_SOCK_ADDR_SIZE, EX_VERSION, EX_VERSION_WITH_NEXT_SITE, SBZ, SIN_FAMILY, SIN_ZERO,
+};
+use lent::put::{put_octets_at, put_u16_at, put_u32_at};
+use reply::fields::{put_ending_at, put_guid_at, put_ipv4_at, put_last_name_at, put_names_at};
 use reply::plan::Plan;
-use reply::raw::NEXT_SITE;
-use reply::raw::RawReply;
+use reply::raw::{NEXT_SITE, RawReply};
 
 // What stands before the names.
 fn put_ex_head<'a>(out: &mut [u8], table: &'a [u8], request: &'a [u8], raw: RawReply) -> usize
-    requires { ⌜ length (exHead (replyIn (now table) (now request) raw)) ≤ length (now out) ⌝ }
-    ensures { λ r. ⌜ r ≡ length (exHead (replyIn (now (table .entry)) (now (request .entry)) raw)) ⌝ }
-    ensures { λ _. ⌜ now (out .exit) ≡ over (exHead (replyIn (now (table .entry)) (now (request .entry)) raw)) (now (out .entry)) ⌝ }
+    requires { length (ex_head (reply_in table.now request.now raw)) ≤ length out.old }
+    ensures value { result ≡ length (ex_head (reply_in table.now request.now raw)) }
+    ensures out_after { out.new ≡ over (ex_head (reply_in table.now request.now raw)) out.old }
 {
     let at = put_u16_at(out, 0, raw.opcode);
     let at = put_u16_at(out, at, SBZ);
@@ -46,9 +35,9 @@ fn put_address_at<'a>(
     request: &'a [u8],
     raw: RawReply,
 ) -> usize
-    requires { ⌜ at + length (addressIf (raw .«with_address») (octetsAt (now table) (now request) (raw .ipv4))) ≤ length (now out) ⌝ }
-    ensures { λ r. ⌜ r ≡ at + length (addressIf (raw .«with_address») (octetsAt (now (table .entry)) (now (request .entry)) (raw .ipv4))) ⌝ }
-    ensures { λ _. ⌜ now (out .exit) ≡ overAt at (addressIf (raw .«with_address») (octetsAt (now (table .entry)) (now (request .entry)) (raw .ipv4))) (now (out .entry)) ⌝ }
+    requires { at + length (address_if raw.with_address (octets_at table.now request.now raw.ipv4)) ≤ length out.old }
+    ensures value { result ≡ at + length (address_if raw.with_address (octets_at table.now request.now raw.ipv4)) }
+    ensures out_after { out.new ≡ over_at at (address_if raw.with_address (octets_at table.now request.now raw.ipv4)) out.old }
 {
     if !raw.with_address {
         return at;
@@ -70,9 +59,9 @@ fn put_last_at<'a>(
     raw: RawReply,
     plan: Plan,
 )
-    requires { ⌜ LastFits (now table) (now request) (raw .«with_next_site») (lastName (plan .names)) ⌝ }
-    requires { ⌜ at + length (lastOctets (now table) (now request) (raw .«with_next_site») (lastName (plan .names))) ≤ length (now out) ⌝ }
-    ensures { λ _. ⌜ now (out .exit) ≡ overAt at (lastOctets (now (table .entry)) (now (request .entry)) (raw .«with_next_site») (lastName (plan .names))) (now (out .entry)) ⌝ }
+    requires last_fits { LastFits table.now request.now raw.with_next_site (last_name plan.names) }
+    requires names_in_bounds { at + length (last_octets table.now request.now raw.with_next_site (last_name plan.names)) ≤ length out.old }
+    ensures { out.new ≡ over_at at (last_octets table.now request.now raw.with_next_site (last_name plan.names)) out.old }
 {
     if raw.with_next_site {
         let at = put_last_name_at(out, at, table, request, plan);
@@ -84,9 +73,9 @@ fn put_last_at<'a>(
 
 // A reply of the form EX.
 pub fn put_ex<'a>(out: &mut [u8], table: &'a [u8], request: &'a [u8], raw: RawReply, plan: Plan)
-    requires { ⌜ ExPlan (now table) (now request) (replyIn (now table) (now request) raw) (plan .names) ⌝ }
-    requires { ⌜ length (exOctets (replyIn (now table) (now request) raw)) ≤ length (now out) ⌝ }
-    ensures { λ _. ⌜ now (out .exit) ≡ over (exOctets (replyIn (now (table .entry)) (now (request .entry)) raw)) (now (out .entry)) ⌝ }
+    requires ex_plan { ExPlan table.now request.now (reply_in table.now request.now raw) plan.names }
+    requires raw_in_bounds { length (ex_octets (reply_in table.now request.now raw)) ≤ length out.old }
+    ensures { out.new ≡ over (ex_octets (reply_in table.now request.now raw)) out.old }
 {
     let at = put_ex_head(out, table, request, raw);
     let at = put_names_at(out, at, table, request, plan, NEXT_SITE);

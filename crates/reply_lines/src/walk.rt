@@ -1,21 +1,17 @@
 // `walk` lines: document 01's walk over a reply's octets, from an offset. It knows no limit but the octets.
-ghost use mathlib.Core.Path.{_≡_};
-ghost use Prim.Native.Nat.{_+_};
-ghost use lib.Dec.{leb};
-ghost use lib.ListN.{length};
-ghost use Rattle·reply_lines·specs.specs.Internal.Walk.{StepWithin};
-use console::digits::Decimal;
-use console::digits::decimal_of;
-use console::say::say;
-use console::say::say_hex;
-use line_words::words::say_numbers;
-use line_words::words::say_unknown;
-use line_words::words::word;
+ghost use Rattle.std.specs.Prelude.{◌≡◌, ◌+◌, length, nat_le};
+ghost use Rattle.reply_lines.specs.Internal.Walk.{StepWithin};
+
+use console::digits::{Decimal, decimal_of};
+use console::say::{say, say_hex};
+use line_words::words::{say_numbers, say_unknown, word};
 use octets::part::part;
-use reader_names::look::Look;
-use reader_names::look::look_at;
+use reader_names::look::{Look, look_at};
+use std::io;
+use std::io::Write;
 
 // What the walk does at an offset it visits.
+#[derive(Drop)]
 enum WalkStep {
     Ends,
     Label(usize),
@@ -24,6 +20,7 @@ enum WalkStep {
 }
 
 // A walk that found a name, with how many pointers and labels.
+#[derive(Drop)]
 enum Found {
     Name { pointers: u64, labels: u64 },
     Nothing,
@@ -31,7 +28,7 @@ enum Found {
 
 // Whether the octets of a label at an offset are all there.
 fn is_whole(reply: &[u8], at: usize, len: usize) -> bool
-    ensures { λ r. ⌜ r ≡ leb (at + 1 + len) (length (now (reply .entry))) ⌝ }
+    ensures { result ≡ nat_le (at + 1 + len) (length reply.now) }
 {
     if reply.len() <= at {
         return false;
@@ -44,7 +41,7 @@ fn is_whole(reply: &[u8], at: usize, len: usize) -> bool
 
 // The step at an offset, in a run that starts at `run`.
 fn walk_step(reply: &[u8], run: usize, at: usize) -> WalkStep
-    ensures { λ r. ⌜ StepWithin (length (now (reply .entry))) run at r ⌝ }
+    ensures { StepWithin (length reply.now) run at result }
 {
     match look_at(reply, at) {
         Look::End => WalkStep::Ends,
@@ -76,52 +73,52 @@ fn walk_from(reply: &[u8], start: usize) -> Found {
             WalkStep::Ends => return Found::Name { pointers, labels },
             WalkStep::Label(len) => {
                 at = at + 1 + len;
-                labels = std::num::wrapping_add_u64(labels, 1);
+                labels = labels.wrapping_add(1);
             }
             WalkStep::Pointer(aim) => {
                 run = aim;
                 at = aim;
-                pointers = std::num::wrapping_add_u64(pointers, 1);
+                pointers = pointers.wrapping_add(1);
             }
             WalkStep::Lost => return Found::Nothing,
         }
     }
 }
 
-fn say_labels(reply: &[u8], start: usize) {
+fn say_labels<W: Write>(to: &mut W, reply: &[u8], start: usize) -> io::Result<()> {
     let mut run = start;
     let mut at = start;
     loop {
         match walk_step(reply, run, at) {
-            WalkStep::Ends => return,
+            WalkStep::Ends => return Ok(()),
             WalkStep::Label(len) => {
-                say(b" ");
-                say_hex(part(reply, at + 1, len));
+                say(to, b" ")?;
+                say_hex(to, part(reply, at + 1, len))?;
                 at = at + 1 + len;
             }
             WalkStep::Pointer(aim) => {
                 run = aim;
                 at = aim;
             }
-            WalkStep::Lost => return,
+            WalkStep::Lost => return Ok(()),
         }
     }
 }
 
-fn say_walked(reply: &[u8], start: usize) {
+fn say_walked<W: Write>(to: &mut W, reply: &[u8], start: usize) -> io::Result<()> {
     match walk_from(reply, start) {
-        Found::Nothing => say(b"walk none"),
+        Found::Nothing => say(to, b"walk none"),
         Found::Name { pointers, labels } => {
             let numbers = [pointers, labels];
-            say_numbers(b"walk", &numbers);
-            say_labels(reply, start);
+            say_numbers(to, b"walk", &numbers)?;
+            say_labels(to, reply, start)
         }
     }
 }
 
-pub fn answer_walk(line: &[u8], reply: &[u8]) {
+pub fn answer_walk<W: Write>(to: &mut W, line: &[u8], reply: &[u8]) -> io::Result<()> {
     match decimal_of(word(line, 1)) {
-        Decimal::Bad => say_unknown(),
-        Decimal::Value(start) => say_walked(reply, start as usize),
+        Decimal::Bad => say_unknown(to),
+        Decimal::Value(start) => say_walked(to, reply, start as usize),
     }
 }

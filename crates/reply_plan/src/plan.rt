@@ -1,28 +1,19 @@
 // Plans a reply in each of the three forms.
-ghost use mathlib.Core.Path.{_≡_};
-ghost use Prim.Native.Nat.{_+_, _≤_};
-ghost use lib.ListN.{length, take};
-ghost use Rattle·answers.specs.declared.Form.the-variants.{Nt40, Response, Ex};
-ghost use Rattle·names.specs.Internal.Plan.{AllFit};
-ghost use Rattle·reply.specs.Internal.RawReply.{Short};
-ghost use Rattle·reply.specs.Internal.Plan.{PlanOf};
-ghost use Rattle·reply_plan·specs.specs.Internal.LastPlan.{LastPlan};
-use crate::size::address_size;
-use crate::size::opening_size;
-use crate::size::stretch_size;
+ghost use Rattle.std.specs.Prelude.{◌≡◌, ◌+◌, ◌≤◌, length, take};
+ghost use Rattle.answers.specs.declared.Form.TheVariants.{Nt40, Response, Ex};
+ghost use Rattle.names.specs.Internal.Plan.{AllFit};
+ghost use Rattle.reply.specs.Internal.RawReply.{Short};
+ghost use Rattle.reply.specs.Internal.Plan.{PlanOf};
+ghost use Rattle.reply_plan.specs.Internal.LastPlan.{LastPlan};
+
+use crate::size::{address_size, opening_size, stretch_size};
 use answers::Form;
 use answers::wire::ENDING_SIZE;
 use lent::stretch::Stretch;
-use names::plan::NAMES_MOST;
-use names::plan::PlannedName;
-use names::plan::name_size;
-use names::plan::plan_name;
-use names::plan::plan_names;
+use names::plan::{NAMES_MOST, PlannedName, name_size, plan_name, plan_names};
 use octets::size::GUID_SIZE;
 use reply::plan::Plan;
-use reply::raw::CONTEXT_NETBIOS;
-use reply::raw::NEXT_SITE;
-use reply::raw::RawReply;
+use reply::raw::{CONTEXT_NETBIOS, NEXT_SITE, RawReply};
 
 // The opcode, the second number and the flags of an EX.
 const EX_NUMBERS_SIZE: usize = 8;
@@ -30,8 +21,8 @@ const EX_NUMBERS_SIZE: usize = 8;
 const FLAGS_SIZE: usize = 4;
 
 fn plan_nt40<'a>(table: &'a [u8], request: &'a [u8], raw: RawReply) -> Plan
-    requires { ⌜ Short raw ⌝ }
-    ensures { λ r. ⌜ PlanOf (now (table .entry)) (now (request .entry)) Nt40 raw r ⌝ }
+    requires { Short raw }
+    ensures { PlanOf table.now request.now Nt40 raw result }
 {
     let slots = raw.slots;
     let planned = plan_names(table, request, slots, 0, 0);
@@ -44,8 +35,8 @@ fn plan_nt40<'a>(table: &'a [u8], request: &'a [u8], raw: RawReply) -> Plan
 
 // The names of a RESPONSE are the first three of the slots.
 fn plan_response<'a>(table: &'a [u8], request: &'a [u8], raw: RawReply) -> Plan
-    requires { ⌜ Short raw ⌝ }
-    ensures { λ r. ⌜ PlanOf (now (table .entry)) (now (request .entry)) Response raw r ⌝ }
+    requires { Short raw }
+    ensures { PlanOf table.now request.now Response raw result }
 {
     let slots = raw.slots;
     let guid = raw.guid;
@@ -68,8 +59,8 @@ fn plan_last<'a>(
     next_site: Stretch,
     front: usize,
 ) -> Plan
-    requires { ⌜ AllFit (now table) (now request) (take 8 names) × («next_site» .len ≤ 255) × (front ≤ 8192) ⌝ }
-    ensures { λ r. ⌜ LastPlan (now (table .entry)) (now (request .entry)) names «with_next_site» «next_site» front r ⌝ }
+    requires { AllFit table.now request.now (take 8 names) × (next_site.len ≤ 255) × (front ≤ 8192) }
+    ensures { LastPlan table.now request.now names with_next_site next_site front result }
 {
     if !with_next_site {
         return Plan {
@@ -87,8 +78,8 @@ fn plan_last<'a>(
 }
 
 fn plan_ex<'a>(table: &'a [u8], request: &'a [u8], raw: RawReply) -> Plan
-    requires { ⌜ Short raw ⌝ }
-    ensures { λ r. ⌜ PlanOf (now (table .entry)) (now (request .entry)) Ex raw r ⌝ }
+    requires { Short raw }
+    ensures { PlanOf table.now request.now Ex raw result }
 {
     let slots = raw.slots;
     let guid = raw.guid;
@@ -102,8 +93,8 @@ fn plan_ex<'a>(table: &'a [u8], request: &'a [u8], raw: RawReply) -> Plan
 }
 
 pub fn plan_reply<'a>(table: &'a [u8], request: &'a [u8], form: Form, raw: RawReply) -> Plan
-    requires { ⌜ Short raw ⌝ }
-    ensures { λ r. ⌜ PlanOf (now (table .entry)) (now (request .entry)) form raw r ⌝ }
+    requires { Short raw }
+    ensures { PlanOf table.now request.now form raw result }
 {
     match form {
         Form::Nt40 => plan_nt40(table, request, raw),

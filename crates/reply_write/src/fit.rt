@@ -1,16 +1,17 @@
 // A reply where there is room for it: its length is known before its first octet is written.
-ghost use mathlib.Core.Path.{_≡_};
-ghost use lib.ListN.{length};
-ghost use Rattle·octets.specs.Buffer.{over};
-ghost use Rattle·reply.specs.Reply.{octetsIn};
-ghost use Rattle·reply.specs.Internal.RawReply.{replyIn, Short};
-ghost use Rattle·reply_write·specs.specs.Internal.Fit.{FittedTo, octetsFitted};
+ghost use Rattle.std.specs.Prelude.{◌≡◌, length};
+ghost use Rattle.octets.specs.Buffer.{over};
+ghost use Rattle.reply.specs.Reply.{octets_in};
+ghost use Rattle.reply.specs.Internal.RawReply.{reply_in, Short};
+ghost use Rattle.reply_write.specs.Internal.Fit.{FittedTo, octets_fitted};
+
 use crate::put::put_reply;
 use answers::Form;
 use reply::raw::RawReply;
 use reply_plan::plan::plan_reply;
 
 // What writing a reply gives: its length, or 19.
+#[derive(Drop)]
 pub enum Fitted {
     Length(usize),
     NoRoom,
@@ -23,9 +24,9 @@ pub fn fit_reply<'a>(
     form: Form,
     raw: RawReply,
 ) -> Fitted
-    requires { ⌜ Short raw ⌝ }
-    ensures { λ r. ⌜ FittedTo (octetsIn form (replyIn (now (table .entry)) (now (request .entry)) raw)) (length (now (out .entry))) r ⌝ }
-    ensures { λ r. ⌜ now (out .exit) ≡ over (octetsFitted (octetsIn form (replyIn (now (table .entry)) (now (request .entry)) raw)) r) (now (out .entry)) ⌝ }
+    requires { Short raw }
+    ensures fitted_to { FittedTo (octets_in form (reply_in table.now request.now raw)) (length out.old) result }
+    ensures out_after { out.new ≡ over (octets_fitted (octets_in form (reply_in table.now request.now raw)) result) out.old }
 {
     let plan = plan_reply(table, request, form, raw);
     let length = plan.length;

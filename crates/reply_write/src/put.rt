@@ -1,17 +1,15 @@
 // Writes a reply that is planned, by its form.
-ghost use mathlib.Core.Path.{_≡_};
-ghost use Prim.Native.Nat.{_≤_};
-ghost use lib.ListN.{length};
-ghost use Rattle·octets.specs.Buffer.{over};
-ghost use Rattle·reply.specs.Reply.{octetsIn};
-ghost use Rattle·reply.specs.Internal.RawReply.{replyIn};
-ghost use Rattle·reply.specs.Internal.Plan.{PlanOf};
+ghost use Rattle.std.specs.Prelude.{◌≡◌, ◌≤◌, length};
+ghost use Rattle.octets.specs.Buffer.{over};
+ghost use Rattle.reply.specs.Reply.{octets_in};
+ghost use Rattle.reply.specs.Internal.RawReply.{reply_in};
+ghost use Rattle.reply.specs.Internal.Plan.{PlanOf};
+
 use answers::Form;
 use reply::plan::Plan;
 use reply::raw::RawReply;
 use reply_ex::ex::put_ex;
-use reply_older::older::put_nt40;
-use reply_older::older::put_response;
+use reply_older::older::{put_nt40, put_response};
 
 pub fn put_reply<'a>(
     out: &mut [u8],
@@ -21,9 +19,9 @@ pub fn put_reply<'a>(
     raw: RawReply,
     plan: Plan,
 )
-    requires { ⌜ PlanOf (now table) (now request) form raw plan ⌝ }
-    requires { ⌜ plan .length ≤ length (now out) ⌝ }
-    ensures { λ _. ⌜ now (out .exit) ≡ over (octetsIn form (replyIn (now (table .entry)) (now (request .entry)) raw)) (now (out .entry)) ⌝ }
+    requires plan_of { PlanOf table.now request.now form raw plan }
+    requires length_in_bounds { plan.length ≤ length out.old }
+    ensures { out.new ≡ over (octets_in form (reply_in table.now request.now raw)) out.old }
 {
     match form {
         Form::Nt40 => put_nt40(out, table, request, raw),

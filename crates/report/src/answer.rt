@@ -1,8 +1,9 @@
 // An answer number with its meaning: document 01, "Answer numbers" and "Reading a reply", and document 02.
 use answers::Form;
 use console::field::field;
-use console::say::say;
-use console::say::say_number;
+use console::say::{say, say_number};
+use std::io;
+use std::io::Write;
 
 // What each refusal means, a row each from 0 on: 0 is none, and 10 is never given.
 const REFUSALS: [u8; 711] = *b"
@@ -41,33 +42,36 @@ octets are left over after the reply
 
 the mailslot message is not of the shape that is read";
 
-fn say_refusal(number: u8) {
+fn say_refusal<W: Write>(to: &mut W, number: u8) -> io::Result<()> {
     if number < FIRST_OF_REPLY {
-        say(field(&REFUSALS, b'\n', number as usize));
-        return;
+        say(to, field(&REFUSALS, b'\n', number as usize))?;
+        return Ok(());
     }
-    say(field(&REPLY_REFUSALS, b'\n', (number - FIRST_OF_REPLY) as usize));
+    say(
+        to,
+        field(&REPLY_REFUSALS, b'\n', (number - FIRST_OF_REPLY) as usize),
+    )
 }
 
 // The line of an answer. What 0 means is the program's to say.
-pub fn say_answer(number: u8, good: &[u8]) {
-    say(b"answer    ");
-    say_number(number as u64);
+pub fn say_answer<W: Write>(to: &mut W, number: u8, good: &[u8]) -> io::Result<()> {
+    say(to, b"answer    ")?;
+    say_number(to, number as u64)?;
     if number == 0 {
-        say(b", ");
-        say(good);
+        say(to, b", ")?;
+        say(to, good)?;
     } else {
-        say(b", refused: ");
-        say_refusal(number);
+        say(to, b", refused: ")?;
+        say_refusal(to, number)?;
     }
-    say(b"\n");
+    say(to, b"\n")
 }
 
-pub fn say_form(form: Form) {
-    say(b"form      ");
+pub fn say_form<W: Write>(to: &mut W, form: Form) -> io::Result<()> {
+    say(to, b"form      ")?;
     match form {
-        Form::Nt40 => say(b"NT40\n"),
-        Form::Response => say(b"RESPONSE\n"),
-        Form::Ex => say(b"EX\n"),
+        Form::Nt40 => say(to, b"NT40\n"),
+        Form::Response => say(to, b"RESPONSE\n"),
+        Form::Ex => say(to, b"EX\n"),
     }
 }

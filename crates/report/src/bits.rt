@@ -1,9 +1,9 @@
 // Flags and opcodes under their names in MS-ADTS 6.3.1.
 use answers::wire::LOGON_SAM_LOGON_RESPONSE;
 use console::field::field;
-use console::say::say;
-use console::say::say_bits;
-use console::say::say_number;
+use console::say::{say, say_bits, say_number};
+use std::io;
+use std::io::Write;
 
 // The flags, a row for each bit from bit 0 on. Bit 1 is no flag.
 const FLAGS: [u8; 241] = *b"DS_PDC_FLAG
@@ -37,54 +37,60 @@ LOGON_SAM_LOGON_RESPONSE_EX
 LOGON_SAM_PAUSE_RESPONSE_EX
 LOGON_SAM_USER_UNKNOWN_EX";
 
-fn say_flag(bit: usize) {
+fn say_flag<W: Write>(to: &mut W, bit: usize) -> io::Result<()> {
     let name = field(&FLAGS, b'\n', bit);
     if name.len() != 0 {
-        say(b" ");
-        say(name);
+        say(to, b" ")?;
+        say(to, name)?;
     }
+    Ok(())
 }
 
-fn say_named(flags: u32) {
+fn say_named<W: Write>(to: &mut W, flags: u32) -> io::Result<()> {
     let mut rest = flags;
     let mut bit = 0;
     while bit < FLAG_COUNT {
         if rest % 2 == 1 {
-            say_flag(bit);
+            say_flag(to, bit)?;
         }
         rest = rest / 2;
         bit += 1;
     }
+    Ok(())
 }
 
-fn say_unnamed(flags: u32) {
+fn say_unnamed<W: Write>(to: &mut W, flags: u32) -> io::Result<()> {
     let unnamed = flags & UNNAMED_FLAGS;
     if unnamed != 0 {
-        say(b", without a name ");
-        say_bits(unnamed);
+        say(to, b", without a name ")?;
+        say_bits(to, unnamed)?;
     }
+    Ok(())
 }
 
 // The line of a reply's flags.
-pub fn say_flags(flags: u32) {
-    say(b"flags     ");
-    say_bits(flags);
-    say_named(flags);
-    say_unnamed(flags);
-    say(b"\n");
+pub fn say_flags<W: Write>(to: &mut W, flags: u32) -> io::Result<()> {
+    say(to, b"flags     ")?;
+    say_bits(to, flags)?;
+    say_named(to, flags)?;
+    say_unnamed(to, flags)?;
+    say(to, b"\n")
 }
 
 // The line of a reply's opcode. A reading has no other.
-pub fn say_opcode(opcode: u16) {
-    say(b"opcode    ");
-    say_number(opcode as u64);
+pub fn say_opcode<W: Write>(to: &mut W, opcode: u16) -> io::Result<()> {
+    say(to, b"opcode    ")?;
+    say_number(to, opcode as u64)?;
     if LOGON_SAM_LOGON_RESPONSE <= opcode {
-        say(b" ");
-        say(field(
-            &OPCODES,
-            b'\n',
-            (opcode - LOGON_SAM_LOGON_RESPONSE) as usize,
-        ));
+        say(to, b" ")?;
+        say(
+            to,
+            field(
+                &OPCODES,
+                b'\n',
+                (opcode - LOGON_SAM_LOGON_RESPONSE) as usize,
+            ),
+        )?;
     }
-    say(b"\n");
+    say(to, b"\n")
 }

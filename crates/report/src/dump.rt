@@ -1,67 +1,71 @@
 // Octets as lines of sixteen: the offset, hex digits, and what is printable of them.
 use crate::text::is_printable;
-use console::say::say;
-use console::say::say_hex;
-use libc::STDOUT_FILENO;
+use console::say::{say, say_hex};
 use octets::part::part;
+use std::io;
+use std::io::Write;
 
 const WIDTH: usize = 16;
 
 // The last line may lack columns.
-fn say_column(line: &[u8], i: usize) {
+fn say_column<W: Write>(to: &mut W, line: &[u8], i: usize) -> io::Result<()> {
     if i == WIDTH / 2 {
-        say(b" ");
+        say(to, b" ")?;
     }
     if line.len() <= i {
-        say(b"   ");
-        return;
+        say(to, b"   ")?;
+        return Ok(());
     }
-    say(b" ");
-    say_hex(part(line, i, 1));
+    say(to, b" ")?;
+    say_hex(to, part(line, i, 1))
 }
 
-fn say_columns(line: &[u8]) {
+fn say_columns<W: Write>(to: &mut W, line: &[u8]) -> io::Result<()> {
     let mut i = 0;
     while i < WIDTH {
-        say_column(line, i);
+        say_column(to, line, i)?;
         i += 1;
     }
+    Ok(())
 }
 
-fn say_glyph(x: u8) {
+fn say_glyph<W: Write>(to: &mut W, x: u8) -> io::Result<()> {
     let glyph = [x];
     if is_printable(x) {
-        say(&glyph);
+        say(to, &glyph)?;
     } else {
-        say(b".");
+        say(to, b".")?;
     }
+    Ok(())
 }
 
-fn say_glyphs(line: &[u8]) {
+fn say_glyphs<W: Write>(to: &mut W, line: &[u8]) -> io::Result<()> {
     let mut i = 0;
     while i < line.len() {
-        say_glyph(line[i]);
+        say_glyph(to, line[i])?;
         i += 1;
     }
+    Ok(())
 }
 
-fn say_line(octets: &[u8], at: usize) {
+fn say_line<W: Write>(to: &mut W, octets: &[u8], at: usize) -> io::Result<()> {
     let line = part(octets, at, WIDTH);
-    io::print_hex(STDOUT_FILENO, at as u64, 8);
-    say(b" ");
-    say_columns(line);
-    say(b"  ");
-    say_glyphs(line);
-    say(b"\n");
+    write!(to, "{at:08x}")?;
+    say(to, b" ")?;
+    say_columns(to, line)?;
+    say(to, b"  ")?;
+    say_glyphs(to, line)?;
+    say(to, b"\n")
 }
 
-pub fn say_dump(octets: &[u8]) {
+pub fn say_dump<W: Write>(to: &mut W, octets: &[u8]) -> io::Result<()> {
     let mut at = 0;
     while at < octets.len() {
-        say_line(octets, at);
+        say_line(to, octets, at)?;
         if octets.len() - at <= WIDTH {
-            return;
+            return Ok(());
         }
         at += WIDTH;
     }
+    Ok(())
 }

@@ -1,4 +1,6 @@
 // What a person is shown of an answer: its meaning, the fields of a reply, and its octets.
+#![tactic(auto)]
+
 pub mod answer;
 pub mod bits;
 pub mod dump;

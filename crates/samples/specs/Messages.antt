@@ -1,12 +1,10 @@
 -- Document 02, #105, and source page 001: messages octet by octet, by the sizes of their texts, and what they are read to.
-use mathlib.Core.Path.{_≡_}
-use mathlib.Core.List.{List, [], _∷_, _++_, map, flatMap}
-use Prim.Native.Nat.{ℕ, _+_, _*_}
-use lib.ListN.{replicate}
-use Rattle·answers.specs.declared.Refusal.the-variants.{MailslotShape}
-use Rattle·answers.specs.Try.{Try, refused, good}
-use Rattle·mailslot.specs.{declared.message.Message.Message, Message.messageIn}
-use Rattle·reader.specs.declared.field.Stretch.{Stretch}
+use Rattle.std.specs.Prelude.{◌≡◌, ℕ, ◌+◌, ◌*◌, replicate}
+use mathlib.Core.List.{List, [], ◌∷◌, ◌++◌, map, flat_map}
+use Rattle.answers.specs.declared.Refusal.TheVariants.{MailslotShape}
+use Rattle.answers.specs.Try.{Try, refused, good}
+use Rattle.mailslot.specs.{declared.message.Message.Message, Message.message_in}
+use Rattle.reader.specs.declared.field.Stretch.{Stretch}
 
 -- so many units of the computer and of the user, octets of the mailslot's name and of padding, and parts of the SID
 abbrev pub Sizes : Type 0
@@ -14,11 +12,11 @@ Sizes = ℕ × ℕ × ℕ × ℕ × ℕ
 
 -- ASCII letters as units, and the zero unit
 abbrev pub letters : ℕ → ℕ → List ℕ
-letters n x = flatMap (λ y. y ∷ 0 ∷ []) (replicate n x) ++ (0 ∷ 0 ∷ [])
+letters n x = flat_map (λ y. y ∷ 0 ∷ []) (replicate n x) ++ (0 ∷ 0 ∷ [])
 
 -- opcode 18, repeat 7, the texts, bits 10h, the SID's size, padding of FFh, the SID, version 6, the two tokens
-abbrev pub octetsOfSizes : Sizes → List ℕ
-octetsOfSizes (computer, user, name, padding, parts) =
+abbrev pub octets_of_sizes : Sizes → List ℕ
+octets_of_sizes (computer, user, name, padding, parts) =
     (0x12 ∷ 0 ∷ 7 ∷ 0 ∷ [])
     ++ letters computer 0x43
     ++ letters user 0x75
@@ -31,8 +29,8 @@ octetsOfSizes (computer, user, name, padding, parts) =
 abbrev pub at : ℕ → ℕ → Stretch
 at start len = record { start = start; len = len }
 
-abbrev pub messageOf : Stretch → Stretch → Stretch → Stretch → Try Message
-messageOf computer user name sid = good (record { repeat = 7; computer = computer; user = user; mailslot = name; bits = 0x10; sid = sid; version = 6 })
+abbrev pub message_of : Stretch → Stretch → Stretch → Stretch → Try Message
+message_of computer user name sid = good (record { repeat = 7; computer = computer; user = user; mailslot = name; bits = 0x10; sid = sid; version = 6 })
 
 -- the longest, of 316 octets; then each limit passed alone, a SID of 16 parts, padding counted from after the opcode, and each size of padding
 abbrev pub messages : List Sizes
@@ -51,15 +49,15 @@ messages =
 
 abbrev pub MessagesRead : Type 0
 MessagesRead =
-    map (λ sizes. messageIn (octetsOfSizes sizes)) messages
-    ≡ messageOf (at 4 30) (at 36 126) (at 164 64) (at 240 68)
+    map (λ sizes. message_in (octets_of_sizes sizes)) messages
+    ≡ message_of (at 4 30) (at 36 126) (at 164 64) (at 240 68)
     ∷ refused MailslotShape
     ∷ refused MailslotShape
     ∷ refused MailslotShape
     ∷ refused MailslotShape
     ∷ refused MailslotShape
-    ∷ messageOf (at 4 0) (at 6 0) (at 8 3) (at 20 12)
-    ∷ messageOf (at 4 0) (at 6 2) (at 10 2) (at 24 12)
-    ∷ messageOf (at 4 0) (at 6 0) (at 8 1) (at 20 12)
-    ∷ messageOf (at 4 2) (at 8 0) (at 10 0) (at 20 12)
+    ∷ message_of (at 4 0) (at 6 0) (at 8 3) (at 20 12)
+    ∷ message_of (at 4 0) (at 6 2) (at 10 2) (at 24 12)
+    ∷ message_of (at 4 0) (at 6 0) (at 8 1) (at 20 12)
+    ∷ message_of (at 4 2) (at 8 0) (at 10 0) (at 20 12)
     ∷ []

@@ -1,18 +1,15 @@
 -- Document 02, #113: no reply "with the same fields and names in the same order is shorter, among all in which each name is written as labels ended by a
 -- zero octet or by one pointer to a literally written label of an earlier name". First these replies, by that sentence alone; then what holds of them.
-use mathlib.Core.Path.{_≡_}
-use mathlib.Core.Bool.{Bool, true}
-use mathlib.Core.List.{List, [], _∷_, _++_, map, List·Memᴰ as Among}
-use mathlib.Core.Option.{Option, none, some}
-use Prim.Native.Nat.{ℕ, _+_, _<_, _≤_}
-use lib.ListN.{length}
-use Rattle·answers.specs.declared.Form.{Form}
-use Rattle·answers.specs.declared.Form.the-variants.{Nt40, Response, Ex}
-use Rattle·answers.specs.Wire.{responseVersion, exVersion, exVersionWithNextSite}
-use Rattle·names.specs.Walk.{walk}
-use Rattle·octets.specs.{Label.labels, Label.joined, Lists.all, NameRule.sized, NameRule.labelMost, Number.bigOctets}
-use Rattle·reply.specs.Reply.{Reply, u32, ending, nt40Octets, responseHead, responseNames, exHead, exNames, addressIf, octetsIn}
-use Rattle·demands.specs.Derivation.{ReplyIs, EveryAnswerOver, EveryReply}
+use Rattle.std.specs.Prelude.{◌≡◌, Bool, true, ℕ, ◌+◌, ◌<◌, ◌≤◌, length}
+use mathlib.Core.List.{List, [], ◌∷◌, ◌++◌, map, Memᴰ as Among}
+use Rattle.std.proofs.Math.Option.{Option, none, some}
+use Rattle.answers.specs.declared.Form.{Form}
+use Rattle.answers.specs.declared.Form.TheVariants.{Nt40, Response, Ex}
+use Rattle.answers.specs.Wire.{response_version, ex_version, ex_version_with_next_site}
+use Rattle.names.specs.Walk.{walk}
+use Rattle.octets.specs.{Label.labels, Label.joined, Lists.all, NameRule.sized, NameRule.label_most, Number.big_octets}
+use Rattle.reply.specs.Reply.{Reply, u32, ending, nt40_octets, response_head, response_names, ex_head, ex_names, address_if, octets_in}
+use Rattle.demands.specs.Derivation.{ReplyIs, EveryAnswerOver, EveryReply}
 
 -- ---- the fields of a reply, in order
 
@@ -22,15 +19,15 @@ pub data Field : Type 0 where
   name : List ℕ → Field
 
 -- name 8, where there is one, and the version by it
-abbrev pub lastFields : Option (List ℕ) → List Field
-lastFields none = fixed (ending exVersion) ∷ []
-lastFields (some text) = name text ∷ fixed (ending exVersionWithNextSite) ∷ []
+abbrev pub last_fields : Option (List ℕ) → List Field
+last_fields none = fixed (ending ex_version) ∷ []
+last_fields (some text) = name text ∷ fixed (ending ex_version_with_next_site) ∷ []
 
 -- NT40 has no names, so it is one field here
-abbrev pub fieldsOf : Form → Reply → List Field
-fieldsOf Nt40 r = fixed (nt40Octets r) ∷ []
-fieldsOf Response r = fixed (responseHead r) ∷ (map name (responseNames r) ++ (fixed (r .ipv4 ++ u32 (r .flags) ++ ending responseVersion) ∷ []))
-fieldsOf Ex r = fixed (exHead r) ∷ (map name (exNames r) ++ (fixed (addressIf (r .withAddress) (r .ipv4)) ∷ lastFields (r .nextSite)))
+abbrev pub fields_of : Form → Reply → List Field
+fields_of Nt40 r = fixed (nt40_octets r) ∷ []
+fields_of Response r = fixed (response_head r) ∷ (map name (response_names r) ++ (fixed (r.ipv4 ++ u32 r.flags ++ ending response_version) ∷ []))
+fields_of Ex r = fixed (ex_head r) ∷ (map name (ex_names r) ++ (fixed (address_if r.with_address_lem r.ipv4) ∷ last_fields r.next_site_lem))
 
 -- ---- the replies that are compared
 
@@ -40,8 +37,8 @@ pub record Placed : Type 0 where
   pub text : List ℕ
 
 -- a pointer: the top two bits set, then 14 bits for an offset below 4000h
-abbrev pub pointerAt : ℕ → List ℕ
-pointerAt offset = bigOctets 2 (0xC000 + offset)
+abbrev pub pointer_at : ℕ → List ℕ
+pointer_at offset = big_octets 2 (0xC000 + offset)
 
 -- A name written at an offset, label by label, after names whose literally written labels are `earlier`: the labels that are left, their octets, and which of
 -- them are written literally. It ends with a zero octet where none is left, or anywhere with one pointer: to any of `earlier` from which the text to the end of
@@ -50,7 +47,7 @@ pub data NameWritten (earlier : List Placed) : ℕ → List (List ℕ) → List 
   ended : {at : ℕ} → NameWritten earlier at [] (0 ∷ []) []
   label : {at : ℕ} {l : List ℕ} {ls : List (List ℕ)} {s : List ℕ} {own : List Placed} → NameWritten earlier (at + (1 + length l)) ls s own
       → NameWritten earlier at (l ∷ ls) ((length l ∷ l) ++ s) (record { offset = at; text = joined (l ∷ ls) } ∷ own)
-  pointer : {at : ℕ} {ls : List (List ℕ)} {t : Placed} → Among t earlier → t .text ≡ joined ls → t .offset < 0x4000 → NameWritten earlier at ls (pointerAt (t .offset)) []
+  pointer : {at : ℕ} {ls : List (List ℕ)} {t : Placed} → Among t earlier → t.text ≡ joined ls → t.offset < 0x4000 → NameWritten earlier at ls (pointer_at t.offset) []
 
 -- fields written one after the other at an offset: their octets, and where each name starts
 pub data FieldsWritten : List Placed → ℕ → List Field → List ℕ → List Placed → Type 0 where
@@ -63,46 +60,46 @@ pub data FieldsWritten : List Placed → ℕ → List Field → List ℕ → Lis
 
 -- s is one of the replies that say r in a form; its names start at these places
 abbrev pub Compared : Form → Reply → List ℕ → List Placed → Type 0
-Compared form r s places = FieldsWritten [] 0 (fieldsOf form r) s places
+Compared form r s places = FieldsWritten [] 0 (fields_of form r) s places
 
 -- ---- what holds of them
 
 -- a text whose labels have 1 to 63 octets each; the empty text has none
-abbrev pub isName : List ℕ → Bool
-isName text = all (sized 1 labelMost) (labels text)
+abbrev pub is_name : List ℕ → Bool
+is_name text = all (sized 1 label_most) (labels text)
 
-abbrev pub textsOf : List Field → List (List ℕ)
-textsOf [] = []
-textsOf (fixed s ∷ fields) = textsOf fields
-textsOf (name text ∷ fields) = text ∷ textsOf fields
+abbrev pub texts_of : List Field → List (List ℕ)
+texts_of [] = []
+texts_of (fixed s ∷ fields) = texts_of fields
+texts_of (name text ∷ fields) = text ∷ texts_of fields
 
 abbrev pub AreNames : Form → Reply → Type 0
-AreNames form r = all isName (textsOf (fieldsOf form r)) ≡ true
+AreNames form r = all is_name (texts_of (fields_of form r)) ≡ true
 
 -- the walk from a name's first octet gives its labels, by some number of pointers
 abbrev pub Read : List ℕ → Placed → Type 0
-Read s n = (pointers : ℕ) × (walk s (n .offset) ≡ some (record { labels = labels (n .text); pointers = pointers }))
+Read s n = (pointers : ℕ) × (walk s n.offset ≡ some (record { labels = labels n.text; pointers = pointers }))
 
 -- a reply says the names of some fields: they start at its places, in order, and each is read back
 pub record SaysNames (fields : List Field) (s : List ℕ) (places : List Placed) : Type 0 where
-  pub texts : map (λ n. n .text) places ≡ textsOf fields
+  pub texts : map (λ n. n.text) places ≡ texts_of fields
   pub reads : (n : Placed) → Among n places → Read s n
 
 -- document 01's octets are one of them, where the 14 bits of a pointer reach each; an EX with nine names of 253 octets has 2,344 at the most
 abbrev pub DocumentReplyCompared : Type 0
-DocumentReplyCompared = (form : Form) (r : Reply) → length (octetsIn form r) ≤ 0x4000 → (places : List Placed) × Compared form r (octetsIn form r) places
+DocumentReplyCompared = (form : Form) (r : Reply) → length (octets_in form r) ≤ 0x4000 → (places : List Placed) × Compared form r (octets_in form r) places
 
 -- none of them is shorter, for any texts whatever that are names
 abbrev pub NoneShorter : Type 0
-NoneShorter = (form : Form) (r : Reply) → AreNames form r → (other : List ℕ) (places : List Placed) → Compared form r other places → length (octetsIn form r) ≤ length other
+NoneShorter = (form : Form) (r : Reply) → AreNames form r → (other : List ℕ) (places : List Placed) → Compared form r other places → length (octets_in form r) ≤ length other
 
 -- and all of them say the same
 abbrev pub AllReadBack : Type 0
-AllReadBack = (form : Form) (r : Reply) → AreNames form r → (other : List ℕ) (places : List Placed) → Compared form r other places → SaysNames (fieldsOf form r) other places
+AllReadBack = (form : Form) (r : Reply) → AreNames form r → (other : List ℕ) (places : List Placed) → Compared form r other places → SaysNames (fields_of form r) other places
 
 -- and one of them is longer, in either form with names
 abbrev pub Longer : Form → Type 0
-Longer form = (r : Reply) × AreNames form r × (other : List ℕ) × (places : List Placed) × Compared form r other places × (length (octetsIn form r) < length other)
+Longer form = (r : Reply) × AreNames form r × (other : List ℕ) × (places : List Placed) × Compared form r other places × (length (octets_in form r) < length other)
 
 abbrev pub SomeLonger : Type 0
 SomeLonger = Longer Response × Longer Ex
@@ -112,7 +109,7 @@ pub record Shortest (form : Form) (v : ℕ) (r : Reply) (s : List ℕ) : Type 0 
   pub places : List Placed
   pub compared : Compared form r s places
   pub least : (other : List ℕ) (at : List Placed) → Compared form r other at → length s ≤ length other
-  pub readBack : (other : List ℕ) (at : List Placed) → Compared form r other at → SaysNames (fieldsOf form r) other at
+  pub read_back_lem : (other : List ℕ) (at : List Placed) → Compared form r other at → SaysNames (fields_of form r) other at
 
 -- so of every answer over a table, and of the octets that an answering call leaves
 abbrev pub ShortestAnswerOver : Type 0

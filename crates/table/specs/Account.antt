@@ -1,12 +1,11 @@
 -- Document 01, "The table image", kind 4: an account, and its fields' offsets in the record.
-use mathlib.Core.List.{List}
-use Prim.Native.Nat.{ℕ}
-use Rattle·octets.specs.{NameRule.userNameMost, Number.u16At, Number.u32At}
-use Rattle·table·specs.specs.{declared.ContextNumber.ContextNumber, declared.field.TextField.TextField, declared.record.RecordFormat.RecordFormat}
-use Rattle·table·specs.specs.{Countings.contextNumber, Field.textAt}
+use Rattle.std.specs.Prelude.{List, ℕ}
+use Rattle.octets.specs.{NameRule.user_name_most, Number.u16_at, Number.u32_at}
+use Rattle.table.specs.{declared.ContextNumber.ContextNumber, declared.field.TextField.TextField, declared.record.RecordFormat.RecordFormat}
+use Rattle.table.specs.{Countings.context_number, Field.text_at}
 
-abbrev pub accountFormat : RecordFormat
-accountFormat = record { kind = 4; count = 6; width = 84 }
+abbrev pub account_format : RecordFormat
+account_format = record { kind = 4; count = 6; width = 84 }
 
 -- control is its bits, coded as MS-SAMR 2.2.1.12
 pub record Account : Type 0 where
@@ -14,11 +13,11 @@ pub record Account : Type 0 where
   pub control : ℕ
   pub name : List ℕ
 
-abbrev pub controlOffset : ℕ
-controlOffset = 4
+abbrev pub control_offset : ℕ
+control_offset = 4
 
-abbrev pub accountName : TextField
-accountName = record { offset = 8; room = userNameMost }
+abbrev pub account_name : TextField
+account_name = record { offset = 8; room = user_name_most }
 
-unfoldable pub accountOf : List ℕ → Account
-accountOf r = record { context = contextNumber (u16At r 0); control = u32At r controlOffset; name = textAt r accountName }
+unfoldable pub account_of : List ℕ → Account
+account_of r = record { context = context_number (u16_at r 0); control = u32_at r control_offset; name = text_at r account_name }

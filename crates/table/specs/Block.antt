@@ -1,43 +1,41 @@
 -- Document 01, "The table image": the blocks of an image, and what each block has at which octets.
-use mathlib.Core.List.{List}
-use Prim.Native.Nat.{ℕ, _/_}
-use lib.ListN.{length, getD}
-use Rattle·octets.specs.{Lists.cut, Lists.pieces, Number.u16At}
-use Rattle·table·specs.specs.{declared.BlockPlace.BlockPlace, Countings.blockPlace}
+use Rattle.std.specs.Prelude.{List, ℕ, ◌/◌, length, get_or}
+use Rattle.octets.specs.{Lists.cut, Lists.pieces, Number.u16_at}
+use Rattle.table.specs.{declared.BlockPlace.BlockPlace, Countings.block_place}
 
-abbrev pub blockSize : ℕ
-blockSize = 512
+abbrev pub block_size : ℕ
+block_size = 512
 
 -- 2 to 128 blocks
-abbrev pub imageLeast : ℕ
-imageLeast = 1024
+abbrev pub image_least : ℕ
+image_least = 1024
 
-abbrev pub imageMost : ℕ
-imageMost = 65536
+abbrev pub image_most : ℕ
+image_most = 65536
 
 -- the blocks of an image
-unfoldable pub blocksOf : List ℕ → List (List ℕ)
-blocksOf image = pieces (length image / blockSize) blockSize image
+unfoldable pub blocks_of : List ℕ → List (List ℕ)
+blocks_of image = pieces (length image / block_size) block_size image
 
-abbrev pub kindIn : List ℕ → ℕ
-kindIn block = getD block 0 0
+abbrev pub kind_in : List ℕ → ℕ
+kind_in block = get_or block 0 0
 
-abbrev pub versionIn : List ℕ → ℕ
-versionIn block = getD block 1 0
+abbrev pub version_in : List ℕ → ℕ
+version_in block = get_or block 1 0
 
 -- the place that a block says is its own
-abbrev pub placeIn : List ℕ → BlockPlace
-placeIn block = blockPlace (u16At block 2)
+abbrev pub place_in : List ℕ → BlockPlace
+place_in block = block_place (u16_at block 2)
 
-abbrev pub bodyOffset : ℕ
-bodyOffset = 4
+abbrev pub body_offset : ℕ
+body_offset = 4
 
-abbrev pub bodySize : ℕ
-bodySize = 504
+abbrev pub body_size : ℕ
+body_size = 504
 
 abbrev pub body : List ℕ → List ℕ
-body block = cut block bodyOffset bodySize
+body block = cut block body_offset body_size
 
 -- the check stands after the body
-abbrev pub checkOffset : ℕ
-checkOffset = 508
+abbrev pub check_offset : ℕ
+check_offset = 508

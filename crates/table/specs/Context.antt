@@ -1,17 +1,13 @@
 -- Document 01, "The table image", kind 3: a naming context, and its fields' offsets in the body.
-use mathlib.Core.Bool.{Bool, true, false}
-use mathlib.Core.List.{List}
-use mathlib.Core.Option.{Option, none, some}
-use Prim.Native.Nat.{ℕ}
-use lib.Dec.{eqb}
-use lib.ListN.{drop, getD}
-use Rattle·octets.specs.{Lists.cut, NameRule.netbiosNameMost, NameRule.dnsNameMost, Number.u16At, Sid.sidLength, Sid.guidSize}
-use Rattle·table·specs.specs.{declared.ContextNumber.ContextNumber, declared.field.TextField.TextField, declared.record.RecordFormat.RecordFormat}
-use Rattle·table·specs.specs.{Block.bodySize, Countings.contextNumber, Field.textAt}
+use Rattle.std.specs.Prelude.{Bool, true, false, List, ℕ, eqb, drop, get_or}
+use Rattle.std.proofs.Math.Option.{Option, none, some}
+use Rattle.octets.specs.{Lists.cut, NameRule.netbios_name_most, NameRule.dns_name_most, Number.u16_at, Sid.sid_length, Sid.guid_size}
+use Rattle.table.specs.{declared.ContextNumber.ContextNumber, declared.field.TextField.TextField, declared.record.RecordFormat.RecordFormat}
+use Rattle.table.specs.{Block.body_size, Countings.context_number, Field.text_at}
 
 -- a context is the whole of its body
-abbrev pub contextFormat : RecordFormat
-contextFormat = record { kind = 3; count = 1; width = bodySize }
+abbrev pub context_format : RecordFormat
+context_format = record { kind = 3; count = 1; width = body_size }
 
 -- an application context has no SID; others may have none too
 pub record Context : Type 0 where
@@ -22,39 +18,39 @@ pub record Context : Type 0 where
   pub netbios : List ℕ
   pub dns : List ℕ
 
-abbrev pub applicationOctet : List ℕ → ℕ
-applicationOctet b = getD b 2 0
+abbrev pub application_octet : List ℕ → ℕ
+application_octet b = get_or b 2 0
 
-abbrev pub hasSidOctet : List ℕ → ℕ
-hasSidOctet b = getD b 3 0
+abbrev pub has_sid_octet : List ℕ → ℕ
+has_sid_octet b = get_or b 3 0
 
-abbrev pub sidOffset : ℕ
-sidOffset = 20
+abbrev pub sid_offset : ℕ
+sid_offset = 20
 
-abbrev pub sidRoom : ℕ
-sidRoom = 68
+abbrev pub sid_room : ℕ
+sid_room = 68
 
 -- the SID in its room, as long as its own count says
-abbrev pub sidAt : List ℕ → List ℕ
-sidAt b = cut b sidOffset (sidLength (drop sidOffset b))
+abbrev pub sid_at_lem : List ℕ → List ℕ
+sid_at_lem b = cut b sid_offset (sid_length (drop sid_offset b))
 
-abbrev pub sidIf : Bool → List ℕ → Option (List ℕ)
-sidIf true s = some s
-sidIf false s = none
+abbrev pub sid_if : Bool → List ℕ → Option (List ℕ)
+sid_if true s = some s
+sid_if false s = none
 
-abbrev pub contextNetbios : TextField
-contextNetbios = record { offset = 88; room = netbiosNameMost }
+abbrev pub context_netbios_lem : TextField
+context_netbios_lem = record { offset = 88; room = netbios_name_most }
 
-abbrev pub contextDnsName : TextField
-contextDnsName = record { offset = 104; room = dnsNameMost }
+abbrev pub context_dns_name : TextField
+context_dns_name = record { offset = 104; room = dns_name_most }
 
-unfoldable pub contextOf : List ℕ → Context
-contextOf b =
+unfoldable pub context_of : List ℕ → Context
+context_of b =
     record {
-      number = contextNumber (u16At b 0);
-      application = eqb (applicationOctet b) 1;
-      guid = cut b 4 guidSize;
-      sid = sidIf (eqb (hasSidOctet b) 1) (sidAt b);
-      netbios = textAt b contextNetbios;
-      dns = textAt b contextDnsName;
+      number = context_number (u16_at b 0);
+      application = eqb (application_octet b) 1;
+      guid = cut b 4 guid_size;
+      sid = sid_if (eqb (has_sid_octet b) 1) (sid_at_lem b);
+      netbios = text_at b context_netbios_lem;
+      dns = text_at b context_dns_name;
     }

@@ -1,17 +1,16 @@
 -- Document 01, "The table image", kind 2, at block 1: the forest's DNS name.
-use mathlib.Core.List.{List}
-use Prim.Native.Nat.{ℕ}
-use Rattle·octets.specs.NameRule.{dnsNameMost}
-use Rattle·table·specs.specs.{declared.BlockPlace.BlockPlace, declared.field.TextField.TextField, Countings.blockPlace, Field.textAt}
+use Rattle.std.specs.Prelude.{List, ℕ}
+use Rattle.octets.specs.NameRule.{dns_name_most}
+use Rattle.table.specs.{declared.BlockPlace.BlockPlace, declared.field.TextField.TextField, Countings.block_place, Field.text_at}
 
-abbrev pub forestKind : ℕ
-forestKind = 2
+abbrev pub forest_kind : ℕ
+forest_kind = 2
 
-abbrev pub forestPlace : BlockPlace
-forestPlace = blockPlace 1
+abbrev pub forest_place : BlockPlace
+forest_place = block_place 1
 
-abbrev pub forestName : TextField
-forestName = record { offset = 0; room = dnsNameMost }
+abbrev pub forest_name : TextField
+forest_name = record { offset = 0; room = dns_name_most }
 
-unfoldable pub forestOf : List ℕ → List ℕ
-forestOf b = textAt b forestName
+unfoldable pub forest_of : List ℕ → List ℕ
+forest_of b = text_at b forest_name

@@ -1,40 +1,39 @@
 -- Document 01, "The table image", kind 1, at block 0: the server, and its fields' offsets in the body.
-use mathlib.Core.List.{List}
-use Prim.Native.Nat.{ℕ}
-use Rattle·octets.specs.{Lists.cut, NameRule.netbiosNameMost, NameRule.dnsNameMost, Number.u16At, Number.u32At, Sid.ipv4Size}
-use Rattle·table·specs.specs.{declared.BlockPlace.BlockPlace, declared.ContextNumber.ContextNumber, declared.SiteNumber.SiteNumber}
-use Rattle·table·specs.specs.{declared.field.TextField.TextField, Field.textAt}
-use Rattle·table·specs.specs.Countings.{contextNumber, siteNumber, blockPlace}
+use Rattle.std.specs.Prelude.{List, ℕ}
+use Rattle.octets.specs.{Lists.cut, NameRule.netbios_name_most, NameRule.dns_name_most, Number.u16_at, Number.u32_at, Sid.ipv4_size}
+use Rattle.table.specs.{declared.BlockPlace.BlockPlace, declared.ContextNumber.ContextNumber, declared.SiteNumber.SiteNumber}
+use Rattle.table.specs.{declared.field.TextField.TextField, Field.text_at}
+use Rattle.table.specs.Countings.{context_number, site_number, block_place}
 
-abbrev pub serverKind : ℕ
-serverKind = 1
+abbrev pub server_kind : ℕ
+server_kind = 1
 
-abbrev pub serverPlace : BlockPlace
-serverPlace = blockPlace 0
+abbrev pub server_place : BlockPlace
+server_place = block_place 0
 
 pub record Server : Type 0 where
   pub roles : ℕ
   pub state : ℕ
   pub address : List ℕ
   pub site : SiteNumber
-  pub defaultContext : ContextNumber
+  pub default_context_lem : ContextNumber
   pub netbios : List ℕ
   pub host : List ℕ
 
-abbrev pub serverNetbios : TextField
-serverNetbios = record { offset = 16; room = netbiosNameMost }
+abbrev pub server_netbios_lem : TextField
+server_netbios_lem = record { offset = 16; room = netbios_name_most }
 
-abbrev pub serverHost : TextField
-serverHost = record { offset = 32; room = dnsNameMost }
+abbrev pub server_host : TextField
+server_host = record { offset = 32; room = dns_name_most }
 
-unfoldable pub serverOf : List ℕ → Server
-serverOf b =
+unfoldable pub server_of : List ℕ → Server
+server_of b =
     record {
-      roles = u32At b 0;
-      state = u32At b 4;
-      address = cut b 8 ipv4Size;
-      site = siteNumber (u16At b 12);
-      defaultContext = contextNumber (u16At b 14);
-      netbios = textAt b serverNetbios;
-      host = textAt b serverHost;
+      roles = u32_at b 0;
+      state = u32_at b 4;
+      address = cut b 8 ipv4_size;
+      site = site_number (u16_at b 12);
+      default_context_lem = context_number (u16_at b 14);
+      netbios = text_at b server_netbios_lem;
+      host = text_at b server_host;
     }

@@ -1,13 +1,12 @@
 -- Document 01, "The table image", kind 5: a site, and its fields' offsets in the record.
-use mathlib.Core.List.{List}
-use mathlib.Core.Option.{Option}
-use Prim.Native.Nat.{ℕ}
-use Rattle·octets.specs.{NameRule.siteNameMost, Number.u16At}
-use Rattle·table·specs.specs.{declared.SiteNumber.SiteNumber, declared.field.TextField.TextField, declared.record.RecordFormat.RecordFormat}
-use Rattle·table·specs.specs.{Countings.siteNumber, Countings.siteOrNone, Field.textAt}
+use Rattle.std.specs.Prelude.{List, ℕ}
+use Rattle.std.proofs.Math.Option.{Option}
+use Rattle.octets.specs.{NameRule.site_name_most, Number.u16_at}
+use Rattle.table.specs.{declared.SiteNumber.SiteNumber, declared.field.TextField.TextField, declared.record.RecordFormat.RecordFormat}
+use Rattle.table.specs.{Countings.site_number, Countings.site_or_none, Field.text_at}
 
-abbrev pub siteFormat : RecordFormat
-siteFormat = record { kind = 5; count = 7; width = 72 }
+abbrev pub site_format : RecordFormat
+site_format = record { kind = 5; count = 7; width = 72 }
 
 -- next is document 01's next closest site
 pub record Site : Type 0 where
@@ -15,11 +14,11 @@ pub record Site : Type 0 where
   pub name : List ℕ
   pub next : Option SiteNumber
 
-abbrev pub siteName : TextField
-siteName = record { offset = 2; room = siteNameMost }
+abbrev pub site_name : TextField
+site_name = record { offset = 2; room = site_name_most }
 
-abbrev pub nextOffset : ℕ
-nextOffset = 66
+abbrev pub next_offset : ℕ
+next_offset = 66
 
-unfoldable pub siteOf : List ℕ → Site
-siteOf r = record { number = siteNumber (u16At r 0); name = textAt r siteName; next = siteOrNone (u16At r nextOffset) }
+unfoldable pub site_of : List ℕ → Site
+site_of r = record { number = site_number (u16_at r 0); name = text_at r site_name; next = site_or_none (u16_at r next_offset) }

@@ -1,30 +1,26 @@
 -- Document 01, "The table image", kind 6: a subnet, and its fields' offsets in the record.
-use mathlib.Core.Bool.{Bool, _&&_}
-use mathlib.Core.List.{List}
-use mathlib.Core.Option.{Option}
-use Prim.Native.Nat.{ℕ}
-use lib.Dec.{eqb}
-use lib.ListN.{getD}
-use Rattle·octets.specs.{Lists.cut, Number.u16At, Sid.ipv4Size}
-use Rattle·table·specs.specs.{declared.SiteNumber.SiteNumber, declared.record.RecordFormat.RecordFormat, Address.addressNumber, Countings.siteOrNone}
+use Rattle.std.specs.Prelude.{Bool, ◌&&◌, List, ℕ, eqb, get_or}
+use Rattle.std.proofs.Math.Option.{Option}
+use Rattle.octets.specs.{Lists.cut, Number.u16_at, Sid.ipv4_size}
+use Rattle.table.specs.{declared.SiteNumber.SiteNumber, declared.record.RecordFormat.RecordFormat, Address.address_number, Countings.site_or_none}
 
-abbrev pub subnetFormat : RecordFormat
-subnetFormat = record { kind = 6; count = 42; width = 12 }
+abbrev pub subnet_format : RecordFormat
+subnet_format = record { kind = 6; count = 42; width = 12 }
 
 pub record Subnet : Type 0 where
   pub address : List ℕ
   pub prefix : ℕ
   pub site : Option SiteNumber
 
-abbrev pub inUseOctet : List ℕ → ℕ
-inUseOctet r = getD r 5 0
+abbrev pub in_use_octet : List ℕ → ℕ
+in_use_octet r = get_or r 5 0
 
-abbrev pub subnetSiteOffset : ℕ
-subnetSiteOffset = 6
+abbrev pub subnet_site_offset : ℕ
+subnet_site_offset = 6
 
 -- one address and one prefix, whatever the sites
-unfoldable pub sameNetwork : Subnet → Subnet → Bool
-sameNetwork n m = eqb (addressNumber (n .address)) (addressNumber (m .address)) && eqb (n .prefix) (m .prefix)
+unfoldable pub same_network : Subnet → Subnet → Bool
+same_network n m = eqb (address_number n.address) (address_number m.address) && eqb n.prefix m.prefix
 
-unfoldable pub subnetOf : List ℕ → Subnet
-subnetOf r = record { address = cut r 0 ipv4Size; prefix = getD r 4 0; site = siteOrNone (u16At r subnetSiteOffset) }
+unfoldable pub subnet_of : List ℕ → Subnet
+subnet_of r = record { address = cut r 0 ipv4_size; prefix = get_or r 4 0; site = site_or_none (u16_at r subnet_site_offset) }

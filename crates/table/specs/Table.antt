@@ -1,15 +1,12 @@
 -- Document 01, "The table image": the table that an image holds, its server, forest, contexts, accounts, sites and subnets, in table order.
-use mathlib.Core.Bool.{Bool, not}
-use mathlib.Core.List.{List, [], map, flatMap}
-use Prim.Native.Nat.{ℕ}
-use lib.Dec.{eqb}
-use lib.ListN.{getD}
-use Rattle·octets.specs.{Lists.keep, Text.allZero}
-use Rattle·table·specs.specs.{declared.record.RecordKind.RecordKind, Account.Account, Account.accountOf, Context.Context, Context.contextOf}
-use Rattle·table·specs.specs.{Forest.forestPlace, Forest.forestOf, Format.formatOf, Format.recordsIn, Site.Site, Site.siteOf, Subnet.Subnet, Subnet.subnetOf}
-use Rattle·table·specs.specs.declared.record.RecordKind.the-variants as kind
-use Rattle·table·specs.specs.Block.{blocksOf, kindIn, body}
-use Rattle·table·specs.specs.Server.{Server, serverPlace, serverOf}
+use Rattle.std.specs.Prelude.{Bool, not, ℕ, eqb, get_or}
+use mathlib.Core.List.{List, [], map, flat_map}
+use Rattle.octets.specs.{Lists.keep, Text.all_zero}
+use Rattle.table.specs.{declared.record.RecordKind.RecordKind, Account.Account, Account.account_of, Context.Context, Context.context_of}
+use Rattle.table.specs.{Forest.forest_place, Forest.forest_of, Format.format_of, Format.records_in, Site.Site, Site.site_of, Subnet.Subnet, Subnet.subnet_of}
+use Rattle.table.specs.declared.record.RecordKind.TheVariants as kind
+use Rattle.table.specs.Block.{blocks_of, kind_in, body}
+use Rattle.table.specs.Server.{Server, server_place, server_of}
 
 pub record Table : Type 0 where
   pub server : Server
@@ -21,27 +18,27 @@ pub record Table : Type 0 where
 
 -- the bodies of the blocks of one kind
 unfoldable pub bodies : ℕ → List (List ℕ) → List (List ℕ)
-bodies kind blocks = map body (keep (λ block. eqb (kindIn block) kind) blocks)
+bodies kind blocks = map body (keep (λ block. eqb (kind_in block) kind) blocks)
 
 -- an unused record is all zeros
-abbrev pub isUsed : List ℕ → Bool
-isUsed r = not (allZero r)
+abbrev pub is_used : List ℕ → Bool
+is_used r = not (all_zero r)
 
 -- the used records of a kind; a context's body of zeros is none either, and no table has one: its layout is refused with 3 before
-unfoldable pub recordsOf : RecordKind → List (List ℕ) → List (List ℕ)
-recordsOf kind blocks = keep isUsed (flatMap (recordsIn (formatOf kind)) (bodies (formatOf kind .kind) blocks))
+unfoldable pub records_of : RecordKind → List (List ℕ) → List (List ℕ)
+records_of kind blocks = keep is_used (flat_map (records_in (format_of kind)) (bodies (format_of kind).kind blocks))
 
-unfoldable pub tableOf : List (List ℕ) → Table
-tableOf blocks =
+unfoldable pub table_of : List (List ℕ) → Table
+table_of blocks =
     record {
-      server = serverOf (body (getD blocks (serverPlace .0) []));
-      forest = forestOf (body (getD blocks (forestPlace .0) []));
-      contexts = map contextOf (recordsOf kind.Context blocks);
-      accounts = map accountOf (recordsOf kind.Account blocks);
-      sites = map siteOf (recordsOf kind.Site blocks);
-      subnets = map subnetOf (recordsOf kind.Subnet blocks);
+      server = server_of (body (get_or blocks server_place.0 []));
+      forest = forest_of (body (get_or blocks forest_place.0 []));
+      contexts = map context_of (records_of kind.Context blocks);
+      accounts = map account_of (records_of kind.Account blocks);
+      sites = map site_of (records_of kind.Site blocks);
+      subnets = map subnet_of (records_of kind.Subnet blocks);
     }
 
 -- the table of an image
-abbrev pub tableFrom : List ℕ → Table
-tableFrom image = tableOf (blocksOf image)
+abbrev pub table_from : List ℕ → Table
+table_from image = table_of (blocks_of image)

@@ -1,11 +1,9 @@
 // An account, by its record's octets.
-ghost use mathlib.Core.Path.{_≡_};
-ghost use Rattle·table·specs.specs.Account.{accountOf};
+ghost use Rattle.std.specs.Prelude.{◌≡◌};
+ghost use Rattle.table.specs.Account.{account_of};
+
 use crate::ContextNumber;
-use crate::field::TextField;
-use crate::field::text_in;
-use crate::field::u16_in;
-use crate::field::u32_in;
+use crate::field::{TextField, text_in, u16_in, u32_in};
 use crate::record::RecordFormat;
 use octets::name_rule::USER_NAME_MOST;
 
@@ -25,19 +23,19 @@ pub const NAME: TextField = TextField {
 };
 
 pub fn context(octets: &[u8]) -> ContextNumber
-    ensures { λ r. ⌜ r ≡ accountOf (now (octets .entry)) .context ⌝ }
+    ensures { result ≡ (account_of octets.now).context }
 {
     ContextNumber(u16_in(octets, CONTEXT))
 }
 
 pub fn control(octets: &[u8]) -> u32
-    ensures { λ r. ⌜ r ≡ accountOf (now (octets .entry)) .control ⌝ }
+    ensures { result ≡ (account_of octets.now).control }
 {
     u32_in(octets, CONTROL)
 }
 
 pub fn name(octets: &[u8]) -> &[u8]
-    ensures { λ r. ⌜ now r ≡ accountOf (now (octets .entry)) .name ⌝ }
+    ensures { result.now ≡ (account_of octets.now).name }
 {
     text_in(octets, NAME)
 }

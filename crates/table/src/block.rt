@@ -1,10 +1,10 @@
 // The blocks of an image, lent as parts, and what each has at which octets.
-ghost use mathlib.Core.Path.{_≡_};
-ghost use Rattle·table·specs.specs.Block.{kindIn, versionIn, placeIn, body};
-ghost use Rattle·table·specs.specs.Internal.BlockAt.{blockAt};
+ghost use Rattle.std.specs.Prelude.{◌≡◌};
+ghost use Rattle.table.specs.Block.{kind_in, version_in, place_in, body};
+ghost use Rattle.table.specs.Internal.BlockAt.{block_at};
+
 use crate::BlockPlace;
-use crate::field::octet_in;
-use crate::field::u16_in;
+use crate::field::{octet_in, u16_in};
 use octets::part::part;
 
 pub const BLOCK_SIZE: usize = 512;
@@ -29,32 +29,32 @@ pub const BODY_SIZE: usize = 504;
 pub const CHECK: usize = 508;
 
 pub fn block_at(image: &[u8], place: BlockPlace) -> &[u8]
-    ensures { λ r. ⌜ now r ≡ blockAt (now (image .entry)) place ⌝ }
+    ensures { result.now ≡ block_at image.now place }
 {
     part(image, BLOCK_SIZE * (place.0 as usize), BLOCK_SIZE)
 }
 
 pub fn kind_of(block: &[u8]) -> u8
-    ensures { λ r. ⌜ r ≡ kindIn (now (block .entry)) ⌝ }
+    ensures { result ≡ kind_in block.now }
 {
     octet_in(block, KIND)
 }
 
 pub fn version_of(block: &[u8]) -> u8
-    ensures { λ r. ⌜ r ≡ versionIn (now (block .entry)) ⌝ }
+    ensures { result ≡ version_in block.now }
 {
     octet_in(block, VERSION)
 }
 
 // The place that a block says is its own.
 pub fn place_of(block: &[u8]) -> BlockPlace
-    ensures { λ r. ⌜ r ≡ placeIn (now (block .entry)) ⌝ }
+    ensures { result ≡ place_in block.now }
 {
     BlockPlace(u16_in(block, PLACE))
 }
 
 pub fn body_of(block: &[u8]) -> &[u8]
-    ensures { λ r. ⌜ now r ≡ body (now (block .entry)) ⌝ }
+    ensures { result.now ≡ body block.now }
 {
     part(block, BODY, BODY_SIZE)
 }

@@ -1,16 +1,12 @@
 // A naming context, by its record's octets.
-ghost use mathlib.Core.Path.{_≡_};
-ghost use lib.Dec.{eqb};
-ghost use Rattle·table·specs.specs.Context.{applicationOctet, hasSidOctet, sidAt, contextOf};
+ghost use Rattle.std.specs.Prelude.{◌≡◌, eqb};
+ghost use Rattle.table.specs.Context.{application_octet, has_sid_octet, sid_at_lem, context_of};
+
 use crate::ContextNumber;
 use crate::block::BODY_SIZE;
-use crate::field::TextField;
-use crate::field::octet_in;
-use crate::field::text_in;
-use crate::field::u16_in;
+use crate::field::{TextField, octet_in, text_in, u16_in};
 use crate::record::RecordFormat;
-use octets::name_rule::DNS_NAME_MOST;
-use octets::name_rule::NETBIOS_NAME_MOST;
+use octets::name_rule::{DNS_NAME_MOST, NETBIOS_NAME_MOST};
 use octets::number::wide;
 use octets::part::part;
 use octets::size::GUID_SIZE;
@@ -44,51 +40,51 @@ pub const DNS_NAME: TextField = TextField {
 };
 
 pub fn number(octets: &[u8]) -> ContextNumber
-    ensures { λ r. ⌜ r ≡ contextOf (now (octets .entry)) .number ⌝ }
+    ensures { result ≡ (context_of octets.now).number }
 {
     ContextNumber(u16_in(octets, NUMBER))
 }
 
 pub fn application_octet(octets: &[u8]) -> u8
-    ensures { λ r. ⌜ r ≡ applicationOctet (now (octets .entry)) ⌝ }
+    ensures { result ≡ application_octet octets.now }
 {
     octet_in(octets, APPLICATION)
 }
 
 pub fn is_application(octets: &[u8]) -> bool
-    ensures { λ r. ⌜ r ≡ contextOf (now (octets .entry)) .application ⌝ }
+    ensures { result ≡ (context_of octets.now).application }
 {
     application_octet(octets) == 1
 }
 
 pub fn guid(octets: &[u8]) -> &[u8]
-    ensures { λ r. ⌜ now r ≡ contextOf (now (octets .entry)) .guid ⌝ }
+    ensures { result.now ≡ (context_of octets.now).guid }
 {
     part(octets, GUID, GUID_SIZE)
 }
 
 pub fn has_sid_octet(octets: &[u8]) -> u8
-    ensures { λ r. ⌜ r ≡ hasSidOctet (now (octets .entry)) ⌝ }
+    ensures { result ≡ has_sid_octet octets.now }
 {
     octet_in(octets, HAS_SID)
 }
 
 pub fn has_sid(octets: &[u8]) -> bool
-    ensures { λ r. ⌜ r ≡ eqb (hasSidOctet (now (octets .entry))) 1 ⌝ }
+    ensures { result ≡ eqb (has_sid_octet octets.now) 1 }
 {
     has_sid_octet(octets) == 1
 }
 
 // The octets in the SID's room, as many as their own count says; the context's SID where it has one.
 pub fn sid(octets: &[u8]) -> &[u8]
-    ensures { λ r. ⌜ now r ≡ sidAt (now (octets .entry)) ⌝ }
+    ensures { result.now ≡ sid_at_lem octets.now }
 {
     let count = octet_in(octets, SID + 1);
     part(octets, SID, 8 + 4 * (wide(count) as usize))
 }
 
 pub fn dns_name(octets: &[u8]) -> &[u8]
-    ensures { λ r. ⌜ now r ≡ contextOf (now (octets .entry)) .dns ⌝ }
+    ensures { result.now ≡ (context_of octets.now).dns }
 {
     text_in(octets, DNS_NAME)
 }

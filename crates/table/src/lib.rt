@@ -1,4 +1,6 @@
 // The table image: document 01, "The table image". What stands where, and how it is read.
+#![tactic(auto)]
+
 pub mod account;
 pub mod address;
 pub mod bits;
@@ -13,13 +15,17 @@ pub mod site;
 pub mod subnet;
 
 // Naming-context numbers, site numbers and block places are three countings, and none is used for another.
+#[derive(Clone, Copy)]
 pub struct ContextNumber(pub u16);
 
+#[derive(Clone, Copy)]
 pub struct SiteNumber(pub u16);
 
+#[derive(Clone, Copy)]
 pub struct BlockPlace(pub u16);
 
 // Who asks: the client's IPv4 address, in dotted order.
+#[derive(Drop)]
 pub struct Caller {
     pub address: [u8; 4],
 }

@@ -1,13 +1,12 @@
 // The kinds of blocks that hold records.
-ghost use mathlib.Core.Path.{_≡_};
-ghost use Rattle·table·specs.specs.Format.{formatOf};
-ghost use Rattle·table·specs.specs.Internal.RecordAt.{recordAt};
-use crate::account;
-use crate::context;
-use crate::site;
-use crate::subnet;
+ghost use Rattle.std.specs.Prelude.{◌≡◌};
+ghost use Rattle.table.specs.Format.{format_of};
+ghost use Rattle.table.specs.Internal.RecordAt.{record_at};
+
+use crate::{account, context, site, subnet};
 use octets::part::part;
 
+#[derive(Clone, Copy)]
 pub enum RecordKind {
     Context,
     Account,
@@ -16,6 +15,7 @@ pub enum RecordKind {
 }
 
 // The kind of the blocks that hold such records, how many there are in a body, and of how many octets each.
+#[derive(Drop)]
 pub struct RecordFormat {
     pub kind: u8,
     pub count: usize,
@@ -23,7 +23,7 @@ pub struct RecordFormat {
 }
 
 pub fn format_of(kind: RecordKind) -> RecordFormat
-    ensures { λ r. ⌜ r ≡ formatOf kind ⌝ }
+    ensures { result ≡ format_of kind }
 {
     match kind {
         RecordKind::Context => context::FORMAT,
@@ -35,7 +35,7 @@ pub fn format_of(kind: RecordKind) -> RecordFormat
 
 // The record of a kind at an offset of the image.
 pub fn record_at(image: &[u8], kind: RecordKind, offset: u16) -> &[u8]
-    ensures { λ r. ⌜ now r ≡ recordAt (now (image .entry)) kind offset ⌝ }
+    ensures { result.now ≡ record_at image.now kind offset }
 {
     let format = format_of(kind);
     let width = format.width;

@@ -1,20 +1,13 @@
 // The server, by the octets of its block's body.
-ghost use mathlib.Core.Path.{_≡_};
-ghost use Prim.Native.Nat.{_≤_};
-ghost use lib.ListN.{length};
-ghost use Rattle·table·specs.specs.Block.{blockSize};
-ghost use Rattle·table·specs.specs.Server.{serverOf};
-ghost use Rattle·table·specs.specs.Table.{tableFrom};
-use crate::BlockPlace;
-use crate::ContextNumber;
-use crate::SiteNumber;
-use crate::block::block_at;
-use crate::block::body_of;
-use crate::field::TextField;
-use crate::field::u16_in;
-use crate::field::u32_in;
-use octets::name_rule::DNS_NAME_MOST;
-use octets::name_rule::NETBIOS_NAME_MOST;
+ghost use Rattle.std.specs.Prelude.{◌≡◌, ◌≤◌, length};
+ghost use Rattle.table.specs.Block.{block_size};
+ghost use Rattle.table.specs.Server.{server_of};
+ghost use Rattle.table.specs.Table.{table_from};
+
+use crate::block::{block_at, body_of};
+use crate::field::{TextField, u16_in, u32_in};
+use crate::{BlockPlace, ContextNumber, SiteNumber};
+use octets::name_rule::{DNS_NAME_MOST, NETBIOS_NAME_MOST};
 
 pub const KIND: u8 = 1;
 
@@ -46,33 +39,33 @@ pub const OTHER_ROLES: u32 = 0xFFFFF000;
 pub const OTHER_STATE: u32 = 0xFFFFFFF0;
 
 pub fn roles(octets: &[u8]) -> u32
-    ensures { λ r. ⌜ r ≡ serverOf (now (octets .entry)) .roles ⌝ }
+    ensures { result ≡ (server_of octets.now).roles }
 {
     u32_in(octets, ROLES)
 }
 
 pub fn state(octets: &[u8]) -> u32
-    ensures { λ r. ⌜ r ≡ serverOf (now (octets .entry)) .state ⌝ }
+    ensures { result ≡ (server_of octets.now).state }
 {
     u32_in(octets, STATE)
 }
 
 pub fn own_site(octets: &[u8]) -> SiteNumber
-    ensures { λ r. ⌜ r ≡ serverOf (now (octets .entry)) .site ⌝ }
+    ensures { result ≡ (server_of octets.now).site }
 {
     SiteNumber(u16_in(octets, SITE))
 }
 
 pub fn default_context(octets: &[u8]) -> ContextNumber
-    ensures { λ r. ⌜ r ≡ serverOf (now (octets .entry)) .defaultContext ⌝ }
+    ensures { result ≡ (server_of octets.now).default_context_lem }
 {
     ContextNumber(u16_in(octets, DEFAULT_CONTEXT))
 }
 
 // The body of an image's server block.
 pub fn server_of(image: &[u8]) -> &[u8]
-    requires { ⌜ blockSize ≤ length (now image) ⌝ }
-    ensures { λ r. ⌜ serverOf (now r) ≡ tableFrom (now (image .entry)) .server ⌝ }
+    requires { block_size ≤ length image.now }
+    ensures { server_of result.now ≡ (table_from image.now).server }
 {
     body_of(block_at(image, PLACE))
 }

@@ -1,14 +1,13 @@
 // A site, by its record's octets, and sites that other records refer to.
-ghost use mathlib.Core.Path.{_≡_};
-ghost use Prim.Native.Nat.{_≤_};
-ghost use Rattle·octets.specs.Number.{u16At};
-ghost use Rattle·table·specs.specs.Block.{blockSize};
-ghost use Rattle·table·specs.specs.Countings.{siteOrNone};
-ghost use Rattle·table·specs.specs.Site.{siteOf};
-ghost use Rattle·table·specs.specs.Internal.Reference.{referred};
+ghost use Rattle.std.specs.Prelude.{◌≡◌, ◌≤◌};
+ghost use Rattle.octets.specs.Number.{u16_at};
+ghost use Rattle.table.specs.Block.{block_size};
+ghost use Rattle.table.specs.Countings.{site_or_none};
+ghost use Rattle.table.specs.Site.{site_of};
+ghost use Rattle.table.specs.Internal.Reference.{referred};
+
 use crate::SiteNumber;
-use crate::field::TextField;
-use crate::field::u16_in;
+use crate::field::{TextField, u16_in};
 use crate::record::RecordFormat;
 use octets::name_rule::SITE_NAME_MOST;
 
@@ -28,6 +27,7 @@ pub const NAME: TextField = TextField {
 pub const NEXT: usize = 66;
 
 // A site that is referred to, or none.
+#[derive(Clone, Copy)]
 pub enum SiteReference {
     To(SiteNumber),
     Nothing,
@@ -35,8 +35,8 @@ pub enum SiteReference {
 
 // The site number at an offset, where 0 means none.
 pub fn reference_in(octets: &[u8], offset: usize) -> SiteReference
-    requires { ⌜ offset ≤ blockSize ⌝ }
-    ensures { λ r. ⌜ referred r ≡ siteOrNone (u16At (now (octets .entry)) offset) ⌝ }
+    requires { offset ≤ block_size }
+    ensures { referred result ≡ site_or_none (u16_at octets.now offset) }
 {
     let number = u16_in(octets, offset);
     if number == 0 {
@@ -46,14 +46,14 @@ pub fn reference_in(octets: &[u8], offset: usize) -> SiteReference
 }
 
 pub fn number(octets: &[u8]) -> SiteNumber
-    ensures { λ r. ⌜ r ≡ siteOf (now (octets .entry)) .number ⌝ }
+    ensures { result ≡ (site_of octets.now).number }
 {
     SiteNumber(u16_in(octets, NUMBER))
 }
 
 // The next closest site.
 pub fn next(octets: &[u8]) -> SiteReference
-    ensures { λ r. ⌜ referred r ≡ siteOf (now (octets .entry)) .next ⌝ }
+    ensures { referred result ≡ (site_of octets.now).next }
 {
     reference_in(octets, NEXT)
 }

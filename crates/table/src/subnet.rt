@@ -1,12 +1,12 @@
 // A subnet, by its record's octets.
-ghost use mathlib.Core.Path.{_≡_};
-ghost use Rattle·table·specs.specs.Subnet.{inUseOctet, subnetOf};
-ghost use Rattle·table·specs.specs.Internal.Reference.{referred};
+ghost use Rattle.std.specs.Prelude.{◌≡◌};
+ghost use Rattle.table.specs.Subnet.{in_use_octet, subnet_of};
+ghost use Rattle.table.specs.Internal.Reference.{referred};
+
 use crate::block::BLOCKS_MOST;
 use crate::field::octet_in;
 use crate::record::RecordFormat;
-use crate::site::SiteReference;
-use crate::site::reference_in;
+use crate::site::{SiteReference, reference_in};
 use octets::part::part;
 use octets::size::IPV4_SIZE;
 
@@ -28,25 +28,25 @@ const IN_USE: usize = 5;
 pub const SITE: usize = 6;
 
 pub fn address(octets: &[u8]) -> &[u8]
-    ensures { λ r. ⌜ now r ≡ subnetOf (now (octets .entry)) .address ⌝ }
+    ensures { result.now ≡ (subnet_of octets.now).address }
 {
     part(octets, ADDRESS, IPV4_SIZE)
 }
 
 pub fn prefix(octets: &[u8]) -> u8
-    ensures { λ r. ⌜ r ≡ subnetOf (now (octets .entry)) .prefix ⌝ }
+    ensures { result ≡ (subnet_of octets.now).prefix }
 {
     octet_in(octets, PREFIX)
 }
 
 pub fn in_use_octet(octets: &[u8]) -> u8
-    ensures { λ r. ⌜ r ≡ inUseOctet (now (octets .entry)) ⌝ }
+    ensures { result ≡ in_use_octet octets.now }
 {
     octet_in(octets, IN_USE)
 }
 
 pub fn site(octets: &[u8]) -> SiteReference
-    ensures { λ r. ⌜ referred r ≡ subnetOf (now (octets .entry)) .site ⌝ }
+    ensures { referred result ≡ (subnet_of octets.now).site }
 {
     reference_in(octets, SITE)
 }

@@ -1,6 +1,7 @@
 // Addresses and prefixes.
-ghost use mathlib.Core.Path.{_≡_};
-ghost use Rattle·table.specs.Address.{addressNumber, shareSize, networkOf, isPrefixOnly, sharePrefix};
+ghost use Rattle.std.specs.Prelude.{◌≡◌};
+ghost use Rattle.table.specs.Address.{address_number, share_size, network_of, is_prefix_only, share_prefix};
+
 use octets::number::wide;
 use octets::size::IPV4_SIZE;
 use table::Caller;
@@ -9,7 +10,7 @@ use table::field::octet_in;
 
 // Octets that are not there count as 0.
 fn short_number(address: &[u8]) -> u32
-    ensures { λ r. ⌜ r ≡ addressNumber (now (address .entry)) ⌝ }
+    ensures { result ≡ address_number address.now }
 {
     0x1000000 * wide(octet_in(address, 0))
         + 0x10000 * wide(octet_in(address, 1))
@@ -19,7 +20,7 @@ fn short_number(address: &[u8]) -> u32
 
 // An address as the number that prefixes are taken of. Its length is tested once, since many are compared.
 pub fn address_number(address: &[u8]) -> u32
-    ensures { λ r. ⌜ r ≡ addressNumber (now (address .entry)) ⌝ }
+    ensures { result ≡ address_number address.now }
 {
     if address.len() < IPV4_SIZE {
         return short_number(address);
@@ -32,14 +33,14 @@ pub fn address_number(address: &[u8]) -> u32
 
 // The same of a caller's address.
 pub fn caller_number(caller: Caller) -> u32
-    ensures { λ r. ⌜ r ≡ addressNumber (caller .address) ⌝ }
+    ensures { result ≡ address_number caller.address }
 {
     address_number(&caller.address)
 }
 
 // How many addresses share a prefix.
 fn share_size(prefix: u8) -> u64
-    ensures { λ r. ⌜ r ≡ shareSize prefix ⌝ }
+    ensures { result ≡ share_size prefix }
 {
     if ADDRESS_BITS <= prefix {
         return 1;
@@ -49,7 +50,7 @@ fn share_size(prefix: u8) -> u64
 
 // An address with the bits past a prefix zero.
 fn network_of(prefix: u8, address: u32) -> u64
-    ensures { λ r. ⌜ r ≡ networkOf prefix address ⌝ }
+    ensures { result ≡ network_of prefix address }
 {
     let share = share_size(prefix);
     (address as u64) / share * share
@@ -57,14 +58,14 @@ fn network_of(prefix: u8, address: u32) -> u64
 
 // Whether the address bits past a prefix are zero.
 pub fn is_prefix_only(prefix: u8, address: u32) -> bool
-    ensures { λ r. ⌜ r ≡ isPrefixOnly prefix address ⌝ }
+    ensures { result ≡ is_prefix_only prefix address }
 {
     network_of(prefix, address) == (address as u64)
 }
 
 // Whether two addresses agree in the bits of a prefix.
 pub fn share_prefix(prefix: u8, a: u32, b: u32) -> bool
-    ensures { λ r. ⌜ r ≡ sharePrefix prefix a b ⌝ }
+    ensures { result ≡ share_prefix prefix a b }
 {
     network_of(prefix, a) == network_of(prefix, b)
 }

@@ -1,35 +1,23 @@
 // The layout of each block of an image, by its kind and its place.
-ghost use mathlib.Core.Path.{_≡_};
-ghost use Prim.Native.Nat.{_≤_};
-ghost use lib.ListN.{length};
-ghost use Rattle·octets.specs.Lists.{all, any};
-ghost use Rattle·table.specs.Block.{imageMost, blocksOf};
-ghost use Rattle·table.specs.Format.{formatOf, recordKinds, recordsIn};
-ghost use Rattle·table.specs.Server.{serverPlace};
-ghost use Rattle·table_layout.specs.Layout.{recordLayout, recordsLayout, bodyLayout, blockLayout, layoutsFrom};
+ghost use Rattle.std.specs.Prelude.{◌≡◌, ◌≤◌, length};
+ghost use Rattle.octets.specs.Lists.{all, any};
+ghost use Rattle.table.specs.Block.{image_most, blocks_of};
+ghost use Rattle.table.specs.Format.{format_of, record_kinds, records_in};
+ghost use Rattle.table.specs.Server.{server_place};
+ghost use Rattle.table_layout.specs.Layout.{record_layout, records_layout, body_layout, block_layout, layouts_from};
+
 use octets::part::part;
 use octets::text::all_zero;
-use table::BlockPlace;
-use table::block::BLOCK_SIZE;
-use table::block::block_at;
-use table::block::body_of;
-use table::block::kind_of;
-use table::block::place_of;
-use table::block::version_of;
-use table::forest;
-use table::record::RecordKind;
-use table::record::format_of;
-use table::server;
-use table_layout::layout::account_layout;
-use table_layout::layout::context_layout;
-use table_layout::layout::forest_layout;
-use table_layout::layout::server_layout;
-use table_layout::layout::site_layout;
-use table_layout::layout::subnet_layout;
+use table::block::{BLOCK_SIZE, block_at, body_of, kind_of, place_of, version_of};
+use table::record::{RecordKind, format_of};
+use table::{BlockPlace, forest, server};
+use table_layout::layout::{
+    account_layout, context_layout, forest_layout, server_layout, site_layout, subnet_layout,
+};
 
 // An unused record is all zeros, and no layout is looked for in it; a context's block holds a context.
 fn record_layout(r: &[u8], kind: RecordKind) -> bool
-    ensures { λ q. ⌜ q ≡ recordLayout kind (now (r .entry)) ⌝ }
+    ensures { result ≡ record_layout kind r.now }
 {
     match kind {
         RecordKind::Context => context_layout(r),
@@ -40,7 +28,7 @@ fn record_layout(r: &[u8], kind: RecordKind) -> bool
 }
 
 fn all_records(b: &[u8], kind: RecordKind) -> bool
-    ensures { λ r. ⌜ r ≡ all (recordLayout kind) (recordsIn (formatOf kind) (now (b .entry))) ⌝ }
+    ensures { result ≡ all (record_layout kind) (records_in (format_of kind) b.now) }
 {
     let format = format_of(kind);
     let width = format.width;
@@ -57,7 +45,7 @@ fn all_records(b: &[u8], kind: RecordKind) -> bool
 
 // Whether a block of this kind octet holds records of this kind, each by its layout.
 fn records_layout(octet: u8, b: &[u8], kind: RecordKind) -> bool
-    ensures { λ r. ⌜ r ≡ recordsLayout octet (now (b .entry)) kind ⌝ }
+    ensures { result ≡ records_layout octet b.now kind }
 {
     let format = format_of(kind);
     if octet != format.kind {
@@ -67,7 +55,7 @@ fn records_layout(octet: u8, b: &[u8], kind: RecordKind) -> bool
 }
 
 fn any_records_layout(octet: u8, b: &[u8]) -> bool
-    ensures { λ r. ⌜ r ≡ any (recordsLayout octet (now (b .entry))) recordKinds ⌝ }
+    ensures { result ≡ any (records_layout octet b.now) record_kinds }
 {
     records_layout(octet, b, RecordKind::Context)
         | (records_layout(octet, b, RecordKind::Account)
@@ -77,7 +65,7 @@ fn any_records_layout(octet: u8, b: &[u8]) -> bool
 
 // A body by its kind octet: kind 1 at block 0, kind 2 at block 1, and neither elsewhere.
 fn body_layout(place: BlockPlace, octet: u8, b: &[u8]) -> bool
-    ensures { λ r. ⌜ r ≡ bodyLayout place octet (now (b .entry)) ⌝ }
+    ensures { result ≡ body_layout place octet b.now }
 {
     if place.0 == server::PLACE.0 {
         return (octet == server::KIND) & server_layout(b);
@@ -89,7 +77,7 @@ fn body_layout(place: BlockPlace, octet: u8, b: &[u8]) -> bool
 }
 
 pub fn block_layout(place: BlockPlace, block: &[u8]) -> bool
-    ensures { λ r. ⌜ r ≡ blockLayout place (now (block .entry)) ⌝ }
+    ensures { result ≡ block_layout place block.now }
 {
     let own = place_of(block);
     (version_of(block) == 1)
@@ -99,8 +87,8 @@ pub fn block_layout(place: BlockPlace, block: &[u8]) -> bool
 
 // Whether each block of an image has the layout of its kind and names its own place.
 pub fn good_layouts(image: &[u8]) -> bool
-    requires { ⌜ length (now image) ≤ imageMost ⌝ }
-    ensures { λ r. ⌜ r ≡ layoutsFrom serverPlace (blocksOf (now (image .entry))) ⌝ }
+    requires { length image.now ≤ image_most }
+    ensures { result ≡ layouts_from server_place (blocks_of image.now) }
 {
     let n = image.len() / BLOCK_SIZE;
     let mut i = 0;

@@ -1,28 +1,27 @@
 // The check of each block.
-ghost use mathlib.Core.Path.{_≡_};
-ghost use Prim.Native.Nat.{_*_, _≤_, _<_};
-ghost use lib.ListN.{length};
-ghost use Rattle·octets.specs.Lists.{all};
-ghost use Rattle·table.specs.Block.{imageMost, blocksOf};
-ghost use Rattle·table_check·specs.specs.Check.{goodCheck, CheckOfPromise};
-ghost use Rattle·table_check·specs.specs.Step.{sum, counted, step};
+ghost use Rattle.std.specs.Prelude.{◌≡◌, ◌*◌, ◌≤◌, ◌<◌, length};
+ghost use Rattle.octets.specs.Lists.{all};
+ghost use Rattle.table.specs.Block.{image_most, blocks_of};
+ghost use Rattle.table_check.specs.Check.{good_check, CheckOfPromise};
+ghost use Rattle.table_check.specs.Step.{sum, counted, step};
+
 use octets::part::part;
 use table::BlockPlace;
-use table::block::BLOCK_SIZE;
-use table::block::CHECK;
-use table::block::block_at;
+use table::block::{BLOCK_SIZE, CHECK, block_at};
 use table::field::u16_in;
 
 // How many octets a step takes.
 const STEP: usize = 16;
 
 // The two sums of a check.
+#[derive(Drop)]
 pub struct Check {
     pub a: u32,
     pub b: u32,
 }
 
 // What a step takes of its octets: their sum, and each as often as it is counted.
+#[derive(Drop)]
 struct Sums {
     sum: u16,
     counted: u16,
@@ -30,16 +29,16 @@ struct Sums {
 
 // An octet as often as it is counted.
 fn weighed(x: u8, times: u16) -> u16
-    requires { ⌜ times ≤ 16 ⌝ }
-    ensures { λ r. ⌜ (r ≡ times * x) × (r ≤ 4080) ⌝ }
+    requires { times ≤ 16 }
+    ensures { (result ≡ times * x) × (result ≤ 4080) }
 {
     times * (x as u16)
 }
 
 // No sum of a step's octets leaves 16 bits: so the compiler adds several at a time.
 fn sums_of(octets: &[u8]) -> Sums
-    requires { ⌜ length (now octets) ≤ 16 ⌝ }
-    ensures { λ r. ⌜ (r .sum ≡ sum (now (octets .entry))) × (r .counted ≡ counted (now (octets .entry))) ⌝ }
+    requires { length octets.now ≤ 16 }
+    ensures { (result.sum ≡ sum octets.now) × (result.counted ≡ counted octets.now) }
 {
     let mut sum: u16 = 0;
     let mut counted: u16 = 0;
@@ -56,8 +55,8 @@ fn sums_of(octets: &[u8]) -> Sums
 
 // A step over some octets, with one remainder for each sum.
 fn step(check: Check, octets: &[u8]) -> Check
-    requires { ⌜ (check .a < 65536) × (check .b < 65536) × (length (now octets) ≤ 16) ⌝ }
-    ensures { λ r. ⌜ r ≡ step check (now (octets .entry)) ⌝ }
+    requires { (check.a < 65536) × (check.b < 65536) × (length octets.now ≤ 16) }
+    ensures { result ≡ step check octets.now }
 {
     let n = octets.len() as u32;
     let sums = sums_of(octets);
@@ -68,7 +67,7 @@ fn step(check: Check, octets: &[u8]) -> Check
 }
 
 pub fn check_of(octets: &[u8]) -> Check
-    ensures { λ r. ⌜ CheckOfPromise (now (octets .entry)) r ⌝ }
+    ensures { CheckOfPromise octets.now result }
 {
     let mut check = Check { a: 1, b: 0 };
     let mut i = 0;
@@ -80,7 +79,7 @@ pub fn check_of(octets: &[u8]) -> Check
 }
 
 pub fn good_check(block: &[u8]) -> bool
-    ensures { λ r. ⌜ r ≡ goodCheck (now (block .entry)) ⌝ }
+    ensures { result ≡ good_check block.now }
 {
     let check = check_of(part(block, 0, CHECK));
     ((u16_in(block, CHECK) as u32) == check.a) & ((u16_in(block, CHECK + 2) as u32) == check.b)
@@ -88,8 +87,8 @@ pub fn good_check(block: &[u8]) -> bool
 
 // Whether each block of an image stores its own check.
 pub fn good_checks(image: &[u8]) -> bool
-    requires { ⌜ length (now image) ≤ imageMost ⌝ }
-    ensures { λ r. ⌜ r ≡ all goodCheck (blocksOf (now (image .entry))) ⌝ }
+    requires { length image.now ≤ image_most }
+    ensures { result ≡ all good_check (blocks_of image.now) }
 {
     let n = image.len() / BLOCK_SIZE;
     let mut i = 0;

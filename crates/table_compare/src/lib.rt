@@ -1,2 +1,4 @@
 // The order of records: document 01, "As a whole".
+#![tactic(auto)]
+
 pub mod compare;

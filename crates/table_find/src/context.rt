@@ -1,18 +1,18 @@
 // What is asked of a naming context, by its record's octets.
-ghost use mathlib.Core.Path.{_≡_};
-ghost use Rattle·table.specs.Context.{contextOf};
-ghost use Rattle·table.specs.Countings.{sameContext};
-ghost use Rattle·table_find·specs.specs.Find.{nameCompared, isNamedBy, holdsSid};
+ghost use Rattle.std.specs.Prelude.{◌≡◌};
+ghost use Rattle.table.specs.Context.{context_of};
+ghost use Rattle.table.specs.Countings.{same_context};
+ghost use Rattle.table_find.specs.Find.{name_compared, is_named_by, holds_sid};
+
 use octets::name_rule::DOT;
 use octets::part::part;
 use octets::text::same_octets;
-use table::ContextNumber;
-use table::context;
 use table::same_name::same_dns_name;
+use table::{ContextNumber, context};
 
 // Whether the context has this SID; one without SID has none.
 pub fn holds_sid(octets: &[u8], sid: &[u8]) -> bool
-    ensures { λ r. ⌜ r ≡ holdsSid (now (sid .entry)) (contextOf (now (octets .entry))) ⌝ }
+    ensures { result ≡ holds_sid sid.now (context_of octets.now) }
 {
     if !context::has_sid(octets) {
         return false;
@@ -22,7 +22,7 @@ pub fn holds_sid(octets: &[u8], sid: &[u8]) -> bool
 
 // A DnsDomain value as it is compared: some consoles close a name with a dot.
 fn name_compared(asked: &[u8]) -> &[u8]
-    ensures { λ r. ⌜ now r ≡ nameCompared (now (asked .entry)) ⌝ }
+    ensures { result.now ≡ name_compared asked.now }
 {
     let count = asked.len();
     if count < 2 {
@@ -39,13 +39,13 @@ fn name_compared(asked: &[u8]) -> &[u8]
 
 // Whether a DnsDomain value names the context.
 pub fn is_named_by(octets: &[u8], asked: &[u8]) -> bool
-    ensures { λ r. ⌜ r ≡ isNamedBy (now (asked .entry)) (contextOf (now (octets .entry))) ⌝ }
+    ensures { result ≡ is_named_by asked.now (context_of octets.now) }
 {
     same_dns_name(context::dns_name(octets), name_compared(asked))
 }
 
 pub fn is_numbered(octets: &[u8], asked: ContextNumber) -> bool
-    ensures { λ r. ⌜ r ≡ sameContext (contextOf (now (octets .entry)) .number) asked ⌝ }
+    ensures { result ≡ same_context (context_of octets.now).number asked }
 {
     let number = context::number(octets);
     number.0 == asked.0

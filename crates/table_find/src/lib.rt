@@ -1,4 +1,6 @@
 // How a record of a table image is found: document 01, "Choosing the answer".
+#![tactic(auto)]
+
 pub mod account;
 pub mod context;
 pub mod search;

@@ -1,30 +1,26 @@
 // What records are looked up by: each key as a test of a record's octets.
-ghost use mathlib.Core.Path.{_≡_};
-ghost use Rattle·table.specs.Context.{contextOf};
-ghost use Rattle·table.specs.Format.{formatOf};
-ghost use Rattle·table.specs.Site.{siteOf};
-ghost use Rattle·table_find·specs.specs.Internal.Key.{kindFor, isContext, isSite, isAskedFor, isFoundBy};
+ghost use Rattle.std.specs.Prelude.{◌≡◌};
+ghost use Rattle.table.specs.Context.{context_of};
+ghost use Rattle.table.specs.Format.{format_of};
+ghost use Rattle.table.specs.Site.{site_of};
+ghost use Rattle.table_find.specs.Internal.Key.{kind_for, is_context, is_site, is_asked_for, is_found_by};
+
 use crate::account::is_account;
-use crate::context::holds_sid;
-use crate::context::is_named_by;
-use crate::context::is_numbered;
+use crate::context::{holds_sid, is_named_by, is_numbered};
 use crate::site::is_site_numbered;
-use octets::text::all_zero;
-use octets::text::same_octets;
-use table::ContextNumber;
-use table::SiteNumber;
-use table::context;
-use table::record::RecordFormat;
-use table::record::RecordKind;
-use table::record::format_of;
+use octets::text::{all_zero, same_octets};
+use table::record::{RecordFormat, RecordKind, format_of};
+use table::{ContextNumber, SiteNumber, context};
 
 // The offset of a record in the image, or nothing.
+#[derive(Clone, Copy)]
 pub enum Found {
     At(usize),
     Nothing,
 }
 
 // What a context is looked up by. A GUID, a name or a SID stands in the octets asked for.
+#[derive(Clone, Copy)]
 pub enum ContextKey {
     Number(ContextNumber),
     Guid,
@@ -32,6 +28,7 @@ pub enum ContextKey {
     Sid,
 }
 
+#[derive(Clone, Copy)]
 pub enum SiteKey {
     Any,
     Number(SiteNumber),
@@ -39,6 +36,7 @@ pub enum SiteKey {
 }
 
 // What a record is looked up by. An account's name stands in the octets asked for.
+#[derive(Clone, Copy)]
 pub enum Key {
     Context(ContextKey),
     Account(ContextNumber),
@@ -46,7 +44,7 @@ pub enum Key {
 }
 
 fn kind_for(key: Key) -> RecordKind
-    ensures { λ r. ⌜ r ≡ kindFor key ⌝ }
+    ensures { result ≡ kind_for key }
 {
     match key {
         Key::Context(_) => RecordKind::Context,
@@ -56,13 +54,13 @@ fn kind_for(key: Key) -> RecordKind
 }
 
 pub fn format_for(key: Key) -> RecordFormat
-    ensures { λ r. ⌜ r ≡ formatOf (kindFor key) ⌝ }
+    ensures { result ≡ format_of (kind_for key) }
 {
     format_of(kind_for(key))
 }
 
 fn is_context(octets: &[u8], key: ContextKey, asked: &[u8]) -> bool
-    ensures { λ r. ⌜ r ≡ isContext key (now (asked .entry)) (contextOf (now (octets .entry))) ⌝ }
+    ensures { result ≡ is_context key asked.now (context_of octets.now) }
 {
     match key {
         ContextKey::Number(n) => is_numbered(octets, n),
@@ -73,7 +71,7 @@ fn is_context(octets: &[u8], key: ContextKey, asked: &[u8]) -> bool
 }
 
 fn is_site(octets: &[u8], key: SiteKey) -> bool
-    ensures { λ r. ⌜ r ≡ isSite key (siteOf (now (octets .entry))) ⌝ }
+    ensures { result ≡ is_site key (site_of octets.now) }
 {
     match key {
         SiteKey::Any => true,
@@ -83,7 +81,7 @@ fn is_site(octets: &[u8], key: SiteKey) -> bool
 }
 
 fn is_asked_for(octets: &[u8], key: Key, asked: &[u8]) -> bool
-    ensures { λ r. ⌜ r ≡ isAskedFor key (now (asked .entry)) (now (octets .entry)) ⌝ }
+    ensures { result ≡ is_asked_for key asked.now octets.now }
 {
     match key {
         Key::Context(k) => is_context(octets, k, asked),
@@ -94,7 +92,7 @@ fn is_asked_for(octets: &[u8], key: Key, asked: &[u8]) -> bool
 
 // An unused record is found by no key. That it is all zeros is the longer test, so it comes last.
 pub fn is_found_by(octets: &[u8], key: Key, asked: &[u8]) -> bool
-    ensures { λ r. ⌜ r ≡ isFoundBy key (now (asked .entry)) (now (octets .entry)) ⌝ }
+    ensures { result ≡ is_found_by key asked.now octets.now }
 {
     if !is_asked_for(octets, key, asked) {
         return false;

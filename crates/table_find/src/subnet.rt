@@ -1,17 +1,16 @@
 // What is asked of a subnet, by its record's octets.
-ghost use mathlib.Core.Path.{_≡_};
-ghost use mathlib.Core.Bool.{_&&_};
-ghost use Rattle·table.specs.Subnet.{subnetOf};
-ghost use Rattle·table.specs.Table.{isUsed};
-ghost use Rattle·table_find·specs.specs.Find.{inSubnet};
+ghost use Rattle.std.specs.Prelude.{◌≡◌, ◌&&◌};
+ghost use Rattle.table.specs.Subnet.{subnet_of};
+ghost use Rattle.table.specs.Table.{is_used};
+ghost use Rattle.table_find.specs.Find.{in_subnet};
+
 use octets::text::all_zero;
 use table::subnet;
-use table_address::address::address_number;
-use table_address::address::share_prefix;
+use table_address::address::{address_number, share_prefix};
 
 // Whether the subnet holds an address, given as a number.
 fn holds_address(octets: &[u8], address: u32) -> bool
-    ensures { λ r. ⌜ r ≡ inSubnet address (subnetOf (now (octets .entry))) ⌝ }
+    ensures { result ≡ in_subnet address (subnet_of octets.now) }
 {
     let own = address_number(subnet::address(octets));
     share_prefix(subnet::prefix(octets), address, own)
@@ -19,7 +18,7 @@ fn holds_address(octets: &[u8], address: u32) -> bool
 
 // Whether a record in use holds an address. That it is all zeros is the longer test, so it comes last.
 pub fn is_holder(octets: &[u8], address: u32) -> bool
-    ensures { λ r. ⌜ r ≡ (isUsed (now (octets .entry)) && inSubnet address (subnetOf (now (octets .entry)))) ⌝ }
+    ensures { result ≡ (is_used octets.now && in_subnet address (subnet_of octets.now)) }
 {
     if !holds_address(octets, address) {
         return false;

@@ -1,126 +1,122 @@
 -- Document 01, "The table image": the layout of each kind of block, octet for octet. Every octet not named is zero.
-use mathlib.Core.Bool.{Bool, true, false, cond, not, _&&_, _||_}
-use mathlib.Core.List.{List, [], _∷_}
-use mathlib.Core.Option.{Option, none, some}
-use Prim.Native.Nat.{ℕ, _+_}
-use lib.Dec.{eqb, leb, ltb}
-use lib.ListN.{length}
-use Rattle·octets.specs.{Lists.all, Lists.any, Sid.isSid, Text.allZero}
-use Rattle·octets.specs.NameRule.{isDnsName, isNetbiosName, isSiteName}
-use Rattle·unicode.specs.UserName.{isAccountName}
-use Rattle·table.specs.{declared.BlockPlace.BlockPlace, declared.record.RecordKind.RecordKind, Countings.samePlace, Countings.nextPlace, Bits.rolesBound}
-use Rattle·table.specs.Bits.{stateBound}
-use Rattle·table.specs.declared.record.RecordKind.the-variants.{Context, Account, Site, Subnet}
-use Rattle·table.specs.Account.{accountFormat, controlOffset, accountName, accountOf}
-use Rattle·table.specs.Address.{addressBits, addressNumber, isPrefixOnly}
-use Rattle·table.specs.Block.{kindIn, versionIn, placeIn, bodySize, body}
-use Rattle·table.specs.Context.{contextFormat, applicationOctet, hasSidOctet, sidOffset, sidRoom, contextNetbios, contextDnsName, contextOf}
-use Rattle·table.specs.Forest.{forestKind, forestPlace, forestName}
-use Rattle·table.specs.Format.{formatOf, recordKinds, recordsIn}
-use Rattle·table.specs.Server.{serverKind, serverPlace, serverNetbios, serverHost, serverOf}
-use Rattle·table.specs.Site.{siteFormat, siteName, nextOffset, siteOf}
-use Rattle·table.specs.Subnet.{subnetFormat, inUseOctet, subnetSiteOffset, subnetOf}
-use Rattle·table_layout·specs.specs.Field.{zeros, textField, lastText}
+use Rattle.std.specs.Prelude.{Bool, true, false, cond, not, ◌&&◌, ◌||◌, List, [], ◌∷◌, ℕ, ◌+◌, eqb, leb, ltb, length}
+use Rattle.std.proofs.Math.Option.{Option, none, some}
+use Rattle.octets.specs.{Lists.all, Lists.any, Sid.is_sid, Text.all_zero}
+use Rattle.octets.specs.NameRule.{is_dns_name, is_netbios_name, is_site_name}
+use Rattle.unicode_text.specs.UserName.{is_account_name}
+use Rattle.table.specs.{declared.BlockPlace.BlockPlace, declared.record.RecordKind.RecordKind, Countings.same_place, Countings.next_place, Bits.roles_bound}
+use Rattle.table.specs.Bits.{state_bound}
+use Rattle.table.specs.declared.record.RecordKind.TheVariants.{Context, Account, Site, Subnet}
+use Rattle.table.specs.Account.{account_format, control_offset, account_name, account_of}
+use Rattle.table.specs.Address.{address_bits, address_number, is_prefix_only}
+use Rattle.table.specs.Block.{kind_in, version_in, place_in, body_size, body}
+use Rattle.table.specs.Context.{context_format, application_octet, has_sid_octet, sid_offset, sid_room, context_netbios_lem, context_dns_name, context_of}
+use Rattle.table.specs.Forest.{forest_kind, forest_place, forest_name}
+use Rattle.table.specs.Format.{format_of, record_kinds, records_in}
+use Rattle.table.specs.Server.{server_kind, server_place, server_netbios_lem, server_host, server_of}
+use Rattle.table.specs.Site.{site_format, site_name, next_offset, site_of}
+use Rattle.table.specs.Subnet.{subnet_format, in_use_octet, subnet_site_offset, subnet_of}
+use Rattle.table_layout.specs.Field.{zeros, text_field, last_text}
 
 -- a number that must be there is not 0
 abbrev pub nonzero : ℕ → Bool
 nonzero n = not (eqb n 0)
 
 -- kind 1: twelve roles and four states, other bits zero
-unfoldable pub serverLayout : List ℕ → Bool
-serverLayout b =
-    let s = serverOf b in
-    ltb (s .roles) rolesBound
-    && ltb (s .state) stateBound
-    && nonzero (s .site .0)
-    && nonzero (s .defaultContext .0)
-    && textField isNetbiosName b serverNetbios
-    && lastText isDnsName b serverHost bodySize
+unfoldable pub server_layout : List ℕ → Bool
+server_layout b =
+    let s = server_of b in
+    ltb s.roles roles_bound
+    && ltb s.state state_bound
+    && nonzero s.site.0
+    && nonzero s.default_context_lem.0
+    && text_field is_netbios_name b server_netbios_lem
+    && last_text is_dns_name b server_host body_size
 
 -- kind 2
-unfoldable pub forestLayout : List ℕ → Bool
-forestLayout b = lastText isDnsName b forestName bodySize
+unfoldable pub forest_layout : List ℕ → Bool
+forest_layout b = last_text is_dns_name b forest_name body_size
 
 -- each flag is 0 or 1, and an application context has no SID
-unfoldable pub flagsLayout : List ℕ → Bool
-flagsLayout b =
-    ltb (applicationOctet b) 2
-    && ltb (hasSidOctet b) 2
-    && not (eqb (applicationOctet b) 1 && eqb (hasSidOctet b) 1)
+unfoldable pub flags_layout : List ℕ → Bool
+flags_layout b =
+    ltb (application_octet b) 2
+    && ltb (has_sid_octet b) 2
+    && not (eqb (application_octet b) 1 && eqb (has_sid_octet b) 1)
 
 -- a SID where the context has one; the room that it doesn't use is zero
-abbrev pub sidLayout : Option (List ℕ) → List ℕ → Bool
-sidLayout (some s) b = isSid s && zeros b (sidOffset + length s) (sidOffset + sidRoom)
-sidLayout none b = zeros b sidOffset (sidOffset + sidRoom)
+abbrev pub sid_layout : Option (List ℕ) → List ℕ → Bool
+sid_layout (some s) b = is_sid s && zeros b (sid_offset + length s) (sid_offset + sid_room)
+sid_layout none b = zeros b sid_offset (sid_offset + sid_room)
 
-abbrev pub isEmpty : List ℕ → Bool
-isEmpty s = eqb (length s) 0
+abbrev pub is_empty : List ℕ → Bool
+is_empty s = eqb (length s) 0
 
 -- an application context's NetBIOS name may be empty
-abbrev pub isContextNetbios : Bool → List ℕ → Bool
-isContextNetbios true s = isEmpty s || isNetbiosName s
-isContextNetbios false s = isNetbiosName s
+abbrev pub is_context_netbios : Bool → List ℕ → Bool
+is_context_netbios true s = is_empty s || is_netbios_name s
+is_context_netbios false s = is_netbios_name s
 
 -- kind 3
-unfoldable pub contextLayout : List ℕ → Bool
-contextLayout b =
-    let c = contextOf b in
-    nonzero (c .number .0)
-    && flagsLayout b
-    && not (allZero (c .guid))
-    && sidLayout (c .sid) b
-    && textField (isContextNetbios (c .application)) b contextNetbios
-    && lastText isDnsName b contextDnsName (contextFormat .width)
+unfoldable pub context_layout : List ℕ → Bool
+context_layout b =
+    let c = context_of b in
+    nonzero c.number.0
+    && flags_layout b
+    && not (all_zero c.guid)
+    && sid_layout c.sid b
+    && text_field (is_context_netbios c.application) b context_netbios_lem
+    && last_text is_dns_name b context_dns_name context_format.width
 
 -- kind 4
-unfoldable pub accountLayout : List ℕ → Bool
-accountLayout r =
-    nonzero (accountOf r .context .0)
-    && zeros r 2 controlOffset
-    && lastText isAccountName r accountName (accountFormat .width)
+unfoldable pub account_layout : List ℕ → Bool
+account_layout r =
+    nonzero (account_of r).context.0
+    && zeros r 2 control_offset
+    && last_text is_account_name r account_name account_format.width
 
 -- kind 5
-unfoldable pub siteLayout : List ℕ → Bool
-siteLayout r =
-    nonzero (siteOf r .number .0)
-    && textField isSiteName r siteName
-    && zeros r (nextOffset + 2) (siteFormat .width)
+unfoldable pub site_layout : List ℕ → Bool
+site_layout r =
+    nonzero (site_of r).number.0
+    && text_field is_site_name r site_name
+    && zeros r (next_offset + 2) site_format.width
 
 -- kind 6
-unfoldable pub subnetLayout : List ℕ → Bool
-subnetLayout r =
-    let n = subnetOf r in
-    leb (n .prefix) addressBits
-    && isPrefixOnly (n .prefix) (addressNumber (n .address))
-    && eqb (inUseOctet r) 1
-    && zeros r (subnetSiteOffset + 2) (subnetFormat .width)
+unfoldable pub subnet_layout : List ℕ → Bool
+subnet_layout r =
+    let n = subnet_of r in
+    leb n.prefix address_bits
+    && is_prefix_only n.prefix (address_number n.address)
+    && eqb (in_use_octet r) 1
+    && zeros r (subnet_site_offset + 2) subnet_format.width
 
-abbrev pub unusedOr : (List ℕ → Bool) → List ℕ → Bool
-unusedOr rule r = allZero r || rule r
+abbrev pub unused_or : (List ℕ → Bool) → List ℕ → Bool
+unused_or rule r = all_zero r || rule r
 
 -- an unused record is all zeros; a context's block holds a context
-abbrev pub recordLayout : RecordKind → List ℕ → Bool
-recordLayout Context r = contextLayout r
-recordLayout Account r = unusedOr accountLayout r
-recordLayout Site r = unusedOr siteLayout r
-recordLayout Subnet r = unusedOr subnetLayout r
+abbrev pub record_layout : RecordKind → List ℕ → Bool
+record_layout Context r = context_layout r
+record_layout Account r = unused_or account_layout r
+record_layout Site r = unused_or site_layout r
+record_layout Subnet r = unused_or subnet_layout r
 
 -- a block of this kind octet holds records of this kind, each by its layout
-unfoldable pub recordsLayout : ℕ → List ℕ → RecordKind → Bool
-recordsLayout octet b kind = eqb octet (formatOf kind .kind) && all (recordLayout kind) (recordsIn (formatOf kind) b)
+unfoldable pub records_layout : ℕ → List ℕ → RecordKind → Bool
+records_layout octet b kind = eqb octet (format_of kind).kind && all (record_layout kind) (records_in (format_of kind) b)
 
 -- the body by its kind octet: kind 1 at block 0, kind 2 at block 1, and neither elsewhere
-unfoldable pub bodyLayout : BlockPlace → ℕ → List ℕ → Bool
-bodyLayout place octet b =
-    cond (samePlace place serverPlace) (eqb octet serverKind && serverLayout b)
-    (cond (samePlace place forestPlace) (eqb octet forestKind && forestLayout b)
-    (any (recordsLayout octet b) recordKinds))
+unfoldable pub body_layout : BlockPlace → ℕ → List ℕ → Bool
+body_layout place octet b =
+    cond (same_place place server_place) (eqb octet server_kind && server_layout b)
+    (cond (same_place place forest_place) (eqb octet forest_kind && forest_layout b)
+    (any (records_layout octet b) record_kinds))
 
 -- a block at a place: version 1, its own place, and the body
-unfoldable pub blockLayout : BlockPlace → List ℕ → Bool
-blockLayout place block = eqb (versionIn block) 1 && samePlace (placeIn block) place && bodyLayout place (kindIn block) (body block)
+unfoldable pub block_layout : BlockPlace → List ℕ → Bool
+block_layout place block = eqb (version_in block) 1 && same_place (place_in block) place && body_layout place (kind_in block) (body block)
 
 -- blocks from a place on
-unfoldable pub layoutsFrom : BlockPlace → List (List ℕ) → Bool
-layoutsFrom place [] = true
-layoutsFrom place (block ∷ blocks) = blockLayout place block && layoutsFrom (nextPlace place) blocks
+unfoldable pub layouts_from : BlockPlace → List (List ℕ) → Bool
+layouts_from place [] = true
+layouts_from place (block ∷ blocks) = block_layout place block && layouts_from (next_place place) blocks

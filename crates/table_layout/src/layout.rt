@@ -1,28 +1,20 @@
 // The layouts of bodies and records, octet for octet. The tests of a layout are few, so each is made and none waits for another.
-ghost use mathlib.Core.Path.{_≡_};
-ghost use Rattle·table.specs.Context.{contextOf};
-ghost use Rattle·table_layout·specs.specs.Layout.{serverLayout, forestLayout, flagsLayout, sidLayout, contextLayout, accountLayout, siteLayout, subnetLayout};
-ghost use Rattle·table_layout·specs.specs.Internal.Rule.{netbiosRule};
-use crate::field::Rule;
-use crate::field::is_last_text;
-use crate::field::is_text_field;
-use crate::field::is_zero_room;
+ghost use Rattle.std.specs.Prelude.{◌≡◌};
+ghost use Rattle.table.specs.Context.{context_of};
+ghost use Rattle.table_layout.specs.Layout.{server_layout, forest_layout, flags_layout, sid_layout, context_layout, account_layout, site_layout, subnet_layout};
+ghost use Rattle.table_layout.specs.Internal.Rule.{netbios_rule};
+
+use crate::field::{Rule, is_last_text, is_text_field, is_zero_room};
 use name_rules::name_rule::is_sid;
 use octets::text::all_zero;
-use table::account;
 use table::address::ADDRESS_BITS;
 use table::block::BODY_SIZE;
-use table::context;
-use table::forest;
-use table::server;
-use table::site;
-use table::subnet;
-use table_address::address::address_number;
-use table_address::address::is_prefix_only;
+use table::{account, context, forest, server, site, subnet};
+use table_address::address::{address_number, is_prefix_only};
 
 // Twelve roles and four states, and no other bit of theirs.
 pub fn server_layout(b: &[u8]) -> bool
-    ensures { λ r. ⌜ r ≡ serverLayout (now (b .entry)) ⌝ }
+    ensures { result ≡ server_layout b.now }
 {
     let own_site = server::own_site(b);
     let default_context = server::default_context(b);
@@ -35,14 +27,14 @@ pub fn server_layout(b: &[u8]) -> bool
 }
 
 pub fn forest_layout(b: &[u8]) -> bool
-    ensures { λ r. ⌜ r ≡ forestLayout (now (b .entry)) ⌝ }
+    ensures { result ≡ forest_layout b.now }
 {
     is_last_text(b, Rule::Dns, forest::NAME, BODY_SIZE)
 }
 
 // Each flag is 0 or 1, and an application context has no SID.
 fn flags_layout(b: &[u8]) -> bool
-    ensures { λ r. ⌜ r ≡ flagsLayout (now (b .entry)) ⌝ }
+    ensures { result ≡ flags_layout b.now }
 {
     let application = context::application_octet(b);
     let has_sid = context::has_sid_octet(b);
@@ -51,7 +43,7 @@ fn flags_layout(b: &[u8]) -> bool
 
 // A SID where the context has one, and else none.
 fn sid_layout(b: &[u8]) -> bool
-    ensures { λ r. ⌜ r ≡ sidLayout (contextOf (now (b .entry)) .sid) (now (b .entry)) ⌝ }
+    ensures { result ≡ sid_layout (context_of b.now).sid b.now }
 {
     let end = context::SID + context::SID_ROOM;
     if !context::has_sid(b) {
@@ -63,7 +55,7 @@ fn sid_layout(b: &[u8]) -> bool
 
 // An application context's NetBIOS name may be empty.
 fn netbios_rule(application: bool) -> Rule
-    ensures { λ r. ⌜ r ≡ netbiosRule «application» ⌝ }
+    ensures { result ≡ netbios_rule «application» }
 {
     if application {
         return Rule::NetbiosOrEmpty;
@@ -72,7 +64,7 @@ fn netbios_rule(application: bool) -> Rule
 }
 
 pub fn context_layout(b: &[u8]) -> bool
-    ensures { λ r. ⌜ r ≡ contextLayout (now (b .entry)) ⌝ }
+    ensures { result ≡ context_layout b.now }
 {
     let number = context::number(b);
     let application = context::is_application(b);
@@ -85,7 +77,7 @@ pub fn context_layout(b: &[u8]) -> bool
 }
 
 pub fn account_layout(r: &[u8]) -> bool
-    ensures { λ q. ⌜ q ≡ accountLayout (now (r .entry)) ⌝ }
+    ensures { result ≡ account_layout r.now }
 {
     let context = account::context(r);
     (context.0 != 0)
@@ -94,7 +86,7 @@ pub fn account_layout(r: &[u8]) -> bool
 }
 
 pub fn site_layout(r: &[u8]) -> bool
-    ensures { λ q. ⌜ q ≡ siteLayout (now (r .entry)) ⌝ }
+    ensures { result ≡ site_layout r.now }
 {
     let number = site::number(r);
     (number.0 != 0)
@@ -103,7 +95,7 @@ pub fn site_layout(r: &[u8]) -> bool
 }
 
 pub fn subnet_layout(r: &[u8]) -> bool
-    ensures { λ q. ⌜ q ≡ subnetLayout (now (r .entry)) ⌝ }
+    ensures { result ≡ subnet_layout r.now }
 {
     let prefix = subnet::prefix(r);
     (prefix <= ADDRESS_BITS)

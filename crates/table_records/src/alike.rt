@@ -1,22 +1,21 @@
 // Records compared in pairs: few of them, as contexts are, since the pairs grow by the square.
-ghost use mathlib.Core.Path.{_≡_};
-ghost use Rattle·octets.specs.Lists.{any, unique};
-ghost use Rattle·table.specs.Account.{accountOf};
-ghost use Rattle·table.specs.Context.{contextOf};
-ghost use Rattle·table.specs.SameName.{sameSid};
-ghost use Rattle·table.specs.Subnet.{sameNetwork, subnetOf};
-ghost use Rattle·table_records·specs.specs.Internal.Alike.{contextsAlike, accountsAlike, alikeBy, recordKindOf, likeAt, alikeAt};
+ghost use Rattle.std.specs.Prelude.{◌≡◌};
+ghost use Rattle.octets.specs.Lists.{any, unique};
+ghost use Rattle.table.specs.Account.{account_of};
+ghost use Rattle.table.specs.Context.{context_of};
+ghost use Rattle.table.specs.SameName.{same_sid};
+ghost use Rattle.table.specs.Subnet.{same_network, subnet_of};
+ghost use Rattle.table_records.specs.Internal.Alike.{contexts_alike, accounts_alike, alike_by, record_kind_of, like_at, alike_at};
+
 use account_names::compare::same_account_name;
 use octets::text::same_octets;
-use table::account;
-use table::context;
-use table::record::RecordKind;
-use table::record::record_at;
+use table::record::{RecordKind, record_at};
 use table::same_name::same_dns_name;
-use table::subnet;
+use table::{account, context, subnet};
 use table_address::address::address_number;
 
 // Which records are compared.
+#[derive(Clone, Copy)]
 pub enum Likeness {
     Contexts,
     Accounts,
@@ -24,7 +23,7 @@ pub enum Likeness {
 }
 
 fn record_kind_of(likeness: Likeness) -> RecordKind
-    ensures { λ r. ⌜ r ≡ recordKindOf likeness ⌝ }
+    ensures { result ≡ record_kind_of likeness }
 {
     match likeness {
         Likeness::Contexts => RecordKind::Context,
@@ -35,7 +34,7 @@ fn record_kind_of(likeness: Likeness) -> RecordKind
 
 // A context without SID has the SID of no other.
 fn same_sid(a: &[u8], b: &[u8]) -> bool
-    ensures { λ r. ⌜ r ≡ sameSid (contextOf (now (a .entry)) .sid) (contextOf (now (b .entry)) .sid) ⌝ }
+    ensures { result ≡ same_sid (context_of a.now).sid (context_of b.now).sid }
 {
     if !context::has_sid(a) {
         return false;
@@ -47,7 +46,7 @@ fn same_sid(a: &[u8], b: &[u8]) -> bool
 }
 
 fn are_contexts_alike(a: &[u8], b: &[u8]) -> bool
-    ensures { λ r. ⌜ r ≡ contextsAlike (contextOf (now (a .entry))) (contextOf (now (b .entry))) ⌝ }
+    ensures { result ≡ contexts_alike (context_of a.now) (context_of b.now) }
 {
     let x = context::number(a);
     let y = context::number(b);
@@ -58,7 +57,7 @@ fn are_contexts_alike(a: &[u8], b: &[u8]) -> bool
 }
 
 fn are_accounts_alike(a: &[u8], b: &[u8]) -> bool
-    ensures { λ r. ⌜ r ≡ accountsAlike (accountOf (now (a .entry))) (accountOf (now (b .entry))) ⌝ }
+    ensures { result ≡ accounts_alike (account_of a.now) (account_of b.now) }
 {
     let x = account::context(a);
     let y = account::context(b);
@@ -67,7 +66,7 @@ fn are_accounts_alike(a: &[u8], b: &[u8]) -> bool
 
 // Subnets of different sites may be alike.
 fn are_subnets_alike(a: &[u8], b: &[u8]) -> bool
-    ensures { λ r. ⌜ r ≡ sameNetwork (subnetOf (now (a .entry))) (subnetOf (now (b .entry))) ⌝ }
+    ensures { result ≡ same_network (subnet_of a.now) (subnet_of b.now) }
 {
     let x = address_number(subnet::address(a));
     let y = address_number(subnet::address(b));
@@ -75,7 +74,7 @@ fn are_subnets_alike(a: &[u8], b: &[u8]) -> bool
 }
 
 fn are_alike(a: &[u8], b: &[u8], likeness: Likeness) -> bool
-    ensures { λ r. ⌜ r ≡ alikeBy likeness (now (a .entry)) (now (b .entry)) ⌝ }
+    ensures { result ≡ alike_by likeness a.now b.now }
 {
     match likeness {
         Likeness::Contexts => are_contexts_alike(a, b),
@@ -86,7 +85,7 @@ fn are_alike(a: &[u8], b: &[u8], likeness: Likeness) -> bool
 
 // Whether some record is like this one.
 fn any_alike(image: &[u8], piece: &[u8], offsets: &[u16], likeness: Likeness) -> bool
-    ensures { λ r. ⌜ r ≡ any (likeAt likeness (now (piece .entry)) (now (image .entry))) (now (offsets .entry)) ⌝ }
+    ensures { result ≡ any (like_at likeness piece.now image.now) offsets.now }
 {
     let mut i = 0;
     while i < offsets.len() {
@@ -104,7 +103,7 @@ fn any_alike(image: &[u8], piece: &[u8], offsets: &[u16], likeness: Likeness) ->
 
 // Whether no two records are alike.
 pub fn all_unique(image: &[u8], offsets: &[u16], likeness: Likeness) -> bool
-    ensures { λ r. ⌜ r ≡ unique (alikeAt likeness (now (image .entry))) (now (offsets .entry)) ⌝ }
+    ensures { result ≡ unique (alike_at likeness image.now) offsets.now }
 {
     let mut i = 0;
     while i < offsets.len() {

@@ -1,34 +1,23 @@
 // Every number that a record refers to exists.
-ghost use mathlib.Core.Path.{_≡_};
-ghost use Prim.Native.Nat.{_≤_};
-ghost use lib.ListN.{length};
-ghost use Rattle·octets.specs.Lists.{all};
-ghost use Rattle·table.specs.Block.{imageMost, blocksOf};
-ghost use Rattle·table.specs.Format.{recordsIn};
-ghost use Rattle·table.specs.Subnet.{subnetFormat};
-ghost use Rattle·table.specs.Internal.Reference.{referred};
-ghost use Rattle·table_refer·specs.specs.Internal.Mark.{marksSize};
-ghost use Rattle·table_refer·specs.specs.Internal.Refer.{hasNumber, inContexts, isMarkedOrNone, isOtherOrNone, siteRefers, siteRefersAt, subnetRefers, subnetsRefer};
+ghost use Rattle.std.specs.Prelude.{◌≡◌, ◌≤◌, length};
+ghost use Rattle.octets.specs.Lists.{all};
+ghost use Rattle.table.specs.Block.{image_most, blocks_of};
+ghost use Rattle.table.specs.Format.{records_in};
+ghost use Rattle.table.specs.Subnet.{subnet_format};
+ghost use Rattle.table.specs.Internal.Reference.{referred};
+ghost use Rattle.table_refer.specs.Internal.Mark.{marks_size};
+ghost use Rattle.table_refer.specs.Internal.Refer.{has_number, in_contexts, is_marked_or_none, is_other_or_none, site_refers, site_refers_at, subnet_refers, subnets_refer};
+
 use crate::mark::is_marked;
 use octets::part::part;
-use table::BlockPlace;
-use table::ContextNumber;
-use table::SiteNumber;
-use table::account;
-use table::block::BLOCK_SIZE;
-use table::block::block_at;
-use table::block::body_of;
-use table::block::kind_of;
-use table::context;
-use table::record::RecordKind;
-use table::record::record_at;
-use table::site;
+use table::block::{BLOCK_SIZE, block_at, body_of, kind_of};
+use table::record::{RecordKind, record_at};
 use table::site::SiteReference;
-use table::subnet;
+use table::{BlockPlace, ContextNumber, SiteNumber, account, context, site, subnet};
 
 // Whether one of the contexts has a number. There are at most 16, so none is marked.
 pub fn has_context(image: &[u8], contexts: &[u16], number: ContextNumber) -> bool
-    ensures { λ r. ⌜ r ≡ hasNumber (now (image .entry)) (now (contexts .entry)) number ⌝ }
+    ensures { result ≡ has_number image.now contexts.now number }
 {
     let mut i = 0;
     while i < contexts.len() {
@@ -43,7 +32,7 @@ pub fn has_context(image: &[u8], contexts: &[u16], number: ContextNumber) -> boo
 
 // Whether each account's context is one of these.
 pub fn are_in_contexts(image: &[u8], accounts: &[u16], contexts: &[u16]) -> bool
-    ensures { λ r. ⌜ r ≡ all (inContexts (now (image .entry)) (now (contexts .entry))) (now (accounts .entry)) ⌝ }
+    ensures { result ≡ all (in_contexts image.now contexts.now) accounts.now }
 {
     let mut i = 0;
     while i < accounts.len() {
@@ -58,8 +47,8 @@ pub fn are_in_contexts(image: &[u8], accounts: &[u16], contexts: &[u16]) -> bool
 
 // Whether a site that is referred to exists, where one is.
 fn is_marked_or_none(marks: &[u8], reference: SiteReference) -> bool
-    requires { ⌜ length (now marks) ≡ marksSize ⌝ }
-    ensures { λ r. ⌜ r ≡ isMarkedOrNone (now (marks .entry)) (referred reference) ⌝ }
+    requires { length marks.now ≡ marks_size }
+    ensures { result ≡ is_marked_or_none marks.now (referred reference) }
 {
     match reference {
         SiteReference::To(number) => is_marked(marks, number),
@@ -69,7 +58,7 @@ fn is_marked_or_none(marks: &[u8], reference: SiteReference) -> bool
 
 // Whether it is another one.
 fn is_other_or_none(own: SiteNumber, reference: SiteReference) -> bool
-    ensures { λ r. ⌜ r ≡ isOtherOrNone own (referred reference) ⌝ }
+    ensures { result ≡ is_other_or_none own (referred reference) }
 {
     match reference {
         SiteReference::To(number) => own.0 != number.0,
@@ -79,8 +68,8 @@ fn is_other_or_none(own: SiteNumber, reference: SiteReference) -> bool
 
 // A site's next closest one, where there is one, exists and is another.
 fn site_refers(marks: &[u8], octets: &[u8]) -> bool
-    requires { ⌜ length (now marks) ≡ marksSize ⌝ }
-    ensures { λ r. ⌜ r ≡ siteRefers (now (marks .entry)) (now (octets .entry)) ⌝ }
+    requires { length marks.now ≡ marks_size }
+    ensures { result ≡ site_refers marks.now octets.now }
 {
     let next = site::next(octets);
     is_marked_or_none(marks, next) & is_other_or_none(site::number(octets), next)
@@ -88,8 +77,8 @@ fn site_refers(marks: &[u8], octets: &[u8]) -> bool
 
 // Whether each site refers rightly.
 pub fn all_sites_refer(image: &[u8], sites: &[u16], marks: &[u8]) -> bool
-    requires { ⌜ length (now marks) ≡ marksSize ⌝ }
-    ensures { λ r. ⌜ r ≡ all (siteRefersAt (now (marks .entry)) (now (image .entry))) (now (sites .entry)) ⌝ }
+    requires { length marks.now ≡ marks_size }
+    ensures { result ≡ all (site_refers_at marks.now image.now) sites.now }
 {
     let mut i = 0;
     while i < sites.len() {
@@ -103,8 +92,8 @@ pub fn all_sites_refer(image: &[u8], sites: &[u16], marks: &[u8]) -> bool
 
 // Whether the site of each subnet of a body exists, where it has one. An unused record has none, so that no other test is needed.
 fn all_records_refer(body: &[u8], marks: &[u8]) -> bool
-    requires { ⌜ length (now marks) ≡ marksSize ⌝ }
-    ensures { λ r. ⌜ r ≡ all (subnetRefers (now (marks .entry))) (recordsIn subnetFormat (now (body .entry))) ⌝ }
+    requires { length marks.now ≡ marks_size }
+    ensures { result ≡ all (subnet_refers marks.now) (records_in subnet_format body.now) }
 {
     let mut i = 0;
     while i < subnet::FORMAT.count {
@@ -119,8 +108,8 @@ fn all_records_refer(body: &[u8], marks: &[u8]) -> bool
 
 // The same of a block, if it holds subnets.
 fn subnets_refer(block: &[u8], marks: &[u8]) -> bool
-    requires { ⌜ length (now marks) ≡ marksSize ⌝ }
-    ensures { λ r. ⌜ r ≡ subnetsRefer (now (marks .entry)) (now (block .entry)) ⌝ }
+    requires { length marks.now ≡ marks_size }
+    ensures { result ≡ subnets_refer marks.now block.now }
 {
     if kind_of(block) != subnet::FORMAT.kind {
         return true;
@@ -130,8 +119,8 @@ fn subnets_refer(block: &[u8], marks: &[u8]) -> bool
 
 // The same of every block. Subnets are held to the marks where they stand: their offsets are not collected.
 pub fn all_subnets_refer(image: &[u8], marks: &[u8]) -> bool
-    requires { ⌜ (length (now image) ≤ imageMost) × (length (now marks) ≡ marksSize) ⌝ }
-    ensures { λ r. ⌜ r ≡ all (subnetsRefer (now (marks .entry))) (blocksOf (now (image .entry))) ⌝ }
+    requires { (length image.now ≤ image_most) × (length marks.now ≡ marks_size) }
+    ensures { result ≡ all (subnets_refer marks.now) (blocks_of image.now) }
 {
     let n = image.len() / BLOCK_SIZE;
     let mut i = 0;

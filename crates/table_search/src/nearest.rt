@@ -1,30 +1,25 @@
 // The nearest subnet that holds an address: one pass over the subnets, in which a later one takes the place of one with a shorter prefix.
-ghost use mathlib.Core.Path.{_≡_};
-ghost use mathlib.Core.Option.{none};
-ghost use Prim.Native.Nat.{_+_, _≤_};
-ghost use lib.ListN.{length};
-ghost use Rattle·octets.specs.Lists.{cut};
-ghost use Rattle·table.specs.declared.record.RecordKind.the-variants as kind;
-ghost use Rattle·table.specs.Block.{blocksOf, bodySize};
-ghost use Rattle·table.specs.Subnet.{subnetFormat, subnetOf};
-ghost use Rattle·table_whole.specs.Judgement.{Accepted};
-ghost use Rattle·table_find.specs.Internal.Found.{LiesIn, subnetAt};
-ghost use Rattle·table_find.specs.Internal.Nearest.{longer, nearestInBody, nearestIn};
+ghost use Rattle.std.specs.Prelude.{◌≡◌, ◌+◌, ◌≤◌, length};
+ghost use Rattle.std.proofs.Math.Option.{none};
+ghost use Rattle.octets.specs.Lists.{cut};
+ghost use Rattle.table.specs.declared.record.RecordKind.TheVariants as kind;
+ghost use Rattle.table.specs.Block.{blocks_of, body_size};
+ghost use Rattle.table.specs.Subnet.{subnet_format, subnet_of};
+ghost use Rattle.table_whole.specs.Judgement.{Accepted};
+ghost use Rattle.table_find.specs.Internal.Found.{LiesIn, subnet_at};
+ghost use Rattle.table_find.specs.Internal.Nearest.{longer, nearest_in_body, nearest_in_lem};
+
 use octets::part::part;
-use table::BlockPlace;
-use table::block::BLOCK_SIZE;
-use table::block::BODY;
-use table::block::block_at;
-use table::block::kind_of;
-use table::subnet;
+use table::block::{BLOCK_SIZE, BODY, block_at, kind_of};
+use table::{BlockPlace, subnet};
 use table_find::search::Found;
 use table_find::subnet::is_holder;
 
 // The longer of the one found so far and the record at an offset, which holds the address.
 fn longer_prefix(image: &[u8], best: Found, offset: usize) -> Found
-    requires { ⌜ (offset + subnetFormat .width ≤ length (now image)) × LiesIn (now image) kind.Subnet best ⌝ }
-    ensures { λ r. ⌜ subnetAt (now (image .entry)) r ≡ longer (subnetAt (now (image .entry)) best) (subnetOf (cut (now (image .entry)) offset (subnetFormat .width))) ⌝ }
-    ensures { λ r. ⌜ LiesIn (now (image .entry)) kind.Subnet r ⌝ }
+    requires { (offset + subnet_format.width ≤ length image.now) × LiesIn image.now kind.Subnet best }
+    ensures result_value { subnet_at image.now result ≡ longer (subnet_at image.now best) (subnet_of (cut image.now offset subnet_format.width)) }
+    ensures lies_in { LiesIn image.now kind.Subnet result }
 {
     let width = subnet::FORMAT.width;
     match best {
@@ -42,9 +37,9 @@ fn longer_prefix(image: &[u8], best: Found, offset: usize) -> Found
 
 // The nearest after the body at an offset.
 fn nearest_in_body(image: &[u8], start: Found, body: usize, address: u32) -> Found
-    requires { ⌜ (body + bodySize ≤ length (now image)) × LiesIn (now image) kind.Subnet start ⌝ }
-    ensures { λ r. ⌜ subnetAt (now (image .entry)) r ≡ nearestInBody address (subnetAt (now (image .entry)) start) (cut (now (image .entry)) body bodySize) ⌝ }
-    ensures { λ r. ⌜ LiesIn (now (image .entry)) kind.Subnet r ⌝ }
+    requires { (body + body_size ≤ length image.now) × LiesIn image.now kind.Subnet start }
+    ensures result_value { subnet_at image.now result ≡ nearest_in_body address (subnet_at image.now start) (cut image.now body body_size) }
+    ensures lies_in { LiesIn image.now kind.Subnet result }
 {
     let mut best = start;
     let mut left = subnet::FORMAT.count;
@@ -62,9 +57,9 @@ fn nearest_in_body(image: &[u8], start: Found, body: usize, address: u32) -> Fou
 
 // The nearest of an image.
 pub fn nearest_subnet(image: &[u8], address: u32) -> Found
-    requires { ⌜ Accepted (now image) ⌝ }
-    ensures { λ r. ⌜ subnetAt (now (image .entry)) r ≡ nearestIn address none (blocksOf (now (image .entry))) ⌝ }
-    ensures { λ r. ⌜ LiesIn (now (image .entry)) kind.Subnet r ⌝ }
+    requires { Accepted image.now }
+    ensures result_value { subnet_at image.now result ≡ nearest_in_lem address none (blocks_of image.now) }
+    ensures lies_in { LiesIn image.now kind.Subnet result }
 {
     let blocks = image.len() / BLOCK_SIZE;
     let mut best = Found::Nothing;

@@ -1,30 +1,23 @@
 // The search of every lookup but that of the nearest subnet: the first used record that a key finds, block by block and record by record.
-ghost use mathlib.Core.Path.{_≡_};
-ghost use Prim.Native.Nat.{_+_, _≤_, _<_, _/_};
-ghost use lib.ListN.{length};
-ghost use Rattle·octets.specs.Lists.{cut};
-ghost use Rattle·table.specs.Block.{blockSize, blocksOf, bodySize};
-ghost use Rattle·table.specs.Internal.BlockAt.{blockAt};
-ghost use Rattle·table_whole.specs.Judgement.{Accepted};
-ghost use Rattle·table_find.specs.Internal.Found.{recordFound, LiesIn};
-ghost use Rattle·table_find.specs.Internal.Key.{kindFor};
-ghost use Rattle·table_find.specs.Internal.Search.{firstInBody, firstInBlock, firstIn};
+ghost use Rattle.std.specs.Prelude.{◌≡◌, ◌+◌, ◌≤◌, ◌<◌, ◌/◌, length};
+ghost use Rattle.octets.specs.Lists.{cut};
+ghost use Rattle.table.specs.Block.{block_size, blocks_of, body_size};
+ghost use Rattle.table.specs.Internal.BlockAt.{block_at};
+ghost use Rattle.table_whole.specs.Judgement.{Accepted};
+ghost use Rattle.table_find.specs.Internal.Found.{record_found, LiesIn};
+ghost use Rattle.table_find.specs.Internal.Key.{kind_for};
+ghost use Rattle.table_find.specs.Internal.Search.{first_in_body, first_in_block, first_in};
+
 use octets::part::part;
 use table::BlockPlace;
-use table::block::BLOCK_SIZE;
-use table::block::BODY;
-use table::block::block_at;
-use table::block::kind_of;
-use table_find::search::Found;
-use table_find::search::Key;
-use table_find::search::format_for;
-use table_find::search::is_found_by;
+use table::block::{BLOCK_SIZE, BODY, block_at, kind_of};
+use table_find::search::{Found, Key, format_for, is_found_by};
 
 // The first record that the key finds in the body at an offset.
 fn first_in_body(image: &[u8], body: usize, key: Key, asked: &[u8]) -> Found
-    requires { ⌜ body + bodySize ≤ length (now image) ⌝ }
-    ensures { λ r. ⌜ recordFound (now (image .entry)) (kindFor key) r ≡ firstInBody key (now (asked .entry)) (cut (now (image .entry)) body bodySize) ⌝ }
-    ensures { λ r. ⌜ LiesIn (now (image .entry)) (kindFor key) r ⌝ }
+    requires { body + body_size ≤ length image.now }
+    ensures result_value { record_found image.now (kind_for key) result ≡ first_in_body key asked.now (cut image.now body body_size) }
+    ensures lies_in { LiesIn image.now (kind_for key) result }
 {
     let format = format_for(key);
     let width = format.width;
@@ -42,9 +35,9 @@ fn first_in_body(image: &[u8], body: usize, key: Key, asked: &[u8]) -> Found
 
 // The first record that the key finds in the block at a place; a block of another kind has none.
 fn first_in_block(image: &[u8], place: BlockPlace, key: Key, asked: &[u8]) -> Found
-    requires { ⌜ place .0 < length (now image) / blockSize ⌝ }
-    ensures { λ r. ⌜ recordFound (now (image .entry)) (kindFor key) r ≡ firstInBlock key (now (asked .entry)) (blockAt (now (image .entry)) place) ⌝ }
-    ensures { λ r. ⌜ LiesIn (now (image .entry)) (kindFor key) r ⌝ }
+    requires { place.0 < length image.now / block_size }
+    ensures result_value { record_found image.now (kind_for key) result ≡ first_in_block key asked.now (block_at image.now place) }
+    ensures lies_in { LiesIn image.now (kind_for key) result }
 {
     let format = format_for(key);
     if kind_of(block_at(image, place)) != format.kind {
@@ -56,9 +49,9 @@ fn first_in_block(image: &[u8], place: BlockPlace, key: Key, asked: &[u8]) -> Fo
 
 // The first record of an image that the key finds.
 pub fn first_record(image: &[u8], key: Key, asked: &[u8]) -> Found
-    requires { ⌜ Accepted (now image) ⌝ }
-    ensures { λ r. ⌜ recordFound (now (image .entry)) (kindFor key) r ≡ firstIn key (now (asked .entry)) (blocksOf (now (image .entry))) ⌝ }
-    ensures { λ r. ⌜ LiesIn (now (image .entry)) (kindFor key) r ⌝ }
+    requires { Accepted image.now }
+    ensures result_value { record_found image.now (kind_for key) result ≡ first_in key asked.now (blocks_of image.now) }
+    ensures lies_in { LiesIn image.now (kind_for key) result }
 {
     let blocks = image.len() / BLOCK_SIZE;
     let mut i = 0;

@@ -1,21 +1,21 @@
 // Whether no two records are alike: sorted, those that are alike stand next to each other.
-ghost use mathlib.Core.Path.{_≡_};
-ghost use Rattle·octets.specs.Lists.{unique};
-ghost use Rattle·table_records.specs.declared.alike.Likeness.the-variants as likeness;
-ghost use Rattle·table_records.specs.Internal.Alike.{alikeAt};
-ghost use Rattle·table_unique·specs.specs.Internal.Neighbours.{neighboursBy};
-ghost use Rattle·table_unique·specs.specs.Internal.OrderLikeness.{likenessOf};
-ghost use Rattle·table_radix.specs.Internal.Reordered.{Reordered};
-ghost use Rattle·table_compare.specs.Internal.OrderKey.{FoldsFor, compareAt};
+ghost use Rattle.std.specs.Prelude.{◌≡◌};
+ghost use Rattle.octets.specs.Lists.{unique};
+ghost use Rattle.table_records.specs.declared.alike.Likeness.TheVariants as likeness;
+ghost use Rattle.table_records.specs.Internal.Alike.{alike_at};
+ghost use Rattle.table_unique.specs.Internal.Neighbours.{neighbours_by};
+ghost use Rattle.table_unique.specs.Internal.OrderLikeness.{likeness_of};
+ghost use Rattle.table_radix.specs.Internal.Reordered.{Reordered};
+ghost use Rattle.table_compare.specs.Internal.OrderKey.{FoldsFor, compare_at};
+
 use account_names::compare::Ordering;
 use account_names::fold_table::FOLD_TABLE;
-use table_compare::compare::Order;
-use table_compare::compare::compare_at;
-use table_records::alike::Likeness;
-use table_records::alike::all_unique;
+use table_compare::compare::{Order, compare_at};
+use table_records::alike::{Likeness, all_unique};
 use table_sort::sort::sort;
 
 // What the first neighbours out of order show, if there are any: two that are alike, or a list that is not sorted.
+#[derive(Drop)]
 pub enum Neighbours {
     Rising,
     Duplicate,
@@ -23,8 +23,8 @@ pub enum Neighbours {
 }
 
 fn compare_neighbours(image: &[u8], fold_table: &[u16], offsets: &[u16], order: Order) -> Neighbours
-    requires { ⌜ FoldsFor order (now «fold_table») ⌝ }
-    ensures { λ r. ⌜ r ≡ neighboursBy (compareAt order (now (image .entry))) (now (offsets .entry)) ⌝ }
+    requires { FoldsFor order fold_table.now }
+    ensures { result ≡ neighbours_by (compare_at order image.now) offsets.now }
 {
     let mut i = 1;
     while i < offsets.len() {
@@ -39,7 +39,7 @@ fn compare_neighbours(image: &[u8], fold_table: &[u16], offsets: &[u16], order: 
 
 // What two records that compare as equal are.
 fn likeness_of(order: Order) -> Likeness
-    ensures { λ r. ⌜ r ≡ likenessOf order ⌝ }
+    ensures { result ≡ likeness_of order }
 {
     match order {
         Order::Accounts => Likeness::Accounts,
@@ -49,8 +49,8 @@ fn likeness_of(order: Order) -> Likeness
 
 // A table kept in order is not sorted again.
 fn put_in_order(image: &[u8], fold_table: &[u16], offsets: &mut [u16], order: Order)
-    requires { ⌜ FoldsFor order (now «fold_table») ⌝ }
-    ensures { λ _. ⌜ Reordered (now (offsets .entry)) (now (offsets .exit)) ⌝ }
+    requires { FoldsFor order fold_table.now }
+    ensures { Reordered offsets.old offsets.new }
 {
     if let Neighbours::Unsorted = compare_neighbours(image, fold_table, offsets, order) {
         sort(image, fold_table, offsets, order);
@@ -59,8 +59,8 @@ fn put_in_order(image: &[u8], fold_table: &[u16], offsets: &mut [u16], order: Or
 
 // A list that the sort left unsorted would be compared in pairs: slow, and right all the same.
 fn are_unique(image: &[u8], fold_table: &[u16], offsets: &mut [u16], order: Order) -> bool
-    requires { ⌜ FoldsFor order (now «fold_table») ⌝ }
-    ensures { λ r. ⌜ r ≡ unique (alikeAt (likenessOf order) (now (image .entry))) (now (offsets .entry)) ⌝ }
+    requires { FoldsFor order fold_table.now }
+    ensures { result ≡ unique (alike_at (likeness_of order) image.now) offsets.old }
 {
     put_in_order(image, fold_table, offsets, order);
     match compare_neighbours(image, fold_table, offsets, order) {
@@ -72,7 +72,7 @@ fn are_unique(image: &[u8], fold_table: &[u16], offsets: &mut [u16], order: Orde
 
 // The folding table is copied here, once for all accounts, and not for fewer than two.
 pub fn are_accounts_unique(image: &[u8], accounts: &mut [u16]) -> bool
-    ensures { λ r. ⌜ r ≡ unique (alikeAt likeness.Accounts (now (image .entry))) (now (accounts .entry)) ⌝ }
+    ensures { result ≡ unique (alike_at likeness.Accounts image.now) accounts.old }
 {
     if accounts.len() < 2 {
         return true;
@@ -83,7 +83,7 @@ pub fn are_accounts_unique(image: &[u8], accounts: &mut [u16]) -> bool
 
 // Subnets are compared without the folding table.
 pub fn are_networks_unique(image: &[u8], subnets: &mut [u16]) -> bool
-    ensures { λ r. ⌜ r ≡ unique (alikeAt likeness.Subnets (now (image .entry))) (now (subnets .entry)) ⌝ }
+    ensures { result ≡ unique (alike_at likeness.Subnets image.now) subnets.old }
 {
     are_unique(image, &[], subnets, Order::Subnets)
 }

@@ -1,50 +1,45 @@
 -- Document 01, "Answer numbers" 1 to 4: an image judged, each number over the whole image once the earlier ones passed.
-use mathlib.Core.Path.{_≡_}
-use mathlib.Core.Bool.{Bool, not, _&&_}
-use mathlib.Core.List.{List}
-use Prim.Native.Nat.{ℕ, _%_}
-use lib.Dec.{eqb}
-use lib.ListN.{length}
-use Rattle·answers.specs.declared.Refusal.the-variants.{ImageLength, BlockCheck, BlockLayout, TableWhole}
-use Rattle·answers.specs.Refusal.{number}
-use Rattle·answers.specs.Try.{Try, refused, good, refusedIf, numberOf}
-use Rattle·octets.specs.{Lists.all, Text.within}
-use Rattle·table_whole·specs.specs.{declared.judge.Judgement.Judgement, Whole.goodWhole}
-use Rattle·table_whole·specs.specs.declared.judge.Judgement.the-variants.{Passed, Refused}
-use Rattle·table.specs.Block.{blockSize, imageLeast, imageMost, blocksOf}
-use Rattle·table.specs.Server.{serverPlace}
-use Rattle·table.specs.Table.{Table, tableOf, tableFrom}
-use Rattle·table_check.specs.Check.{goodCheck}
-use Rattle·table_layout.specs.Layout.{layoutsFrom}
+use Rattle.std.specs.Prelude.{◌≡◌, Bool, not, ◌&&◌, List, ℕ, ◌%◌, eqb, length}
+use Rattle.answers.specs.declared.Refusal.TheVariants.{ImageLength, BlockCheck, BlockLayout, TableWhole}
+use Rattle.answers.specs.Refusal.{number}
+use Rattle.answers.specs.Try.{Try, refused, good, refused_if, number_of}
+use Rattle.octets.specs.{Lists.all, Text.within}
+use Rattle.table_whole.specs.{declared.judge.Judgement.Judgement, Whole.good_whole}
+use Rattle.table_whole.specs.declared.judge.Judgement.TheVariants.{Passed, Refused}
+use Rattle.table.specs.Block.{block_size, image_least, image_most, blocks_of}
+use Rattle.table.specs.Server.{server_place}
+use Rattle.table.specs.Table.{Table, table_of, table_from}
+use Rattle.table_check.specs.Check.{good_check}
+use Rattle.table_layout.specs.Layout.{layouts_from}
 
 -- a multiple of 512 from 1,024 to 65,536
-unfoldable pub goodLength : List ℕ → Bool
-goodLength image = within imageLeast imageMost (length image) && eqb (length image % blockSize) 0
+unfoldable pub good_length : List ℕ → Bool
+good_length image = within image_least image_most (length image) && eqb (length image % block_size) 0
 
 -- the table of an image, or why there is none
-unfoldable pub tableIn : List ℕ → Try Table
-tableIn image =
-    let blocks = blocksOf image in
-    refusedIf (not (goodLength image)) ImageLength
-    (refusedIf (not (all goodCheck blocks)) BlockCheck
-    (refusedIf (not (layoutsFrom serverPlace blocks)) BlockLayout
-    (refusedIf (not (goodWhole (tableOf blocks))) TableWhole (good (tableOf blocks)))))
+unfoldable pub table_in : List ℕ → Try Table
+table_in image =
+    let blocks = blocks_of image in
+    refused_if (not (good_length image)) ImageLength
+    (refused_if (not (all good_check blocks)) BlockCheck
+    (refused_if (not (layouts_from server_place blocks)) BlockLayout
+    (refused_if (not (good_whole (table_of blocks))) TableWhole (good (table_of blocks)))))
 
 -- an image that passes 1 to 4
 abbrev pub Accepted : List ℕ → Type 0
-Accepted image = tableIn image ≡ good (tableFrom image)
+Accepted image = table_in image ≡ good (table_from image)
 
 -- the answer of judging an image, as the enum that the call returns
-abbrev pub judgedAs : Try Table → Judgement
-judgedAs (refused r) = Refused r
-judgedAs (good t) = Passed
+abbrev pub judged_as : Try Table → Judgement
+judged_as (refused r) = Refused r
+judged_as (good t) = Passed
 
 -- document 01's number of a judgement
-abbrev pub judgementNumber : Judgement → ℕ
-judgementNumber Passed = 0
-judgementNumber (Refused r) = number r
+abbrev pub judgement_number : Judgement → ℕ
+judgement_number Passed = 0
+judgement_number (Refused r) = number r
 
 -- what `judge` promises
 pub record JudgePromise (image : List ℕ) (r : Judgement) : Type 0 where
-  pub same : r ≡ judgedAs (tableIn image)
-  pub numbered : judgementNumber r ≡ numberOf (tableIn image)
+  pub same : r ≡ judged_as (table_in image)
+  pub numbered : judgement_number r ≡ number_of (table_in image)

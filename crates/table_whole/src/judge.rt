@@ -1,18 +1,16 @@
 // An image judged: 1 to 4 in order, each over the whole image once the earlier ones passed.
-ghost use mathlib.Core.Path.{_≡_};
-ghost use Rattle·table_whole·specs.specs.Judgement.{goodLength, judgementNumber, JudgePromise};
+ghost use Rattle.std.specs.Prelude.{◌≡◌};
+ghost use Rattle.table_whole.specs.Judgement.{good_length, judgement_number, JudgePromise};
+
 use crate::whole::good_whole;
-use answers::Refusal;
-use answers::number_of;
-use table::block::BLOCK_SIZE;
-use table::block::IMAGE_LEAST;
-use table::block::IMAGE_MOST;
+use answers::{Refusal, number_of};
+use table::block::{BLOCK_SIZE, IMAGE_LEAST, IMAGE_MOST};
 use table_blocks::layout::good_layouts;
 use table_check::check::good_checks;
 
 // A multiple of 512 from 1,024 to 65,536.
 fn has_good_length(image: &[u8]) -> bool
-    ensures { λ r. ⌜ r ≡ goodLength (now (image .entry)) ⌝ }
+    ensures { result ≡ good_length image.now }
 {
     if image.len() < IMAGE_LEAST {
         return false;
@@ -24,6 +22,7 @@ fn has_good_length(image: &[u8]) -> bool
 }
 
 // What judging an image gives: 0, or 1 to 4.
+#[derive(Drop)]
 pub enum Judgement {
     Passed,
     Refused(Refusal),
@@ -31,7 +30,7 @@ pub enum Judgement {
 
 // Document 01's number of it.
 pub fn judgement_number(judgement: Judgement) -> u8
-    ensures { λ r. ⌜ r ≡ judgementNumber judgement ⌝ }
+    ensures { result ≡ judgement_number judgement }
 {
     match judgement {
         Judgement::Passed => 0,
@@ -40,7 +39,7 @@ pub fn judgement_number(judgement: Judgement) -> u8
 }
 
 pub fn judge(image: &[u8]) -> Judgement
-    ensures { λ r. ⌜ JudgePromise (now (image .entry)) r ⌝ }
+    ensures { JudgePromise image.now result }
 {
     if !has_good_length(image) {
         return Judgement::Refused(Refusal::ImageLength);

@@ -1,31 +1,19 @@
 // The table as a whole: contexts with their accounts, sites with what refers to them, then the subnets by themselves.
-ghost use mathlib.Core.Path.{_≡_};
-ghost use Prim.Native.Nat.{_≤_};
-ghost use Rattle·table.specs.Block.{blockSize, imageMost};
-ghost use lib.ListN.{length};
-ghost use Rattle·table.specs.Table.{tableFrom};
-ghost use Rattle·table.specs.declared.record.RecordKind.the-variants as kind;
-ghost use Rattle·table_whole·specs.specs.Whole.{subnetsUnique, goodWhole};
-ghost use Rattle·table_whole·specs.specs.Internal.Half.{AllOf, SiteMarks, goodAccounts, goodContexts, goodReferences, goodSites, contextHalf, siteHalf};
-use table::account;
+ghost use Rattle.std.specs.Prelude.{◌≡◌, ◌≤◌, length};
+ghost use Rattle.table.specs.Block.{block_size, image_most};
+ghost use Rattle.table.specs.Table.{table_from};
+ghost use Rattle.table.specs.declared.record.RecordKind.TheVariants as kind;
+ghost use Rattle.table_whole.specs.Whole.{subnets_unique, good_whole};
+ghost use Rattle.table_whole.specs.Internal.Half.{AllOf, SiteMarks, good_accounts, good_contexts, good_references, good_sites, context_half, site_half};
+
 use table::block::BLOCKS_MOST;
-use table::context;
 use table::record::RecordKind;
-use table::server;
-use table::site;
-use table::subnet;
-use table_records::alike::Likeness;
-use table_records::alike::all_unique;
+use table::{account, context, server, site, subnet};
+use table_records::alike::{Likeness, all_unique};
 use table_records::offset::offsets_of;
-use table_refer::mark::MARKS_SIZE;
-use table_refer::mark::is_marked;
-use table_refer::mark::mark_sites;
-use table_refer::refer::all_sites_refer;
-use table_refer::refer::all_subnets_refer;
-use table_refer::refer::are_in_contexts;
-use table_refer::refer::has_context;
-use table_unique::unique::are_accounts_unique;
-use table_unique::unique::are_networks_unique;
+use table_refer::mark::{MARKS_SIZE, is_marked, mark_sites};
+use table_refer::refer::{all_sites_refer, all_subnets_refer, are_in_contexts, has_context};
+use table_unique::unique::{are_accounts_unique, are_networks_unique};
 
 // Of each kind whose offsets are collected, as many records as the most blocks hold; of subnets it is `subnet::MOST`.
 const CONTEXTS_MOST: usize = context::FORMAT.count * BLOCKS_MOST;
@@ -36,15 +24,15 @@ const SITES_MOST: usize = site::FORMAT.count * BLOCKS_MOST;
 
 // The accounts: each one's context exists, and no two of a context have one name.
 fn are_accounts_good(image: &[u8], accounts: &mut [u16], contexts: &[u16]) -> bool
-    requires { ⌜ AllOf kind.Account (now image) (now accounts) × AllOf kind.Context (now image) (now contexts) ⌝ }
-    ensures { λ r. ⌜ r ≡ goodAccounts (tableFrom (now (image .entry))) ⌝ }
+    requires { AllOf kind.Account image.now accounts.old × AllOf kind.Context image.now contexts.now }
+    ensures { result ≡ good_accounts (table_from image.now) }
 {
     are_in_contexts(image, accounts, contexts) & are_accounts_unique(image, accounts)
 }
 
 fn good_accounts_of(image: &[u8], contexts: &[u16]) -> bool
-    requires { ⌜ (length (now image) ≤ imageMost) × AllOf kind.Context (now image) (now contexts) ⌝ }
-    ensures { λ r. ⌜ r ≡ goodAccounts (tableFrom (now (image .entry))) ⌝ }
+    requires { (length image.now ≤ image_most) × AllOf kind.Context image.now contexts.now }
+    ensures { result ≡ good_accounts (table_from image.now) }
 {
     let mut accounts: [u16; ACCOUNTS_MOST] = [0; ACCOUNTS_MOST];
     let count = offsets_of(image, RecordKind::Account, &mut accounts);
@@ -53,8 +41,8 @@ fn good_accounts_of(image: &[u8], contexts: &[u16]) -> bool
 
 // No two contexts have one number, GUID, SID or DNS name, the default one exists, and their accounts are good.
 fn are_contexts_good(image: &[u8], contexts: &[u16]) -> bool
-    requires { ⌜ (blockSize ≤ length (now image)) × (length (now image) ≤ imageMost) × AllOf kind.Context (now image) (now contexts) ⌝ }
-    ensures { λ r. ⌜ r ≡ goodContexts (tableFrom (now (image .entry))) ⌝ }
+    requires { (block_size ≤ length image.now) × (length image.now ≤ image_most) × AllOf kind.Context image.now contexts.now }
+    ensures { result ≡ good_contexts (table_from image.now) }
 {
     all_unique(image, contexts, Likeness::Contexts)
         & has_context(
@@ -67,8 +55,8 @@ fn are_contexts_good(image: &[u8], contexts: &[u16]) -> bool
 
 // 1 to 16 contexts, and what is said of them; no pair is compared where there are more.
 fn is_context_half_good(image: &[u8]) -> bool
-    requires { ⌜ (blockSize ≤ length (now image)) × (length (now image) ≤ imageMost) ⌝ }
-    ensures { λ r. ⌜ r ≡ contextHalf (tableFrom (now (image .entry))) ⌝ }
+    requires { (block_size ≤ length image.now) × (length image.now ≤ image_most) }
+    ensures { result ≡ context_half (table_from image.now) }
 {
     let mut contexts: [u16; CONTEXTS_MOST] = [0; CONTEXTS_MOST];
     let count = offsets_of(image, RecordKind::Context, &mut contexts);
@@ -83,9 +71,9 @@ fn is_context_half_good(image: &[u8]) -> bool
 
 // The server's own site exists, each next closest one exists and is another, and subnets refer rightly.
 fn are_sites_referred(image: &[u8], sites: &[u16], marks: &[u8]) -> bool
-    requires { ⌜ (blockSize ≤ length (now image)) × (length (now image) ≤ imageMost) ⌝ }
-    requires { ⌜ AllOf kind.Site (now image) (now sites) × SiteMarks (now marks) (tableFrom (now image)) ⌝ }
-    ensures { λ r. ⌜ r ≡ goodReferences (tableFrom (now (image .entry))) ⌝ }
+    requires block_size_in_bounds { (block_size ≤ length image.now) × (length image.now ≤ image_most) }
+    requires all_of { AllOf kind.Site image.now sites.now × SiteMarks marks.now (table_from image.now) }
+    ensures { result ≡ good_references (table_from image.now) }
 {
     is_marked(marks, server::own_site(server::server_of(image)))
         & all_sites_refer(image, sites, marks)
@@ -94,8 +82,8 @@ fn are_sites_referred(image: &[u8], sites: &[u16], marks: &[u8]) -> bool
 
 // No two sites have one number, and what refers to them does so rightly.
 fn are_sites_good(image: &[u8], sites: &[u16]) -> bool
-    requires { ⌜ (blockSize ≤ length (now image)) × (length (now image) ≤ imageMost) × AllOf kind.Site (now image) (now sites) ⌝ }
-    ensures { λ r. ⌜ r ≡ goodSites (tableFrom (now (image .entry))) ⌝ }
+    requires { (block_size ≤ length image.now) × (length image.now ≤ image_most) × AllOf kind.Site image.now sites.now }
+    ensures { result ≡ good_sites (table_from image.now) }
 {
     let mut marks = [0u8; MARKS_SIZE];
     if !mark_sites(image, sites, &mut marks) {
@@ -105,8 +93,8 @@ fn are_sites_good(image: &[u8], sites: &[u16]) -> bool
 }
 
 fn is_site_half_good(image: &[u8]) -> bool
-    requires { ⌜ (blockSize ≤ length (now image)) × (length (now image) ≤ imageMost) ⌝ }
-    ensures { λ r. ⌜ r ≡ siteHalf (tableFrom (now (image .entry))) ⌝ }
+    requires { (block_size ≤ length image.now) × (length image.now ≤ image_most) }
+    ensures { result ≡ site_half (table_from image.now) }
 {
     let mut sites: [u16; SITES_MOST] = [0; SITES_MOST];
     let count = offsets_of(image, RecordKind::Site, &mut sites);
@@ -118,8 +106,8 @@ fn is_site_half_good(image: &[u8]) -> bool
 
 // No two subnets have one address and prefix. Called after the halves and not in one of them, so that the arrays do not add up.
 fn are_subnets_unique(image: &[u8]) -> bool
-    requires { ⌜ length (now image) ≤ imageMost ⌝ }
-    ensures { λ r. ⌜ r ≡ subnetsUnique (tableFrom (now (image .entry)) .subnets) ⌝ }
+    requires { length image.now ≤ image_most }
+    ensures { result ≡ subnets_unique (table_from image.now).subnets }
 {
     let mut subnets: [u16; subnet::MOST] = [0; subnet::MOST];
     let count = offsets_of(image, RecordKind::Subnet, &mut subnets);
@@ -128,8 +116,8 @@ fn are_subnets_unique(image: &[u8]) -> bool
 
 // Whether the table is good as a whole, for an image of a whole block at least.
 pub fn good_whole(image: &[u8]) -> bool
-    requires { ⌜ (blockSize ≤ length (now image)) × (length (now image) ≤ imageMost) ⌝ }
-    ensures { λ r. ⌜ r ≡ goodWhole (tableFrom (now (image .entry))) ⌝ }
+    requires { (block_size ≤ length image.now) × (length image.now ≤ image_most) }
+    ensures { result ≡ good_whole (table_from image.now) }
 {
     if !is_context_half_good(image) {
         return false;

@@ -1,8 +1,9 @@
 // UTF-16LE, code point by code point. The offset after one is told with it: worked out from the code point, it would make each turn of
 // a loop wait for what the last one read.
-ghost use Rattle·transcode·specs.specs.Internal.Point16.{PointRead16};
+ghost use Rattle.transcode.specs.Internal.Point16.{PointRead16};
+
 use octets::number::u16_at;
-use unicode::utf8::PointAt;
+use unicode_text::utf8::PointAt;
 
 const FIRST_HIGH: u32 = 0xD800;
 
@@ -12,7 +13,7 @@ const AFTER_LOW: u32 = 0xE000;
 
 // What stands at an offset: the text's end, half a unit or a lone surrogate, or a code point and the offset after it.
 pub fn point16_at(s: &[u8], at: usize) -> PointAt
-    ensures { λ r. ⌜ PointRead16 (now (s .entry)) at r ⌝ }
+    ensures { PointRead16 s.now at result }
 {
     if s.len() <= at {
         return PointAt::End;

@@ -1,22 +1,22 @@
 // A UTF-16LE text as UTF-8: its size, and its octets.
-ghost use mathlib.Core.Path.{_≡_};
-ghost use Prim.Native.Nat.{_≤_, _<_};
-ghost use lib.ListN.{length};
-ghost use Rattle·octets.specs.Buffer.{over};
-ghost use Rattle·unicode.specs.Utf8.{utf8Of};
-ghost use Rattle·unicode.specs.Internal.Point.{pointLimit};
-ghost use Rattle·transcode·specs.specs.Internal.Text8.{utf8Text, SizeTold};
+ghost use Rattle.std.specs.Prelude.{◌≡◌, ◌≤◌, ◌<◌, length};
+ghost use Rattle.octets.specs.Buffer.{over};
+ghost use Rattle.unicode_text.specs.Utf8.{utf8_of};
+ghost use Rattle.unicode_text.specs.Internal.Point.{point_limit};
+ghost use Rattle.transcode.specs.Internal.Text8.{utf8_text, SizeTold};
+
 use crate::point16::point16_at;
-use unicode::utf8::PointAt;
+use unicode_text::utf8::PointAt;
 
 // How many octets a text takes, or that it is none.
+#[derive(Drop)]
 pub enum Size8 {
     NoText,
     Takes(usize),
 }
 
 fn width(point: u32) -> usize
-    ensures { λ r. ⌜ (r ≡ length (utf8Of point)) × (r ≤ 4) ⌝ }
+    ensures { (result ≡ length (utf8_of point)) × (result ≤ 4) }
 {
     if point < 0x80 {
         return 1;
@@ -31,7 +31,7 @@ fn width(point: u32) -> usize
 }
 
 pub fn utf8_size(s: &[u8]) -> Size8
-    ensures { λ r. ⌜ SizeTold (now (s .entry)) r ⌝ }
+    ensures { SizeTold s.now result }
 {
     let mut size = 0;
     let mut at = 0;
@@ -49,9 +49,9 @@ pub fn utf8_size(s: &[u8]) -> Size8
 }
 
 fn put_point(out: &mut [u8], point: u32) -> usize
-    requires { ⌜ (point < pointLimit) × (length (utf8Of point) ≤ length (now out)) ⌝ }
-    ensures { λ r. ⌜ r ≡ length (utf8Of point) ⌝ }
-    ensures { λ _. ⌜ now (out .exit) ≡ over (utf8Of point) (now (out .entry)) ⌝ }
+    requires { (point < point_limit) × (length (utf8_of point) ≤ length out.old) }
+    ensures value { result ≡ length (utf8_of point) }
+    ensures out_after { out.new ≡ over (utf8_of point) out.old }
 {
     if point < 0x80 {
         out[0] = point as u8;
@@ -77,9 +77,9 @@ fn put_point(out: &mut [u8], point: u32) -> usize
 
 // A text at the front of a buffer; nothing where it is none, which is known before an octet is written.
 pub fn put_utf8(out: &mut [u8], s: &[u8]) -> usize
-    requires { ⌜ length (utf8Text (now s)) ≤ length (now out) ⌝ }
-    ensures { λ r. ⌜ r ≡ length (utf8Text (now (s .entry))) ⌝ }
-    ensures { λ _. ⌜ now (out .exit) ≡ over (utf8Text (now (s .entry))) (now (out .entry)) ⌝ }
+    requires { length (utf8_text s.now) ≤ length out.old }
+    ensures value { result ≡ length (utf8_text s.now) }
+    ensures out_after { out.new ≡ over (utf8_text s.now) out.old }
 {
     let told = utf8_size(s);
     let size = match told {

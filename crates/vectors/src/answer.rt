@@ -1,21 +1,20 @@
 // The answer to one request line.
-ghost use Prim.Native.Nat.{_≤_};
-use crate::filter_lines::answer_filter;
-use crate::filter_lines::answer_values;
+ghost use Rattle.std.specs.Prelude.{◌≤◌};
+
+use crate::filter_lines::{answer_filter, answer_values};
 use crate::ping_lines::answer_ping_line;
 use crate::write::answer_write;
 use console::digits::decode;
 use console::field::field_number;
 use console::say::say;
-use line_words::words::is_octets;
-use line_words::words::say_numbers;
-use line_words::words::say_unknown;
-use line_words::words::word;
+use line_words::words::{is_octets, say_numbers, say_unknown, word};
 use mailslot_lines::read::answer_mailslot_line;
 use mailslot_lines::write::answer_mailwrite_line;
 use octets::part::part;
 use reply_lines::read::answer_read;
 use reply_lines::walk::answer_walk;
+use std::io;
+use std::io::Write;
 
 // The longest line that is read, without its LF.
 const LONGEST: usize = 140100;
@@ -46,7 +45,7 @@ const MAILWRITE: usize = 10;
 const UNKNOWN: usize = 11;
 
 fn spaces_in(x: u8) -> usize
-    ensures { λ r. ⌜ r ≤ 1 ⌝ }
+    ensures { result ≤ 1 }
 {
     if x == b' ' { 1 } else { 0 }
 }
@@ -97,82 +96,100 @@ fn octets_place(kind: usize) -> usize {
     }
 }
 
-fn answer_check(block: &[u8]) {
+fn answer_check<W: Write>(to: &mut W, block: &[u8]) -> io::Result<()> {
     if block.len() != 508 {
-        say_unknown();
-        return;
+        say_unknown(to)?;
+        return Ok(());
     }
     let check = table_check::check::check_of(block);
     let numbers = [check.a as u64, check.b as u64];
-    say_numbers(b"check", &numbers);
+    say_numbers(to, b"check", &numbers)
 }
 
 // Judges the image of a `table` line.
-fn answer_table(image: &[u8]) {
+fn answer_table<W: Write>(to: &mut W, image: &[u8]) -> io::Result<()> {
     let judgement = table_whole::judge::judge(image);
     let numbers = [table_whole::judge::judgement_number(judgement) as u64];
-    say_numbers(b"table", &numbers);
+    say_numbers(to, b"table", &numbers)
 }
 
 // A line whose octets are decoded.
-fn answer_octets<'a>(kind: usize, line: &[u8], image: &'a [u8], octets: &'a [u8]) {
+fn answer_octets<'a, W: Write>(
+    to: &mut W,
+    kind: usize,
+    line: &[u8],
+    image: &'a [u8],
+    octets: &'a [u8],
+) -> io::Result<()> {
     match kind {
-        CHECK => answer_check(octets),
-        FILTER => answer_filter(octets),
-        VALUES => answer_values(octets),
-        WALK => answer_walk(line, octets),
-        PING | MAILPING => answer_ping_line(line, image, octets),
-        READ => answer_read(line, octets),
-        MAILSLOT => answer_mailslot_line(octets),
-        _ => say_unknown(),
+        CHECK => answer_check(to, octets),
+        FILTER => answer_filter(to, octets),
+        VALUES => answer_values(to, octets),
+        WALK => answer_walk(to, line, octets),
+        PING | MAILPING => answer_ping_line(to, line, image, octets),
+        READ => answer_read(to, line, octets),
+        MAILSLOT => answer_mailslot_line(to, octets),
+        _ => say_unknown(to),
     }
 }
 
 // A line of a call that writes: its texts are put into the space.
-fn answer_writing(kind: usize, line: &[u8], space: &mut [u8]) {
+fn answer_writing<W: Write>(
+    to: &mut W,
+    kind: usize,
+    line: &[u8],
+    space: &mut [u8],
+) -> io::Result<()> {
     if kind == WRITE {
-        answer_write(line, space);
-        return;
+        answer_write(to, line, space)?;
+        return Ok(());
     }
-    answer_mailwrite_line(line, space);
+    answer_mailwrite_line(to, line, space)
 }
 
 // Answers a line, and puts the image of a `table` line in place of the one that stood: how many octets of it stand for the next line.
-fn answer_kind(
+fn answer_kind<W: Write>(
+    to: &mut W,
     kind: usize,
     line: &[u8],
     image: &mut [u8],
     standing: usize,
     space: &mut [u8],
-) -> usize {
+) -> io::Result<usize> {
     if (kind == WRITE) | (kind == MAILWRITE) {
-        answer_writing(kind, line, space);
-        return standing;
+        answer_writing(to, kind, line, space)?;
+        return Ok(standing);
     }
     let text = word(line, octets_place(kind));
     if !is_octets(text) {
-        say_unknown();
-        return standing;
+        say_unknown(to)?;
+        return Ok(standing);
     }
     if kind == TABLE {
         let n = decode(text, image);
-        answer_table(part(image, 0, n));
-        return n;
+        answer_table(to, part(image, 0, n))?;
+        return Ok(n);
     }
     let n = decode(text, space);
-    answer_octets(kind, line, part(image, 0, standing), part(space, 0, n));
-    standing
+    answer_octets(to, kind, line, part(image, 0, standing), part(space, 0, n))?;
+    Ok(standing)
 }
 
 // Answers a line, which comes without its LF, over the image that stands. An empty line and one that begins with # have no answer.
-pub fn answer_line(line: &[u8], image: &mut [u8], standing: usize, space: &mut [u8]) -> usize {
+pub fn answer_line<W: Write>(
+    to: &mut W,
+    line: &[u8],
+    image: &mut [u8],
+    standing: usize,
+    space: &mut [u8],
+) -> io::Result<usize> {
     if line.len() == 0 {
-        return standing;
+        return Ok(standing);
     }
     if (line[0] == b'#') & (line.len() <= LONGEST) {
-        return standing;
+        return Ok(standing);
     }
-    let now = answer_kind(kind_of(line), line, image, standing, space);
-    say(b"\n");
-    now
+    let now = answer_kind(to, kind_of(line), line, image, standing, space)?;
+    say(to, b"\n")?;
+    Ok(now)
 }

@@ -1,46 +1,38 @@
 // `filter` and `values` lines: a filter is taken apart, and its values are judged.
-use console::say::say;
-use console::say::say_bits;
-use filter::request::CLAUSE_COUNT;
-use filter::request::Clause;
-use filter::request::Request;
-use filter::request::clause_name_at;
-use filter_read::read::Taken;
-use filter_read::read::take_apart;
-use filter_read::read::taken_number;
-use filter_read::value::Judged;
-use filter_read::value::judge_values;
-use filter_read::value::judged_number;
-use filter_read::value::judged_version;
+use console::say::{say, say_bits};
+use filter::request::{CLAUSE_COUNT, Clause, Request, clause_name_at};
+use filter_read::read::{Taken, take_apart, taken_number};
+use filter_read::value::{Judged, judge_values, judged_number, judged_version};
 use line_words::text::say_text;
 use line_words::words::say_numbers;
 use octets::part::part;
+use std::io;
+use std::io::Write;
 
-fn say_clause(filter: &[u8], clause: Clause) {
+fn say_clause<W: Write>(to: &mut W, filter: &[u8], clause: Clause) -> io::Result<()> {
     match clause {
-        Clause::Absent => say(b" ."),
-        Clause::Present { start, len } => {
-            say_text(part(filter, start, len));
-        }
+        Clause::Absent => say(to, b" ."),
+        Clause::Present { start, len } => say_text(to, part(filter, start, len)),
     }
 }
 
-fn say_request(filter: &[u8], request: Request) {
+fn say_request<W: Write>(to: &mut W, filter: &[u8], request: Request) -> io::Result<()> {
     let mut i = 0;
     while i < CLAUSE_COUNT {
-        say_clause(filter, request.clause(clause_name_at(i)));
+        say_clause(to, filter, request.clause(clause_name_at(i)))?;
         i += 1;
     }
+    Ok(())
 }
 
 // The clauses of a refused filter are all absent.
-pub fn answer_filter(filter: &[u8]) {
+pub fn answer_filter<W: Write>(to: &mut W, filter: &[u8]) -> io::Result<()> {
     let taken = take_apart(filter);
     let numbers = [taken_number(taken) as u64];
-    say_numbers(b"filter", &numbers);
+    say_numbers(to, b"filter", &numbers)?;
     match taken {
-        Taken::Request(request) => say_request(filter, request),
-        Taken::Refused(_) => say(b" . . . . . . . ."),
+        Taken::Request(request) => say_request(to, filter, request),
+        Taken::Refused(_) => say(to, b" . . . . . . . ."),
     }
 }
 
@@ -52,10 +44,10 @@ fn judged(filter: &[u8]) -> Judged {
     }
 }
 
-pub fn answer_values(filter: &[u8]) {
+pub fn answer_values<W: Write>(to: &mut W, filter: &[u8]) -> io::Result<()> {
     let answer = judged(filter);
     let numbers = [judged_number(answer) as u64];
-    say_numbers(b"values", &numbers);
-    say(b" ");
-    say_bits(judged_version(answer));
+    say_numbers(to, b"values", &numbers)?;
+    say(to, b" ")?;
+    say_bits(to, judged_version(answer))
 }

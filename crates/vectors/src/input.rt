@@ -1,65 +1,88 @@
-// Standard input, octet by octet, gathered into lines.
-ghost use Prim.Native.Nat.{_≤_};
-ghost use lib.ListN.{length};
+// A reader, octet by octet, gathered into lines.
+ghost use Rattle.std.specs.Prelude.{◌≡◌, ◌≤◌, IfErr, IfOk, length};
+
 use crate::answer::answer_line;
-use libc::STDIN_FILENO;
+use std::io;
+use std::io::{Read, Write};
 
 // How many octets are kept: of the line so far, and of the image that stands.
+#[derive(Drop)]
 struct Kept {
     line: usize,
     image: usize,
 }
 
-// Takes one octet: an LF ends the line; another is kept while there is room, so that a line that fills it is too long.
-fn take_octet(x: u8, line: &mut [u8], image: &mut [u8], space: &mut [u8], kept: Kept) -> Kept
-    requires { ⌜ kept .line ≤ length (now line) ⌝ }
-    ensures { λ r. ⌜ r .line ≤ length (now (line .entry)) ⌝ }
+// Takes one octet: an LF ends the line; another is kept while there is room, so that a line that fills it is too long. An error is the
+// writer's, of the line's answer.
+fn take_octet<W: Write>(
+    to: &mut W,
+    x: u8,
+    line: &mut [u8],
+    image: &mut [u8],
+    space: &mut [u8],
+    kept: Kept,
+) -> io::Result<Kept>
+    requires { kept.line ≤ length line.old }
+    ensures taken { IfOk result (λ latest. latest.line ≤ length line.old) }
+    ensures failed { IfErr result (λ error. line.new ≡ line.old) }
 {
     let len = kept.line;
     if x == 10 {
-        return Kept {
+        return Ok(Kept {
             line: 0,
-            image: answer_line(&line[..len], image, kept.image, space),
-        };
+            image: answer_line(to, &line[..len], image, kept.image, space)?,
+        });
     }
     if len < line.len() {
         line[len] = x;
         let longer = len + 1;
-        return Kept {
+        return Ok(Kept {
             line: longer,
             image: kept.image,
-        };
+        });
     }
-    kept
+    Ok(kept)
 }
 
-fn take_all(octets: &[u8], line: &mut [u8], image: &mut [u8], space: &mut [u8], kept: Kept) -> Kept
-    requires { ⌜ kept .line ≤ length (now line) ⌝ }
-    ensures { λ r. ⌜ r .line ≤ length (now (line .entry)) ⌝ }
+// Takes the octets in turn, up to the first error, which is the writer's.
+fn take_all<W: Write>(
+    to: &mut W,
+    octets: &[u8],
+    line: &mut [u8],
+    image: &mut [u8],
+    space: &mut [u8],
+    kept: Kept,
+) -> io::Result<Kept>
+    requires { kept.line ≤ length line.old }
+    ensures { IfOk result (λ latest. latest.line ≤ length line.old) }
 {
     let mut latest = kept;
     let mut i = 0;
     while i < octets.len() {
-        latest = take_octet(octets[i], line, image, space, latest);
+        latest = take_octet(to, octets[i], line, image, space, latest)?;
         i += 1;
     }
-    latest
+    Ok(latest)
 }
 
-// A proved loop has to end, so the reads are counted down from a number that no input uses up.
-pub fn answer_all(line: &mut [u8], image: &mut [u8], space: &mut [u8]) {
+// A proved loop has to end, so the reads are counted up to a number that no input uses up.
+pub fn answer_all<R: Read, W: Write>(
+    from: &mut R,
+    to: &mut W,
+    line: &mut [u8],
+    image: &mut [u8],
+    space: &mut [u8],
+) -> io::Result<()> {
     let mut chunk = [0u8; 65536];
     let mut kept = Kept { line: 0, image: 0 };
-    let mut turns = u64::MAX;
-    while turns > 0 {
-        let got = libc::read(STDIN_FILENO, &mut chunk);
-        let count = io::count(got, &chunk);
+    for _ in 0..u64::MAX {
+        let count = from.read(&mut chunk)?;
         if count == 0 {
             break;
         }
-        kept = take_all(&chunk[..count], line, image, space, kept);
-        turns -= 1;
+        kept = take_all(to, &chunk[..count], line, image, space, kept)?;
     }
     let len = kept.line;
-    answer_line(&line[..len], image, kept.image, space);
+    answer_line(to, &line[..len], image, kept.image, space)?;
+    Ok(())
 }

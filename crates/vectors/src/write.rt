@@ -1,33 +1,28 @@
 // `write` lines: a filter is written from eight clauses.
-ghost use Prim.Native.Nat.{_≤_};
-ghost use lib.ListN.{length};
-use filter::request::CLAUSE_COUNT;
-use filter::request::Clause;
-use filter::request::Request;
-use filter::request::clause_name_at;
-use filter::request::no_clauses;
+ghost use Rattle.std.specs.Prelude.{◌≤◌, length};
+
+use filter::request::{CLAUSE_COUNT, Clause, Request, clause_name_at, no_clauses};
 use filter_write::write::write_filter;
-use line_words::buffer::filled;
-use line_words::buffer::is_room;
-use line_words::buffer::room_of;
-use line_words::text::is_text;
-use line_words::text::take_text;
-use line_words::words::say_unknown;
-use line_words::words::say_written;
-use line_words::words::word;
+use line_words::buffer::{filled, is_room, room_of};
+use line_words::text::{is_text, take_text};
+use line_words::words::{say_unknown, say_written, word};
 use octets::part::part;
 use octets::text::same_octets;
+use std::io;
+use std::io::Write;
 
 const ROOM: usize = 1;
 
 // The word of the first clause.
 const FIRST_CLAUSE: usize = 2;
 
+#[derive(Drop)]
 enum ClauseWord {
     Bad,
     Clause(Clause),
 }
 
+#[derive(Drop)]
 enum RequestWords {
     Bad,
     Request(Request),
@@ -63,23 +58,29 @@ fn request_in(line: &[u8], source: &mut [u8]) -> RequestWords {
     RequestWords::Request(request)
 }
 
-fn write_into(source: &[u8], request: Request, out: &mut [u8], room: usize)
-    requires { ⌜ room ≤ length (now out) ⌝ }
+fn write_into<W: Write>(
+    to: &mut W,
+    source: &[u8],
+    request: Request,
+    out: &mut [u8],
+    room: usize,
+) -> io::Result<()>
+    requires { room ≤ length out.old }
 {
     let start = 0;
     let written = write_filter(source, request, &mut out[start..room]);
-    say_written(b"write", written, part(out, start, room));
+    say_written(to, b"write", written, part(out, start, room))
 }
 
-pub fn answer_write(line: &[u8], space: &mut [u8]) {
+pub fn answer_write<W: Write>(to: &mut W, line: &[u8], space: &mut [u8]) -> io::Result<()> {
     if !is_room(word(line, ROOM)) {
-        say_unknown();
-        return;
+        say_unknown(to)?;
+        return Ok(());
     }
     let RequestWords::Request(request) = request_in(line, space) else {
-        say_unknown();
-        return;
+        say_unknown(to)?;
+        return Ok(());
     };
     let mut out = filled();
-    write_into(space, request, &mut out, room_of(word(line, ROOM)));
+    write_into(to, space, request, &mut out, room_of(word(line, ROOM)))
 }

@@ -1,15 +1,17 @@
 // The exported calls that ask something of their caller: that the image passed 1 to 4. A library of its own, which only a table that was made by judging links:
 // include/locator_table.h for C, `Table` of bindings/rust.
-ghost use Rattle·c_promises.specs.Calls.{ExportedAnswerPing, ExportedAnswerMailslot};
-ghost use Rattle·table_whole.specs.Judgement.{Accepted};
-use c_answer::answer::ANSWER_MEMBERS;
-use c_answer::answer::answer_members;
+#![tactic(auto)]
+
+ghost use Rattle.c_promises.specs.Calls.{ExportedAnswerPing, ExportedAnswerMailslot};
+ghost use Rattle.table_whole.specs.Judgement.{Accepted};
+
+use c_answer::answer::{ANSWER_MEMBERS, answer_members};
 use locator::accepted::answer_accepted;
 use locator::answer_number;
 use mailslot_answer::accepted::answer_mailslot_accepted;
 use table::Caller;
 
-#[no_mangle]
+#[unsafe(no_mangle)]
 pub extern "C" fn vinegarjar_answer_ping_on_accepted_image<'a>(
     image: &'a [u8],
     client: &[u8; 4],
@@ -17,8 +19,8 @@ pub extern "C" fn vinegarjar_answer_ping_on_accepted_image<'a>(
     reply: &mut [u8],
     answer: &mut [usize; ANSWER_MEMBERS],
 ) -> u8
-    requires { ⌜ Accepted (now image) ⌝ }
-    ensures { λ r. ⌜ ExportedAnswerPing (now (image .entry)) (now (client .entry)) (now (filter .entry)) (now (reply .entry)) (now (reply .exit)) (now (answer .exit)) r ⌝ }
+    requires { Accepted image.now }
+    ensures { ExportedAnswerPing image.now client.now filter.now reply.old reply.new answer.new result }
 {
     let caller = Caller { address: *client };
     let given = answer_accepted(image, caller, filter, reply);
@@ -26,7 +28,7 @@ pub extern "C" fn vinegarjar_answer_ping_on_accepted_image<'a>(
     answer_number(given)
 }
 
-#[no_mangle]
+#[unsafe(no_mangle)]
 pub extern "C" fn vinegarjar_answer_mailslot_on_accepted_image<'a>(
     image: &'a [u8],
     client: &[u8; 4],
@@ -34,8 +36,8 @@ pub extern "C" fn vinegarjar_answer_mailslot_on_accepted_image<'a>(
     reply: &mut [u8],
     answer: &mut [usize; ANSWER_MEMBERS],
 ) -> u8
-    requires { ⌜ Accepted (now image) ⌝ }
-    ensures { λ r. ⌜ ExportedAnswerMailslot (now (image .entry)) (now (client .entry)) (now (message .entry)) (now (reply .entry)) (now (reply .exit)) (now (answer .exit)) r ⌝ }
+    requires { Accepted image.now }
+    ensures { ExportedAnswerMailslot image.now client.now message.now reply.old reply.new answer.new result }
 {
     let caller = Caller { address: *client };
     let given = answer_mailslot_accepted(image, caller, message, reply);

@@ -1,235 +1,235 @@
 -- Laws of the order of account names: which are the same, which come before, how a pair is read from its ranks on, and what of both is alike.
-use mathlib.Core.Path.{_≡_, refl, sym, ap, ap₂, _∙_, subst}
-use mathlib.Core.Bool.{Bool, true, false, _&&_, and-false}
-use mathlib.Core.List.{List, [], _∷_}
+use mathlib.Core.Path.{◌≡◌, refl, sym, ap, ap₂, ◌∙◌, subst}
+use mathlib.Core.Bool.{Bool, true, false, ◌&&◌, and-false}
+use mathlib.Core.List.{List, [], ◌∷◌}
 use mathlib.Core.Option.{Option, none, some}
-use Prim.Native.Nat.{ℕ, zero, suc, _+_, _≤_, _<_}
-use native.Mathlib.Nat.{not-suc-le-zero, le-of-suc-le-suc}
+use Prim.Native.Nat.{ℕ, zero, suc, ◌+◌, ◌≤◌, ◌<◌}
+use native.Mathlib.Nat.{not-suc-le-zero, le_of_suc-le-suc}
 use native.Mathlib.Numerals.{add-one}
 use native.Mathlib.Omega.{arith}
-use lib.ListN.{length, getD, drop, drop-of-length-le}
+use lib.ListN.{length, get_or, drop, drop_of_length-le}
 use lib.Dec.{eqb, leb, ltb}
 use borrow.Author.Tests.{le-leb, lt-leb, leb-true, lt-ltb, ltb-true, ltb-false, eqb-false}
-use Rattle·octets.specs.Fold.{foldPoint, foldPoints}
-use Rattle·octets.specs.Lists.{isSome, holds}
-use Rattle·octets.specs.Text.{same, lower}
-use Rattle·octets.proofs.Laws.Lists.{none-not-some, true-not-false}
-use Rattle·octets.proofs.Laws.Text.{same-sym, same-equal}
-use Rattle·unicode.specs.Utf8.{points, isUtf8}
-use Rattle·unicode.specs.declared.utf8.PointAt.the-variants.{Bad, Point}
-use Rattle·unicode.specs.Internal.Point.{pointLimit, readableFrom, PointRead, CodeRead, sizeOf}
-use Rattle·unicode.proofs.Laws.Point.{lead-one, end-points, some-more, readable-points}
-use Rattle·account_names·specs.specs.declared.compare.Ordering.{Ordering}
-use Rattle·account_names·specs.specs.declared.compare.Ordering.the-variants.{Less, Equal, Greater}
-use Rattle·account_names·specs.specs.AccountName.{foldedText, sameAccountName}
-use Rattle·account_names·specs.specs.Internal.Ordering.{compareNumbers, andThen, compare, isEqual}
-use Rattle·account_names·specs.specs.Internal.NameOrder.{nameKey, equalIf, compareNames, RankRead, GoesOn, Alike}
-use Rattle·folding.proofs.Laws.Fold.{fold-ascii}
-use Rattle·account_names·proofs.proofs.Laws.Ordering.{compare-equal, compare-passes, head-less, head-greater, head-equal}
+use Rattle.octets.specs.Fold.{fold_point, fold_points}
+use Rattle.octets.specs.Lists.{is_some, holds}
+use Rattle.octets.specs.Text.{same, lower}
+use Rattle.octets.proofs.Laws.Lists.{none_not_some, true_not_false}
+use Rattle.octets.proofs.Laws.Text.{same_sym, same_equal}
+use Rattle.unicode_text.specs.Utf8.{points, is_utf8}
+use Rattle.unicode_text.specs.declared.utf8.PointAt.TheVariants.{Bad, Point}
+use Rattle.unicode_text.specs.Internal.Point.{point_limit, readable_from, PointRead, CodeRead, size_of}
+use Rattle.unicode_text.proofs.Laws.Point.{lead-one, end-points, some_more, readable-points}
+use Rattle.account_names.specs.declared.compare.Ordering.{Ordering}
+use Rattle.account_names.specs.declared.compare.Ordering.TheVariants.{Less, Equal, Greater}
+use Rattle.account_names.specs.AccountName.{folded_text, same_account_name}
+use Rattle.account_names.specs.Internal.Ordering.{compare_numbers, and_then, compare, is_equal}
+use Rattle.account_names.specs.Internal.NameOrder.{name_key, equal_if, compare_names, RankRead, GoesOn, Alike}
+use Rattle.folding.proofs.Laws.Fold.{fold_ascii}
+use Rattle.account_names.proofs.Laws.Ordering.{compare_equal, compare_passes, head_less, head_greater, head_equal}
 
-equal-if-not : (o : Ordering) → isEqual (equalIf false o) ≡ false
-equal-if-not Less = refl
-equal-if-not Equal = refl
-equal-if-not Greater = refl
+equal_if_not : (o : Ordering) → is_equal (equal_if false o) ≡ false
+equal_if_not Less = refl
+equal_if_not Equal = refl
+equal_if_not Greater = refl
 
-equal-if-so : (o : Ordering) → equalIf true o ≡ o
-equal-if-so Less = refl
-equal-if-so Equal = refl
-equal-if-so Greater = refl
+equal_if_so : (o : Ordering) → equal_if true o ≡ o
+equal_if_so Less = refl
+equal_if_so Equal = refl
+equal_if_so Greater = refl
 
-less-if : (b : Bool) (o : Ordering) → equalIf b o ≡ Less → o ≡ Less
-less-if b Less e = refl
-less-if true Equal e = e
-less-if false Equal e = absurd (let z : _≡_ {A = ℕ} 0 1 = cc in omega arith)
-less-if b Greater e = absurd (let z : _≡_ {A = ℕ} 0 1 = cc in omega arith)
+less_if : (b : Bool) (o : Ordering) → equal_if b o ≡ Less → o ≡ Less
+less_if b Less e = refl
+less_if true Equal e = e
+less_if false Equal e = absurd (let z : ◌≡◌ {A = ℕ} 0 1 = cc in omega arith)
+less_if b Greater e = absurd (let z : ◌≡◌ {A = ℕ} 0 1 = cc in omega arith)
 
 -- two names compare as equal exactly where they are the same
 module _ (a b : List ℕ) where
-  pub names-equal : isEqual (compareNames a b) ≡ sameAccountName a b
-  unfolding compareNames sameAccountName foldedText isUtf8 nameKey
-  names-equal = go (points a) refl (points b) refl
+  pub names_equal : is_equal (compare_names a b) ≡ same_account_name a b
+  unfolding compare_names same_account_name folded_text is_utf8 name_key
+  names_equal = go (points a) refl (points b) refl
     where
       go : (p : Option (List ℕ)) → points a ≡ p → (q : Option (List ℕ)) → points b ≡ q
-          → isEqual (compareNames a b) ≡ sameAccountName a b
-      go none e q f = rw e (equal-if-not (compare (nameKey a) (nameKey b)))
-      go (some cs) e none f = rw (e, f) (equal-if-not (compare (nameKey a) (nameKey b)))
+          → is_equal (compare_names a b) ≡ same_account_name a b
+      go none e q f = rw e (equal_if_not (compare (name_key a) (name_key b)))
+      go (some cs) e none f = rw (e, f) (equal_if_not (compare (name_key a) (name_key b)))
       go (some cs) e (some ds) f =
-          rw (e, f, readable-points a cs e, readable-points b ds f) (ap isEqual (equal-if-so (compare (foldPoints cs) (foldPoints ds))) ∙ compare-equal (foldPoints cs) (foldPoints ds))
+          rw (e, f, readable-points a cs e, readable-points b ds f) (ap is_equal (equal_if_so (compare (fold_points cs) (fold_points ds))) ∙ compare_equal (fold_points cs) (fold_points ds))
 
-  names-less : compareNames a b ≡ Less → compare (nameKey a) (nameKey b) ≡ Less
-  unfolding compareNames
-  names-less e = less-if (isUtf8 a && isUtf8 b) (compare (nameKey a) (nameKey b)) e
+  names_less : compare_names a b ≡ Less → compare (name_key a) (name_key b) ≡ Less
+  unfolding compare_names
+  names_less e = less_if (is_utf8 a && is_utf8 b) (compare (name_key a) (name_key b)) e
 
-  keys-less : compare (nameKey a) (nameKey b) ≡ Less → compareNames a b ≡ Less
-  unfolding compareNames
-  keys-less e = rw e
+  keys_less : compare (name_key a) (name_key b) ≡ Less → compare_names a b ≡ Less
+  unfolding compare_names
+  keys_less e = rw e
 
-  keys-greater : compare (nameKey a) (nameKey b) ≡ Greater → compareNames a b ≡ Greater
-  unfolding compareNames
-  keys-greater e = rw e
+  keys_greater : compare (name_key a) (name_key b) ≡ Greater → compare_names a b ≡ Greater
+  unfolding compare_names
+  keys_greater e = rw e
 
 -- names behind a number: before is passed on
 module _ (a b : List ℕ) where
-  then-keys : (o : Ordering) → andThen o (compareNames a b) ≡ Less → andThen o (compare (nameKey a) (nameKey b)) ≡ Less
-  then-keys Less e = refl
-  then-keys Equal e = names-less a b e
-  then-keys Greater e = e
+  then_keys : (o : Ordering) → and_then o (compare_names a b) ≡ Less → and_then o (compare (name_key a) (name_key b)) ≡ Less
+  then_keys Less e = refl
+  then_keys Equal e = names_less a b e
+  then_keys Greater e = e
 
-  then-names : (o : Ordering) → andThen o (compare (nameKey a) (nameKey b)) ≡ Less → andThen o (compareNames a b) ≡ Less
-  then-names Less e = refl
-  then-names Equal e = keys-less a b e
-  then-names Greater e = e
+  then_names : (o : Ordering) → and_then o (compare (name_key a) (name_key b)) ≡ Less → and_then o (compare_names a b) ≡ Less
+  then_names Less e = refl
+  then_names Equal e = keys_less a b e
+  then_names Greater e = e
 
-pub numbered-passes : (x y z : ℕ) (a b c : List ℕ)
-    → andThen (compareNumbers x y) (compareNames a b) ≡ Less → andThen (compareNumbers y z) (compareNames b c) ≡ Less → andThen (compareNumbers x z) (compareNames a c) ≡ Less
+pub numbered_passes : (x y z : ℕ) (a b c : List ℕ)
+    → and_then (compare_numbers x y) (compare_names a b) ≡ Less → and_then (compare_numbers y z) (compare_names b c) ≡ Less → and_then (compare_numbers x z) (compare_names a c) ≡ Less
 unfolding compare
-numbered-passes x y z a b c e f =
-    then-names a c (compareNumbers x z) (compare-passes (x ∷ nameKey a) (y ∷ nameKey b) (z ∷ nameKey c) (then-keys a b (compareNumbers x y) e) (then-keys b c (compareNumbers y z) f))
+numbered_passes x y z a b c e f =
+    then_names a c (compare_numbers x z) (compare_passes (x ∷ name_key a) (y ∷ name_key b) (z ∷ name_key c) (then_keys a b (compare_numbers x y) e) (then_keys b c (compare_numbers y z) f))
 
 -- as far as two pairs of names have keys and UTF-8 alike
-names-alike : (a b s t : List ℕ) → compare (nameKey s) (nameKey t) ≡ compare (nameKey a) (nameKey b) → isUtf8 a ≡ isUtf8 s → isUtf8 b ≡ isUtf8 t → compareNames s t ≡ compareNames a b
-unfolding compareNames
-names-alike a b s t e f g = ap₂ equalIf (ap₂ _&&_ (sym f) (sym g)) e
+names_alike : (a b s t : List ℕ) → compare (name_key s) (name_key t) ≡ compare (name_key a) (name_key b) → is_utf8 a ≡ is_utf8 s → is_utf8 b ≡ is_utf8 t → compare_names s t ≡ compare_names a b
+unfolding compare_names
+names_alike a b s t e f g = ap₂ equal_if (ap₂ ◌&&◌ (sym f) (sym g)) e
 
 -- a name from its rank on: as the code reads it
 module _ (s : List ℕ) (at next : ℕ) where
-  ranked-point : (c r : ℕ) → PointRead s at (Point c next) → r ≡ foldPoint c → RankRead s at (r + 1) next
-  unfolding nameKey foldPoints isUtf8
-  ranked-point c r p e =
+  ranked_point : (c r : ℕ) → PointRead s at (Point c next) → r ≡ fold_point c → RankRead s at (r + 1) next
+  unfolding name_key fold_points is_utf8
+  ranked_point c r p e =
       subst (λ (n : ℕ). RankRead s at n next) (sym (add-one r)) (
-        p .0,
-        p .1,
-        ap foldPoints (p .4) ∙ ap (λ (n : ℕ). n ∷ nameKey (drop next s)) (sym e),
-        ap isSome (p .3) ∙ some-more c (points (drop next s)),
+        p.0,
+        p.1,
+        ap fold_points p.4 ∙ ap (λ (n : ℕ). n ∷ name_key (drop next s)) (sym e),
+        ap is_some p.3 ∙ some_more c (points (drop next s)),
       )
 
-  pub ranked-end : length s ≤ at → RankRead s at 0 next
-  unfolding nameKey foldPoints isUtf8 readableFrom
-  ranked-end h = (rw (drop-of-length-le s h), ap isSome (end-points s at h) ∙ sym (le-leb (length s) at h))
+  pub ranked_end : length s ≤ at → RankRead s at 0 next
+  unfolding name_key fold_points is_utf8 readable_from
+  ranked_end h = (rw (drop_of_length-le s h), ap is_some (end-points s at h) ∙ sym (le-leb (length s) at h))
 
-  ranked-bad : PointRead s at Bad → RankRead s at 0 next
-  unfolding nameKey foldPoints isUtf8
-  ranked-bad p = (ap foldPoints (p .1), ap isSome (p .0) ∙ go (leb (length s) at) refl)
+  ranked_bad : PointRead s at Bad → RankRead s at 0 next
+  unfolding name_key fold_points is_utf8
+  ranked_bad p = (ap fold_points p.1, ap is_some p.0 ∙ go (leb (length s) at) refl)
     where
       go : (b : Bool) → leb (length s) at ≡ b → false ≡ leb (length s) at
-      go true e = absurd (none-not-some [] (sym (p .0) ∙ end-points s at (leb-true (length s) at e)))
+      go true e = absurd (none_not_some [] (sym p.0 ∙ end-points s at (leb-true (length s) at e)))
       go false e = sym e
 
 -- two names by their ranks
 module _ (a b : List ℕ) (i j next after : ℕ) where
-  pub rank-less : (x y : ℕ) → RankRead a i x next → RankRead b j y after → x < y → Less ≡ compareNames (drop i a) (drop j b)
+  pub rank_less : (x y : ℕ) → RankRead a i x next → RankRead b j y after → x < y → Less ≡ compare_names (drop i a) (drop j b)
   unfolding compare
-  rank-less x zero p q h = absurd (not-suc-le-zero h)
-  rank-less zero (suc d) p q h = sym (keys-less (drop i a) (drop j b) (ap₂ compare (p .0) (q .2)))
-  rank-less (suc c) (suc d) p q h = sym (keys-less (drop i a) (drop j b) (ap₂ compare (p .2) (q .2) ∙ sym (head-less c d (nameKey (drop next a)) (nameKey (drop after b)) (le-of-suc-le-suc h))))
+  rank_less x zero p q h = absurd (not-suc-le-zero h)
+  rank_less zero (suc d) p q h = sym (keys_less (drop i a) (drop j b) (ap₂ compare p.0 q.2))
+  rank_less (suc c) (suc d) p q h = sym (keys_less (drop i a) (drop j b) (ap₂ compare p.2 q.2 ∙ sym (head_less c d (name_key (drop next a)) (name_key (drop after b)) (le_of_suc-le-suc h))))
 
-  pub rank-greater : (x y : ℕ) → RankRead a i x next → RankRead b j y after → y < x → Greater ≡ compareNames (drop i a) (drop j b)
+  pub rank_greater : (x y : ℕ) → RankRead a i x next → RankRead b j y after → y < x → Greater ≡ compare_names (drop i a) (drop j b)
   unfolding compare
-  rank-greater zero y p q h = absurd (not-suc-le-zero h)
-  rank-greater (suc c) zero p q h = sym (keys-greater (drop i a) (drop j b) (ap₂ compare (p .2) (q .0)))
-  rank-greater (suc c) (suc d) p q h = sym (keys-greater (drop i a) (drop j b) (ap₂ compare (p .2) (q .2) ∙ sym (head-greater c d (nameKey (drop next a)) (nameKey (drop after b)) (le-of-suc-le-suc h))))
+  rank_greater zero y p q h = absurd (not-suc-le-zero h)
+  rank_greater (suc c) zero p q h = sym (keys_greater (drop i a) (drop j b) (ap₂ compare p.2 q.0))
+  rank_greater (suc c) (suc d) p q h = sym (keys_greater (drop i a) (drop j b) (ap₂ compare p.2 q.2 ∙ sym (head_greater c d (name_key (drop next a)) (name_key (drop after b)) (le_of_suc-le-suc h))))
 
-  pub rank-next : (x : ℕ) → RankRead a i x next → RankRead b j x after → (x ≡ 0 → ⊥)
+  pub rank_next : (x : ℕ) → RankRead a i x next → RankRead b j x after → (x ≡ 0 → ⊥)
       → (i < next) × (j < after) × GoesOn a i next b j after
-  rank-next zero p q n = absurd (n refl)
-  rank-next (suc c) p q n = (
-    p .0,
-    q .0,
-    (p .1, q .1, names-alike (drop i a) (drop j b) (drop next a) (drop after b) (head-equal c c _ _ (omega arith) (omega arith) ∙ sym (ap₂ compare (p .2) (q .2))) (p .3) (q .3)),
+  rank_next zero p q n = absurd (n refl)
+  rank_next (suc c) p q n = (
+    p.0,
+    q.0,
+    (p.1, q.1, names_alike (drop i a) (drop j b) (drop next a) (drop after b) (head_equal c c _ _ (omega arith) (omega arith) ∙ sym (ap₂ compare p.2 q.2)) p.3 q.3),
   )
 
 -- neither can be read on
 module _ (a b : List ℕ) (i j : ℕ) (p : RankRead a i 0 i) (q : RankRead b j 0 j) where
-  pub ends-left : i < length a → Greater ≡ compareNames (drop i a) (drop j b)
-  unfolding compareNames compare
-  ends-left h = rw (p .0, q .0, p .1, lt-leb (length a) i h)
+  pub ends-left : i < length a → Greater ≡ compare_names (drop i a) (drop j b)
+  unfolding compare_names compare
+  ends-left h = rw (p.0, q.0, p.1, lt-leb (length a) i h)
 
-  pub ends-right : j < length b → Greater ≡ compareNames (drop i a) (drop j b)
-  unfolding compareNames compare
-  ends-right h = rw (p .0, q .0, q .1, lt-leb (length b) j h, and-false (isUtf8 (drop i a)))
+  pub ends-right : j < length b → Greater ≡ compare_names (drop i a) (drop j b)
+  unfolding compare_names compare
+  ends-right h = rw (p.0, q.0, q.1, lt-leb (length b) j h, and-false (is_utf8 (drop i a)))
 
-  pub ends-both : length a ≤ i → length b ≤ j → Equal ≡ compareNames (drop i a) (drop j b)
-  unfolding compareNames compare
-  ends-both h k = rw (p .0, q .0, p .1, q .1, le-leb (length a) i h, le-leb (length b) j k)
+  pub ends_both : length a ≤ i → length b ≤ j → Equal ≡ compare_names (drop i a) (drop j b)
+  unfolding compare_names compare
+  ends_both h k = rw (p.0, q.0, p.1, q.1, le-leb (length a) i h, le-leb (length b) j k)
 
 -- a code point of each that fold alike, of one size
-pub points-alike : (a b : List ℕ) (i j size c d : ℕ) → PointRead a i (Point c (i + size)) → PointRead b j (Point d (j + size)) → foldPoint c ≡ foldPoint d → Alike a i b j size
-points-alike a b i j size c d p q e h =
-    let left = ranked-point a i (i + size) c (foldPoint c) p refl in
-    let right = ranked-point b j (j + size) d (foldPoint c) q e in
-    rank-next a b i j (i + size) (j + size) (foldPoint c + 1) left right (λ (z : foldPoint c + 1 ≡ 0). omega (arith, z)) .2
+pub points_alike : (a b : List ℕ) (i j size c d : ℕ) → PointRead a i (Point c (i + size)) → PointRead b j (Point d (j + size)) → fold_point c ≡ fold_point d → Alike a i b j size
+points_alike a b i j size c d p q e h =
+    let left = ranked_point a i (i + size) c (fold_point c) p refl in
+    let right = ranked_point b j (j + size) d (fold_point c) q e in
+    (rank_next a b i j (i + size) (j + size) (fold_point c + 1) left right (λ (z : fold_point c + 1 ≡ 0). omega (arith, z))).2
 
 abbrev AsciiAt : List ℕ → ℕ → Type 0
-AsciiAt s at = (at < length s) × (getD s at 0 < 0x80)
+AsciiAt s at = (at < length s) × (get_or s at 0 < 0x80)
 
 -- two ASCII octets, by what they fold to
 module _ (a b : List ℕ) (i j : ℕ) (p : AsciiAt a i) (q : AsciiAt b j) where
-  pub letters-alike : lower (getD a i 0) ≡ lower (getD b j 0) → Alike a i b j 1
-  letters-alike e =
-      points-alike a b i j 1 (getD a i 0) (getD b j 0) (lead-one a i (getD a i 0) (p .0) refl (p .1)) (lead-one b j (getD b j 0) (q .0) refl (q .1)) (fold-ascii (getD a i 0) (p .1) ∙ e ∙ sym (fold-ascii (getD b j 0) (q .1)))
+  pub letters_alike : lower (get_or a i 0) ≡ lower (get_or b j 0) → Alike a i b j 1
+  letters_alike e =
+      points_alike a b i j 1 (get_or a i 0) (get_or b j 0) (lead-one a i (get_or a i 0) p.0 refl p.1) (lead-one b j (get_or b j 0) q.0 refl q.1) (fold_ascii (get_or a i 0) p.1 ∙ e ∙ sym (fold_ascii (get_or b j 0) q.1))
 
   abbrev x : ℕ
-  x = lower (getD a i 0)
+  x = lower (get_or a i 0)
 
   abbrev y : ℕ
-  y = lower (getD b j 0)
+  y = lower (get_or b j 0)
 
   left : RankRead a i (x + 1) (i + 1)
-  left = ranked-point a i (i + 1) (getD a i 0) x (lead-one a i (getD a i 0) (p .0) refl (p .1)) (sym (fold-ascii (getD a i 0) (p .1)))
+  left = ranked_point a i (i + 1) (get_or a i 0) x (lead-one a i (get_or a i 0) p.0 refl p.1) (sym (fold_ascii (get_or a i 0) p.1))
 
   right : RankRead b j (y + 1) (j + 1)
-  right = ranked-point b j (j + 1) (getD b j 0) y (lead-one b j (getD b j 0) (q .0) refl (q .1)) (sym (fold-ascii (getD b j 0) (q .1)))
+  right = ranked_point b j (j + 1) (get_or b j 0) y (lead-one b j (get_or b j 0) q.0 refl q.1) (sym (fold_ascii (get_or b j 0) q.1))
 
-  pub letters-differ : eqb x y ≡ false → isEqual (compareNames (drop i a) (drop j b)) ≡ false
-  letters-differ e = go (ltb x y) refl (ltb y x) refl
+  pub letters_differ : eqb x y ≡ false → is_equal (compare_names (drop i a) (drop j b)) ≡ false
+  letters_differ e = go (ltb x y) refl (ltb y x) refl
     where
-      go : (u : Bool) → ltb x y ≡ u → (v : Bool) → ltb y x ≡ v → isEqual (compareNames (drop i a) (drop j b)) ≡ false
-      go true f v g = let h : x < y = ltb-true x y f in sym (ap isEqual (rank-less a b i j (i + 1) (j + 1) (x + 1) (y + 1) left right (omega arith)))
-      go false f true g = let h : y < x = ltb-true y x g in sym (ap isEqual (rank-greater a b i j (i + 1) (j + 1) (x + 1) (y + 1) left right (omega arith)))
+      go : (u : Bool) → ltb x y ≡ u → (v : Bool) → ltb y x ≡ v → is_equal (compare_names (drop i a) (drop j b)) ≡ false
+      go true f v g = let h : x < y = ltb-true x y f in sym (ap is_equal (rank_less a b i j (i + 1) (j + 1) (x + 1) (y + 1) left right (omega arith)))
+      go false f true g = let h : y < x = ltb-true y x g in sym (ap is_equal (rank_greater a b i j (i + 1) (j + 1) (x + 1) (y + 1) left right (omega arith)))
       go false f false g =
           let h : y ≤ x = ltb-false x y f in
           let k : x ≤ y = ltb-false y x g in
           absurd (eqb-false x y e (omega arith))
 
 -- a code point that was decoded, ranked
-pub ranked-code : (s : List ℕ) (at size code r : ℕ) → CodeRead s at size code → (code < pointLimit → r ≡ foldPoint code + 1) × (pointLimit ≤ code → r ≡ 0) → RankRead s at r (at + size)
-ranked-code s at size code r p q = go (ltb code pointLimit) refl
+pub ranked_code : (s : List ℕ) (at size code r : ℕ) → CodeRead s at size code → (code < point_limit → r ≡ fold_point code + 1) × (point_limit ≤ code → r ≡ 0) → RankRead s at r (at + size)
+ranked_code s at size code r p q = go (ltb code point_limit) refl
   where
-    go : (b : Bool) → ltb code pointLimit ≡ b → RankRead s at r (at + size)
+    go : (b : Bool) → ltb code point_limit ≡ b → RankRead s at r (at + size)
     go true e =
-        let h : code < pointLimit = ltb-true code pointLimit e in
-        subst (λ (n : ℕ). RankRead s at n (at + size)) (sym (q .0 h)) (ranked-point s at (at + size) code (foldPoint code) (p .0 h) refl)
+        let h : code < point_limit = ltb-true code point_limit e in
+        subst (λ (n : ℕ). RankRead s at n (at + size)) (sym (q.0 h)) (ranked_point s at (at + size) code (fold_point code) (p.0 h) refl)
     go false e =
-        let h : pointLimit ≤ code = ltb-false code pointLimit e in
-        subst (λ (n : ℕ). RankRead s at n (at + size)) (sym (q .1 h)) (ranked-bad s at (at + size) (p .1 h))
+        let h : point_limit ≤ code = ltb-false code point_limit e in
+        subst (λ (n : ℕ). RankRead s at n (at + size)) (sym (q.1 h)) (ranked_bad s at (at + size) (p.1 h))
 
 -- an octet of ASCII, ranked as the code point that it is
-pub ranked-ascii : (s : List ℕ) (at r : ℕ) → AsciiAt s at → r ≡ foldPoint (getD s at 0) + 1 → RankRead s at r (at + sizeOf (getD s at 0))
-ranked-ascii s at r p e =
-    let x = getD s at 0 in
-    rw (lt-ltb x 0x80 (p .1)) (subst (λ (n : ℕ). RankRead s at n (at + 1)) (sym e) (ranked-point s at (at + 1) x (foldPoint x) (lead-one s at x (p .0) refl (p .1)) refl))
+pub ranked_ascii : (s : List ℕ) (at r : ℕ) → AsciiAt s at → r ≡ fold_point (get_or s at 0) + 1 → RankRead s at r (at + size_of (get_or s at 0))
+ranked_ascii s at r p e =
+    let x = get_or s at 0 in
+    rw (lt-ltb x 0x80 p.1) (subst (λ (n : ℕ). RankRead s at n (at + 1)) (sym e) (ranked_point s at (at + 1) x (fold_point x) (lead-one s at x p.0 refl p.1) refl))
 
 -- a character that both have
-pub decoded-alike : (a b : List ℕ) (i j size code : ℕ) → CodeRead a i size code → CodeRead b j size code → code < pointLimit → Alike a i b j size
-decoded-alike a b i j size code p q h = points-alike a b i j size code code (p .0 h) (q .0 h) refl
+pub decoded_alike : (a b : List ℕ) (i j size code : ℕ) → CodeRead a i size code → CodeRead b j size code → code < point_limit → Alike a i b j size
+decoded_alike a b i j size code p q h = points_alike a b i j size code code (p.0 h) (q.0 h) refl
 
 -- the same name is passed on
 module _ (a b : List ℕ) where
-  pub same-name-sym : sameAccountName a b ≡ sameAccountName b a
-  unfolding sameAccountName
-  same-name-sym = go (foldedText a) (foldedText b)
+  pub same-name_sym : same_account_name a b ≡ same_account_name b a
+  unfolding same_account_name
+  same-name_sym = go (folded_text a) (folded_text b)
     where
       go : (p q : Option (List ℕ)) → holds (λ s. holds (same s) q) p ≡ holds (λ s. holds (same s) p) q
       go none none = refl
       go none (some t) = refl
       go (some s) none = refl
-      go (some s) (some t) = same-sym s t
+      go (some s) (some t) = same_sym s t
 
-  pub same-name-left : (c : List ℕ) → sameAccountName a b ≡ true → sameAccountName a c ≡ sameAccountName b c
-  unfolding sameAccountName
-  same-name-left c e = go (foldedText a) (foldedText b) e
+  pub same-name-left : (c : List ℕ) → same_account_name a b ≡ true → same_account_name a c ≡ same_account_name b c
+  unfolding same_account_name
+  same-name-left c e = go (folded_text a) (folded_text b) e
     where
-      go : (p q : Option (List ℕ)) → holds (λ s. holds (same s) q) p ≡ true → holds (λ s. holds (same s) (foldedText c)) p ≡ holds (λ s. holds (same s) (foldedText c)) q
-      go none q f = absurd (true-not-false (sym f))
-      go (some s) none f = absurd (true-not-false (sym f))
-      go (some s) (some t) f = ap (λ (u : List ℕ). holds (same u) (foldedText c)) (same-equal s t f)
+      go : (p q : Option (List ℕ)) → holds (λ s. holds (same s) q) p ≡ true → holds (λ s. holds (same s) (folded_text c)) p ≡ holds (λ s. holds (same s) (folded_text c)) q
+      go none q f = absurd (true_not_false (sym f))
+      go (some s) none f = absurd (true_not_false (sym f))
+      go (some s) (some t) f = ap (λ (u : List ℕ). holds (same u) (folded_text c)) (same_equal s t f)

@@ -1,17 +1,17 @@
 -- Each number is another than 10.
-use mathlib.Core.Path.{_≡_, refl, subst}
+use mathlib.Core.Path.{◌≡◌, refl, subst}
 use mathlib.Core.Bool.{true, false}
 use native.Mathlib.Omega.{arith}
 use Prim.Native.Nat.{ℕ}
 use lib.Dec.{eqb}
-use Rattle·answers·specs.specs.declared.Refusal.{Refusal}
-use Rattle·answers·specs.specs.declared.Refusal.the-variants.{ImageLength, BlockCheck, BlockLayout, TableWhole}
-use Rattle·answers·specs.specs.declared.Refusal.the-variants.{FilterLength, FilterShape, UnknownClause, DuplicateClause, ClauseValue}
-use Rattle·answers·specs.specs.declared.Refusal.the-variants.{GuidLength, GuidNotHeld, DnsNameEmpty, DnsNameNotHeld}
-use Rattle·answers·specs.specs.declared.Refusal.the-variants.{SidShape, SidNotHeld, SidOfAnother, UserLabelEmpty, NoRoom}
-use Rattle·answers·specs.specs.declared.Refusal.the-variants.{ReplyCut, ReplyOpcode, ReplyText, ReplyFixed, ReplyLeftOver, MailslotShape}
-use Rattle·answers·specs.specs.Refusal.{number}
-use Rattle·answers·specs.specs.Retired.{TenRetired}
+use Rattle.answers.specs.declared.Refusal.{Refusal}
+use Rattle.answers.specs.declared.Refusal.TheVariants.{ImageLength, BlockCheck, BlockLayout, TableWhole}
+use Rattle.answers.specs.declared.Refusal.TheVariants.{FilterLength, FilterShape, UnknownClause, DuplicateClause, ClauseValue}
+use Rattle.answers.specs.declared.Refusal.TheVariants.{GuidLength, GuidNotHeld, DnsNameEmpty, DnsNameNotHeld}
+use Rattle.answers.specs.declared.Refusal.TheVariants.{SidShape, SidNotHeld, SidOfAnother, UserLabelEmpty, NoRoom}
+use Rattle.answers.specs.declared.Refusal.TheVariants.{ReplyCut, ReplyOpcode, ReplyText, ReplyFixed, ReplyLeftOver, MailslotShape}
+use Rattle.answers.specs.Refusal.{number}
+use Rattle.answers.specs.Retired.{TenRetired}
 
 another : (r : Refusal) → eqb (number r) 10 ≡ false
 another ImageLength = refl
@@ -39,5 +39,5 @@ another ReplyFixed = refl
 another ReplyLeftOver = refl
 another MailslotShape = refl
 
-pub ten-retired : TenRetired
-ten-retired r e = let clash : true ≡ false = subst (λ (n : ℕ). eqb n 10 ≡ false) e (another r) in let z : _≡_ {A = ℕ} 0 1 = cc in omega arith
+pub ten_retired : TenRetired
+ten_retired r e = let clash : true ≡ false = subst (λ (n : ℕ). eqb n 10 ≡ false) e (another r) in let z : ◌≡◌ {A = ℕ} 0 1 = cc in omega arith

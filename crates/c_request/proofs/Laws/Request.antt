@@ -1,23 +1,23 @@
 -- A clause is what its members say.
-use mathlib.Core.Path.{_≡_, refl}
+use mathlib.Core.Path.{◌≡◌, refl}
 use lib.Dec.{eqb}
-use Rattle·filter.specs.declared.request.Clause.{Clause}
-use Rattle·filter.specs.declared.request.Clause.the-variants.{Absent, Present}
-use Rattle·c_request·specs.specs.Request.{clauseUnless, presence, startOf, lengthOf, RequestHandedOn}
+use Rattle.filter.specs.declared.request.Clause.{Clause}
+use Rattle.filter.specs.declared.request.Clause.TheVariants.{Absent, Present}
+use Rattle.c_request.specs.Request.{clause_unless, presence, start_of, length_of, RequestHandedOn}
 
-clause-again : (c : Clause) → clauseUnless (eqb (presence c) 0) (startOf c) (lengthOf c) ≡ c
-clause-again Absent = refl
-clause-again (Present start len) = refl
+clause_again : (c : Clause) → clause_unless (eqb (presence c) 0) (start_of c) (length_of c) ≡ c
+clause_again Absent = refl
+clause_again (Present start len) = refl
 
-pub request-handed-on : RequestHandedOn
-request-handed-on r =
+pub request_handed_on : RequestHandedOn
+request_handed_on r =
     rw (
-      clause-again (r .«dns_domain»),
-      clause-again (r .«host»),
-      clause-again (r .«dns_host_name»),
-      clause-again (r .«user»),
-      clause-again (r .«aac»),
-      clause-again (r .«domain_sid»),
-      clause-again (r .«domain_guid»),
-      clause-again (r .«nt_ver»),
+      clause_again r.dns_domain,
+      clause_again r.«host»,
+      clause_again r.dns_host_name,
+      clause_again r.«user»,
+      clause_again r.«aac»,
+      clause_again r.domain_sid,
+      clause_again r.domain_guid,
+      clause_again r.nt_ver,
     )

@@ -1,9 +1,7 @@
 -- A clause's members, stored one after the other.
-use mathlib.Core.List.{List}
-use Prim.Native.Nat.{ℕ, _+_}
-use lib.ListN.{set}
-use Rattle·filter.specs.declared.request.Clause.{Clause}
-use Rattle·c_request·specs.specs.Request.{presence, startOf, lengthOf}
+use Rattle.std.specs.Prelude.{List, ℕ, ◌+◌, set}
+use Rattle.filter.specs.declared.request.Clause.{Clause}
+use Rattle.c_request.specs.Request.{presence, start_of, length_of}
 
-abbrev pub clausePut : List ℕ → ℕ → Clause → List ℕ
-clausePut d at c = set (set (set d at (presence c)) (at + 1) (startOf c)) (at + 2) (lengthOf c)
+abbrev pub clause_put : List ℕ → ℕ → Clause → List ℕ
+clause_put d at c = set (set (set d at (presence c)) (at + 1) (start_of c)) (at + 2) (length_of c)

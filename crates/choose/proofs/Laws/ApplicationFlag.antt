@@ -1,31 +1,31 @@
 -- Without DnsDomain only the flags around the application flag are left, and none of them has its bit.
-use mathlib.Core.Path.{_≡_, ap}
+use mathlib.Core.Path.{◌≡◌, ap}
 use mathlib.Core.Bool.{Bool, false}
 use mathlib.Core.Option.{none}
-use Prim.Native.Nat.{ℕ, _+_, _*_, _/_, _%_, _<_}
+use Prim.Native.Nat.{ℕ, ◌+◌, ◌*◌, ◌/◌, ◌%◌, ◌<◌}
 use native.Mathlib.Omega.{arith}
-use lib.Bits.{bitAnd, and-high}
-use Rattle·answers.specs.Wire.{DS-NDNC-FLAG}
-use Rattle·filter_read.specs.Value.{Ping}
-use Rattle·octets.specs.Number.{has}
-use Rattle·table.specs.Table.{Table}
-use Rattle·choose·specs.specs.ApplicationFlag.{ApplicationFlag}
-use Rattle·choose·specs.specs.Choose.{namesApplication, flag, exFlags}
-use Rattle·choose·proofs.proofs.Laws.Choose.{flags-around}
+use lib.Bits.{bit_and, and_high}
+use Rattle.answers.specs.Wire.{ds_ndnc_flag}
+use Rattle.filter_read.specs.Value.{Ping}
+use Rattle.octets.specs.Number.{has}
+use Rattle.table.specs.Table.{Table}
+use Rattle.choose.specs.ApplicationFlag.{ApplicationFlag}
+use Rattle.choose.specs.Choose.{names_application, flag, ex_flags}
+use Rattle.choose.proofs.Laws.Choose.{flags_around}
 
-bit-clear : (x low high : ℕ) → low < 0x400 → x ≡ low + high * 0x800 → has x DS-NDNC-FLAG ≡ false
+bit_clear : (x low high : ℕ) → low < 0x400 → x ≡ low + high * 0x800 → has x ds_ndnc_flag ≡ false
 unfolding has
-bit-clear x low high h e =
+bit_clear x low high h e =
     let z : x / 0x400 % 2 ≡ 0 = omega arith in
-    let b : bitAnd x DS-NDNC-FLAG ≡ x / 0x400 % 2 * 0x400 = and-high x 1 10 in
+    let b : bit_and x ds_ndnc_flag ≡ x / 0x400 % 2 * 0x400 = and_high x 1 10 in
     rw (b, z)
 
-none-named : (t : Table) (p : Ping) → p .dnsDomain ≡ none → namesApplication t p ≡ false
-unfolding namesApplication
-none-named t p e = rw e
+none_named : (t : Table) (p : Ping) → p.dns_domain_lem ≡ none → names_application t p ≡ false
+unfolding names_application
+none_named t p e = rw e
 
 pub application-flag : ApplicationFlag
 application-flag t p site e =
-    let f = flags-around t p site in
-    let unset : flag (namesApplication t p) DS-NDNC-FLAG ≡ 0 = ap (λ (b : Bool). flag b DS-NDNC-FLAG) (none-named t p e) in
-    bit-clear (exFlags t p site) (f .low) (f .high) (f .lowBelow) (omega (arith, f .sum, unset))
+    let f = flags_around t p site in
+    let unset : flag (names_application t p) ds_ndnc_flag ≡ 0 = ap (λ (b : Bool). flag b ds_ndnc_flag) (none_named t p e) in
+    bit_clear (ex_flags t p site) f.low f.high f.low_below (omega (arith, f.sum, unset))

@@ -1,37 +1,36 @@
 -- The flags by roles and two tests, in the groups that the code sums.
-use mathlib.Core.Bool.{Bool, not, _&&_}
-use Prim.Native.Nat.{ℕ, _+_}
-use Rattle·answers.specs.declared.Form.{Form}
-use Rattle·answers.specs.declared.Form.the-variants.{Nt40, Response, Ex}
-use Rattle·answers.specs.Wire.{DS-PDC-FLAG, DS-GC-FLAG, DS-LDAP-FLAG, DS-DS-FLAG, DS-KDC-FLAG, DS-TIMESERV-FLAG, DS-CLOSEST-FLAG, DS-WRITABLE-FLAG, DS-GOOD-TIMESERV-FLAG, DS-NDNC-FLAG, DS-SELECT-SECRET-DOMAIN-6-FLAG, DS-FULL-SECRET-DOMAIN-6-FLAG, DS-WS-FLAG, DS-DS-8-FLAG, DS-DS-9-FLAG}
-use Rattle·octets.specs.Number.{has}
-use Rattle·table.specs.Bits.{rolePdc, roleGlobalCatalog, roleKdc, roleTimeService, roleReadOnly, roleGoodTime, roleWebService, role2012, role2012R2, roleLaterThan2003R2}
-use Rattle·choose·specs.specs.Choose.{flag}
+use Rattle.std.specs.Prelude.{Bool, not, ◌&&◌, ℕ, ◌+◌}
+use Rattle.answers.specs.declared.Form.{Form}
+use Rattle.answers.specs.declared.Form.TheVariants.{Nt40, Response, Ex}
+use Rattle.answers.specs.Wire.{ds_pdc_flag, ds_gc_flag, ds_ldap_flag, ds_ds_flag, ds_kdc_flag, ds_timeserv_flag, ds_closest_flag, ds_writable_flag, ds_good_timeserv_flag, ds_ndnc_flag, ds_select_secret_domain_6_flag, ds_full_secret_domain_6_flag, ds_ws_flag, ds_ds_8_flag, ds_ds_9_flag}
+use Rattle.octets.specs.Number.{has}
+use Rattle.table.specs.Bits.{role_pdc, role_global_catalog, role_kdc, role_time_service, role_read_only, role_good_time, role_web_service, role2012, role2012_r2, role_later_than2003_r2}
+use Rattle.choose.specs.Choose.{flag}
 
-abbrev pub serviceFlags : ℕ → ℕ
-serviceFlags roles =
-    flag (has roles rolePdc) DS-PDC-FLAG
-    + flag (has roles roleGlobalCatalog) DS-GC-FLAG
-    + DS-LDAP-FLAG
-    + DS-DS-FLAG
-    + flag (has roles roleKdc) DS-KDC-FLAG
-    + flag (has roles roleTimeService) DS-TIMESERV-FLAG
-    + flag (has roles roleGoodTime) DS-GOOD-TIMESERV-FLAG
+abbrev pub service_flags : ℕ → ℕ
+service_flags roles =
+    flag (has roles role_pdc) ds_pdc_flag
+    + flag (has roles role_global_catalog) ds_gc_flag
+    + ds_ldap_flag
+    + ds_ds_flag
+    + flag (has roles role_kdc) ds_kdc_flag
+    + flag (has roles role_time_service) ds_timeserv_flag
+    + flag (has roles role_good_time) ds_good_timeserv_flag
 
-abbrev pub secretFlags : ℕ → ℕ
-secretFlags roles =
-    flag (not (has roles roleReadOnly)) DS-WRITABLE-FLAG
-    + flag (has roles roleReadOnly) DS-SELECT-SECRET-DOMAIN-6-FLAG
-    + flag (not (has roles roleReadOnly) && has roles roleLaterThan2003R2) DS-FULL-SECRET-DOMAIN-6-FLAG
+abbrev pub secret_flags : ℕ → ℕ
+secret_flags roles =
+    flag (not (has roles role_read_only)) ds_writable_flag
+    + flag (has roles role_read_only) ds_select_secret_domain_6_flag
+    + flag (not (has roles role_read_only) && has roles role_later_than2003_r2) ds_full_secret_domain_6_flag
 
-abbrev pub releaseFlags : ℕ → ℕ
-releaseFlags roles = flag (has roles roleWebService) DS-WS-FLAG + flag (has roles role2012) DS-DS-8-FLAG + flag (has roles role2012R2) DS-DS-9-FLAG
+abbrev pub release_flags : ℕ → ℕ
+release_flags roles = flag (has roles role_web_service) ds_ws_flag + flag (has roles role2012) ds_ds_8_flag + flag (has roles role2012_r2) ds_ds_9_flag
 
-abbrev pub exFlagsBy : ℕ → Bool → Bool → ℕ
-exFlagsBy roles sameSite application =
-    serviceFlags roles + flag sameSite DS-CLOSEST-FLAG + secretFlags roles + flag application DS-NDNC-FLAG + releaseFlags roles
+abbrev pub ex_flags_by : ℕ → Bool → Bool → ℕ
+ex_flags_by roles same_site_lem application =
+    service_flags roles + flag same_site_lem ds_closest_flag + secret_flags roles + flag application ds_ndnc_flag + release_flags roles
 
-abbrev pub flagsBy : Form → ℕ → Bool → Bool → ℕ
-flagsBy Nt40 roles sameSite application = 0
-flagsBy Response roles sameSite application = flag (has roles rolePdc) DS-PDC-FLAG + DS-DS-FLAG
-flagsBy Ex roles sameSite application = exFlagsBy roles sameSite application
+abbrev pub flags_by : Form → ℕ → Bool → Bool → ℕ
+flags_by Nt40 roles same_site_lem application = 0
+flags_by Response roles same_site_lem application = flag (has roles role_pdc) ds_pdc_flag + ds_ds_flag
+flags_by Ex roles same_site_lem application = ex_flags_by roles same_site_lem application

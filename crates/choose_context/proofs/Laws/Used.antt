@@ -1,88 +1,88 @@
 -- 11 to 17 step by step are the judgement of the definitions.
-use mathlib.Core.Path.{_≡_, refl, sym, ap, subst, _∙_}
+use mathlib.Core.Path.{◌≡◌, refl, sym, ap, subst, ◌∙◌}
 use mathlib.Core.Bool.{Bool, true, false, not}
 use mathlib.Core.List.{List}
 use mathlib.Core.Option.{Option, none, some}
 use Prim.Native.Nat.{ℕ}
 use lib.Dec.{eqb}
 use lib.ListN.{length}
-use Rattle·answers.specs.declared.Refusal.{Refusal}
-use Rattle·answers.specs.declared.Refusal.the-variants.{GuidLength, GuidNotHeld, DnsNameEmpty, DnsNameNotHeld}
-use Rattle·answers.specs.Try.{Try, good, refusedIf, _>>=_}
-use Rattle·answers.proofs.Laws.Try.{refused-not-good}
-use Rattle·filter_read.specs.Value.{Ping}
-use Rattle·octets.specs.Lists.{isSome, holds}
-use Rattle·octets.specs.Sid.{guidSize}
-use Rattle·table.specs.Context.{Context}
-use Rattle·table.specs.Table.{Table}
-use Rattle·table.specs.declared.record.RecordKind.the-variants as kind
-use Rattle·table_find.specs.declared.search.Found.{Found}
-use Rattle·table_find.specs.declared.search.Found.the-variants.{At, Nothing}
-use Rattle·table_lookup.specs.Lookup.{contextByGuid, contextByDnsName}
-use Rattle·table_find.specs.Internal.Found.{LiesIn, contextAt}
-use Rattle·choose_context·specs.specs.declared.context.Asked.{Asked}
-use Rattle·choose.specs.Judge.{contextFor, contextUsed, orWhole, contextIn}
-use Rattle·choose_context·specs.specs.Internal.Used.{heldOr, askedAs, AskedIn, heldIf, guidAsked, dnsNameAsked, preferred, sidJudged, afterGuid}
+use Rattle.answers.specs.declared.Refusal.{Refusal}
+use Rattle.answers.specs.declared.Refusal.TheVariants.{GuidLength, GuidNotHeld, DnsNameEmpty, DnsNameNotHeld}
+use Rattle.answers.specs.Try.{Try, good, refused_if, ◌>>=◌}
+use Rattle.answers.proofs.Laws.Try.{refused_not_good}
+use Rattle.filter_read.specs.Value.{Ping}
+use Rattle.octets.specs.Lists.{is_some, holds}
+use Rattle.octets.specs.Sid.{guid_size}
+use Rattle.table.specs.Context.{Context}
+use Rattle.table.specs.Table.{Table}
+use Rattle.table.specs.declared.record.RecordKind.TheVariants as kind
+use Rattle.table_find.specs.declared.search.Found.{Found}
+use Rattle.table_find.specs.declared.search.Found.TheVariants.{At, Nothing}
+use Rattle.table_lookup.specs.Lookup.{context_by_guid, context_by_dns_name}
+use Rattle.table_find.specs.Internal.Found.{LiesIn, context_at}
+use Rattle.choose_context.specs.declared.context.Asked.{Asked}
+use Rattle.choose.specs.Judge.{context_for, context_used, or_whole, context_in}
+use Rattle.choose_context.specs.Internal.Used.{held_or, asked_as, AskedIn, held_if, guid_asked, dns_name_asked, preferred, sid_judged, after_guid}
 
 -- a lookup's result, or a refusal
 module _ (image : List ℕ) (r : Refusal) (a : Asked) where
-  pub held-as : (found : Found) → a ≡ heldOr found r → askedAs image a ≡ heldIf r (contextAt image found)
-  held-as Nothing e = ap (askedAs image) e
-  held-as (At offset) e = ap (askedAs image) e
+  pub held_as : (found : Found) → a ≡ held_or found r → asked_as image a ≡ held_if r (context_at image found)
+  held_as Nothing e = ap (asked_as image) e
+  held_as (At offset) e = ap (asked_as image) e
 
-  pub held-in : (found : Found) → a ≡ heldOr found r → LiesIn image kind.Context found → AskedIn image a
-  held-in Nothing e h = subst (AskedIn image) (sym e) tt
-  held-in (At offset) e h = subst (AskedIn image) (sym e) h
+  pub held_in : (found : Found) → a ≡ held_or found r → LiesIn image kind.Context found → AskedIn image a
+  held_in Nothing e h = subst (AskedIn image) (sym e) tt
+  held_in (At offset) e h = subst (AskedIn image) (sym e) h
 
 -- a clause judged: its value is wrong, or nothing is found by it, or what was found goes on
 one-clause : (wrong : Bool) (r s : Refusal) (found : Option Context) (rest : Try Context) (after : Option Context → Try Context)
-    → ((c : Context) → found ≡ some c → rest ≡ after (some c)) → refusedIf wrong r (refusedIf (not (isSome found)) s rest) ≡ (refusedIf wrong r (heldIf s found) >>= after)
+    → ((c : Context) → found ≡ some c → rest ≡ after (some c)) → refused_if wrong r (refused_if (not (is_some found)) s rest) ≡ (refused_if wrong r (held_if s found) >>= after)
 one-clause true r s found rest after h = refl
 one-clause false r s none rest after h = refl
 one-clause false r s (some c) rest after h = h c refl
 
-judged-in-steps : (t : Table) (p : Ping) → contextIn t p ≡ (guidAsked t (p .domainGuid) >>= afterGuid t p)
-unfolding contextIn contextUsed
-judged-in-steps t p = go (p .domainGuid) (p .dnsDomain)
+judged_in_steps : (t : Table) (p : Ping) → context_in t p ≡ (guid_asked t p.domain_guid_lem >>= after_guid t p)
+unfolding context_in context_used
+judged_in_steps t p = go p.domain_guid_lem p.dns_domain_lem
   where
     sid : Context → Try Context
-    sid = sidJudged t (p .domainSid)
+    sid = sid_judged t p.domain_sid_lem
 
     go : (guid dns : Option (List ℕ))
-        → refusedIf (holds (λ g. not (eqb (length g) guidSize)) guid) GuidLength
-        (refusedIf (holds (λ g. not (isSome (contextByGuid t g))) guid) GuidNotHeld
-        (refusedIf (holds (λ n. eqb (length n) 0) dns) DnsNameEmpty
-        (refusedIf (holds (λ n. not (isSome (contextByDnsName t n))) dns) DnsNameNotHeld (orWhole (contextFor t guid dns) >>= sid))))
-        ≡ (guidAsked t guid >>= λ g. dnsNameAsked t dns >>= λ name. orWhole (preferred t g name) >>= sid)
+        → refused_if (holds (λ g. not (eqb (length g) guid_size)) guid) GuidLength
+        (refused_if (holds (λ g. not (is_some (context_by_guid t g))) guid) GuidNotHeld
+        (refused_if (holds (λ n. eqb (length n) 0) dns) DnsNameEmpty
+        (refused_if (holds (λ n. not (is_some (context_by_dns_name t n))) dns) DnsNameNotHeld (or_whole (context_for t guid dns) >>= sid))))
+        ≡ (guid_asked t guid >>= λ g. dns_name_asked t dns >>= λ name. or_whole (preferred t g name) >>= sid)
     go none none = refl
     go none (some n) =
-        one-clause (eqb (length n) 0) DnsNameEmpty DnsNameNotHeld (contextByDnsName t n) (orWhole (contextByDnsName t n) >>= sid) (λ name. orWhole (preferred t none name) >>= sid)
-        (λ c e. ap (λ o. orWhole o >>= sid) e)
+        one-clause (eqb (length n) 0) DnsNameEmpty DnsNameNotHeld (context_by_dns_name t n) (or_whole (context_by_dns_name t n) >>= sid) (λ name. or_whole (preferred t none name) >>= sid)
+        (λ c e. ap (λ o. or_whole o >>= sid) e)
     go (some g) none =
-        one-clause (not (eqb (length g) guidSize)) GuidLength GuidNotHeld (contextByGuid t g) (orWhole (contextByGuid t g) >>= sid) (λ guid. orWhole (preferred t guid none) >>= sid)
-        (λ c e. ap (λ o. orWhole o >>= sid) e)
+        one-clause (not (eqb (length g) guid_size)) GuidLength GuidNotHeld (context_by_guid t g) (or_whole (context_by_guid t g) >>= sid) (λ guid. or_whole (preferred t guid none) >>= sid)
+        (λ c e. ap (λ o. or_whole o >>= sid) e)
     go (some g) (some n) =
-        one-clause (not (eqb (length g) guidSize)) GuidLength GuidNotHeld (contextByGuid t g) _ (λ guid. dnsNameAsked t (some n) >>= λ name. orWhole (preferred t guid name) >>= sid)
+        one-clause (not (eqb (length g) guid_size)) GuidLength GuidNotHeld (context_by_guid t g) _ (λ guid. dns_name_asked t (some n) >>= λ name. or_whole (preferred t guid name) >>= sid)
         (λ c e.
-        one-clause (eqb (length n) 0) DnsNameEmpty DnsNameNotHeld (contextByDnsName t n) (orWhole (contextByGuid t g) >>= sid) (λ name. orWhole (some c) >>= sid)
-        (λ d q. ap (λ o. orWhole o >>= sid) e))
+        one-clause (eqb (length n) 0) DnsNameEmpty DnsNameNotHeld (context_by_dns_name t n) (or_whole (context_by_guid t g) >>= sid) (λ name. or_whole (some c) >>= sid)
+        (λ d q. ap (λ o. or_whole o >>= sid) e))
 
 -- the same once the GUID's answer is known
-pub once-guid : (image : List ℕ) (t : Table) (p : Ping) (a x : Asked) → askedAs image a ≡ guidAsked t (p .domainGuid) → a ≡ x → (askedAs image x >>= afterGuid t p) ≡ contextIn t p
-once-guid image t p a x e told = ap (λ (y : Try (Option Context)). y >>= afterGuid t p) (ap (askedAs image) (sym told) ∙ e) ∙ sym (judged-in-steps t p)
+pub once-guid : (image : List ℕ) (t : Table) (p : Ping) (a x : Asked) → asked_as image a ≡ guid_asked t p.domain_guid_lem → a ≡ x → (asked_as image x >>= after_guid t p) ≡ context_in t p
+once-guid image t p a x e told = ap (λ (y : Try (Option Context)). y >>= after_guid t p) (ap (asked_as image) (sym told) ∙ e) ∙ sym (judged_in_steps t p)
 
 -- the context that DnsDomain asks for tells whether it names an application context
-pub asked-application : (t : Table) (dns : Option (List ℕ)) (o : Option Context) → dnsNameAsked t dns ≡ good o
-    → holds (λ name. holds (λ c. c .application) (contextByDnsName t name)) dns ≡ holds (λ c. c .application) o
-asked-application t none o e =
+pub asked_application : (t : Table) (dns : Option (List ℕ)) (o : Option Context) → dns_name_asked t dns ≡ good o
+    → holds (λ name. holds (λ c. c.application) (context_by_dns_name t name)) dns ≡ holds (λ c. c.application) o
+asked_application t none o e =
     let f : none ≡ o = cc in
-    ap (λ (x : Option Context). holds (λ c. c .application) x) f
-asked-application t (some name) o e = go (eqb (length name) 0) (contextByDnsName t name) e
+    ap (λ (x : Option Context). holds (λ c. c.application) x) f
+asked_application t (some name) o e = go (eqb (length name) 0) (context_by_dns_name t name) e
   where
-    go : (wrong : Bool) (found : Option Context) → refusedIf wrong DnsNameEmpty (heldIf DnsNameNotHeld found) ≡ good o
-        → holds (λ c. c .application) found ≡ holds (λ c. c .application) o
-    go true found q = absurd (refused-not-good DnsNameEmpty o q)
-    go false none q = absurd (refused-not-good DnsNameNotHeld o q)
+    go : (wrong : Bool) (found : Option Context) → refused_if wrong DnsNameEmpty (held_if DnsNameNotHeld found) ≡ good o
+        → holds (λ c. c.application) found ≡ holds (λ c. c.application) o
+    go true found q = absurd (refused_not_good DnsNameEmpty o q)
+    go false none q = absurd (refused_not_good DnsNameNotHeld o q)
     go false (some c) q =
         let f : some c ≡ o = cc in
-        ap (λ (x : Option Context). holds (λ d. d .application) x) f
+        ap (λ (x : Option Context). holds (λ d. d.application) x) f

@@ -1,23 +1,23 @@
 -- Laws of texts that stretches lend.
-use mathlib.Core.Path.{_≡_, refl, sym, ap, _∙_}
-use mathlib.Core.List.{List, [], _∷_}
-use mathlib.Core.Option.{Option·map}
-use Prim.Native.Nat.{ℕ, zero, suc, _+_, _/_, _≤_, _<_}
+use mathlib.Core.Path.{◌≡◌, refl, sym, ap, ◌∙◌}
+use mathlib.Core.List.{List, [], ◌∷◌}
+use mathlib.Core.Option.{map}
+use Prim.Native.Nat.{ℕ, zero, suc, ◌+◌, ◌/◌, ◌≤◌, ◌<◌}
 use native.Mathlib.Omega.{arith}
-use lib.ListN.{length, take, drop, getD, length-take, length-drop}
-use Rattle·lent.specs.declared.stretch.Stretch.{Stretch}
-use Rattle·octets.specs.Lists.{cut}
-use Rattle·octets.proofs.Laws.Lists.{cut-cut}
-use Rattle·reply.specs.Internal.RawReply.{noStretch, slotText, textIf}
-use Rattle·table.specs.Block.{blockSize, bodyOffset, bodySize}
-use Rattle·table.specs.Forest.{forestOf}
-use Rattle·table.specs.Server.{serverOf}
-use Rattle·table.specs.Table.{tableOf, tableFrom}
-use Rattle·table.proofs.Laws.Table.{body-there}
-use Rattle·table_find.specs.declared.search.Found.{Found}
-use Rattle·table_find.specs.declared.search.Found.the-variants.{At, Nothing}
-use Rattle·table_find.specs.Internal.Found.{siteAt}
-use Rattle·choose_reply·specs.specs.Internal.Lends.{Lends, LendsEach, isFound, nameOf}
+use lib.ListN.{length, take, drop, get_or, length-take, length-drop}
+use Rattle.lent.specs.declared.stretch.Stretch.{Stretch}
+use Rattle.octets.specs.Lists.{cut}
+use Rattle.octets.proofs.Laws.Lists.{cut-cut}
+use Rattle.reply.specs.Internal.RawReply.{no_stretch, slot_text, text_if}
+use Rattle.table.specs.Block.{block_size, body_offset, body_size}
+use Rattle.table.specs.Forest.{forest_of}
+use Rattle.table.specs.Server.{server_of}
+use Rattle.table.specs.Table.{table_of, table_from}
+use Rattle.table.proofs.Laws.Table.{body_there}
+use Rattle.table_find.specs.declared.search.Found.{Found}
+use Rattle.table_find.specs.declared.search.Found.TheVariants.{At, Nothing}
+use Rattle.table_find.specs.Internal.Found.{site_at}
+use Rattle.choose_reply.specs.Internal.Lends.{Lends, LendsEach, is_found, name_of}
 
 -- a stretch by as many octets as it has
 pub cut-own : {A : Type 0} (s : List A) (at n : ℕ) → cut s at (length (cut s at n)) ≡ cut s at n
@@ -36,38 +36,38 @@ cut-within s at w from n h =
 
 -- slots, one after the other
 module _ (table request : List ℕ) where
-  pub no-slots : LendsEach table request [] []
-  no-slots = record { octets = λ k. refl; short = λ k. omega arith }
+  pub no_slots : LendsEach table request [] []
+  no_slots = record { octets = λ k. refl; short = λ k. omega arith }
 
-  pub slot-then : (s : Stretch) (text : List ℕ) (slots : List Stretch) (texts : List (List ℕ))
+  pub slot_then : (s : Stretch) (text : List ℕ) (slots : List Stretch) (texts : List (List ℕ))
       → Lends table request s text → LendsEach table request slots texts → LendsEach table request (s ∷ slots) (text ∷ texts)
-  slot-then s text slots texts l ls = record { octets = octets; short = short }
+  slot_then s text slots texts l ls = record { octets = octets; short = short }
     where
-      octets : (k : ℕ) → slotText table request (s ∷ slots) k ≡ getD (text ∷ texts) k []
-      octets zero = l .octets
-      octets (suc k) = ls .octets k
+      octets : (k : ℕ) → slot_text table request (s ∷ slots) k ≡ get_or (text ∷ texts) k []
+      octets zero = l.octets
+      octets (suc k) = ls.octets k
 
-      short : (k : ℕ) → getD (s ∷ slots) k noStretch .len ≤ 255
-      short zero = l .short
-      short (suc k) = ls .short k
+      short : (k : ℕ) → (get_or (s ∷ slots) k no_stretch).len ≤ 255
+      short zero = l.short
+      short (suc k) = ls.short k
 
 -- the next site's name is there where the site is
-pub next-there : (image : List ℕ) (found : Found) → textIf (isFound found) (nameOf (siteAt image found)) ≡ Option·map (λ s. s .name) (siteAt image found)
-next-there image (At offset) = refl
-next-there image Nothing = refl
+pub next_there : (image : List ℕ) (found : Found) → text_if (is_found found) (name_of (site_at image found)) ≡ map (λ s. s.name) (site_at image found)
+next_there image (At offset) = refl
+next_there image Nothing = refl
 
 -- the server and the forest by the bodies of their blocks
-pub server-body : (image : List ℕ) → blockSize ≤ length image → serverOf (cut image bodyOffset bodySize) ≡ tableFrom image .server
-unfolding tableOf
+pub server-body : (image : List ℕ) → block_size ≤ length image → server_of (cut image body_offset body_size) ≡ (table_from image).server
+unfolding table_of
 server-body image h =
-    let k : 0 < length image / blockSize = omega arith in
-    ap serverOf (sym (cut-cut image 0 blockSize bodyOffset bodySize (omega arith)) ∙ body-there image 0 k)
+    let k : 0 < length image / block_size = omega arith in
+    ap server_of (sym (cut-cut image 0 block_size body_offset body_size (omega arith)) ∙ body_there image 0 k)
 
-pub forest-body : (image : List ℕ) → blockSize + blockSize ≤ length image → forestOf (cut image (blockSize + bodyOffset) bodySize) ≡ tableFrom image .forest
-unfolding tableOf
+pub forest-body : (image : List ℕ) → block_size + block_size ≤ length image → forest_of (cut image (block_size + body_offset) body_size) ≡ (table_from image).forest
+unfolding table_of
 forest-body image h =
-    let k : 1 < length image / blockSize = omega arith in
-    ap forestOf (sym (cut-cut image blockSize blockSize bodyOffset bodySize (omega arith)) ∙ body-there image 1 k)
+    let k : 1 < length image / block_size = omega arith in
+    ap forest_of (sym (cut-cut image block_size block_size body_offset body_size (omega arith)) ∙ body_there image 1 k)
 
-pub lends-same : (table request : List ℕ) (s : Stretch) (a b : List ℕ) → a ≡ b → Lends table request s a → Lends table request s b
-lends-same table request s a b e l = record { octets = l .octets ∙ e; short = l .short }
+pub lends_same : (table request : List ℕ) (s : Stretch) (a b : List ℕ) → a ≡ b → Lends table request s a → Lends table request s b
+lends_same table request s a b e l = record { octets = l.octets ∙ e; short = l.short }

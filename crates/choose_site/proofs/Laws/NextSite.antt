@@ -1,26 +1,26 @@
 -- The next closest site, by whether it is asked for and the level is there.
-use mathlib.Core.Path.{_≡_}
-use mathlib.Core.Bool.{true, false, _&&_}
-use mathlib.Core.Option.{Option, none, some, Option·map, bind}
+use mathlib.Core.Path.{◌≡◌}
+use mathlib.Core.Bool.{true, false, ◌&&◌}
+use mathlib.Core.Option.{Option, none, some, map, bind}
 use Prim.Native.Nat.{ℕ}
-use Rattle·answers.specs.Wire.{NETLOGON-NT-VERSION-WITH-CLOSEST-SITE}
-use Rattle·octets.specs.Number.{has}
-use Rattle·table.specs.Bits.{roleLevel2008}
-use Rattle·table.specs.Site.{Site}
-use Rattle·table.specs.Table.{Table}
-use Rattle·table_lookup.specs.Lookup.{siteIfAny}
-use Rattle·choose.specs.Choose.{nextSite}
+use Rattle.answers.specs.Wire.{netlogon_nt_version_with_closest_site}
+use Rattle.octets.specs.Number.{has}
+use Rattle.table.specs.Bits.{role_level2008}
+use Rattle.table.specs.Site.{Site}
+use Rattle.table.specs.Table.{Table}
+use Rattle.table_lookup.specs.Lookup.{site_if_any}
+use Rattle.choose.specs.Choose.{next_site_lem}
 
 module _ (t : Table) (v : ℕ) where
-  pub next-unasked : (client : Option Site) → (has v NETLOGON-NT-VERSION-WITH-CLOSEST-SITE && has (t .server .roles) roleLevel2008) ≡ false → none ≡ nextSite t v client
-  unfolding nextSite
-  next-unasked client e = rw e
+  pub next_unasked : (client : Option Site) → (has v netlogon_nt_version_with_closest_site && has t.server.roles role_level2008) ≡ false → none ≡ next_site_lem t v client
+  unfolding next_site_lem
+  next_unasked client e = rw e
 
-  module _ (asked : (has v NETLOGON-NT-VERSION-WITH-CLOSEST-SITE && has (t .server .roles) roleLevel2008) ≡ true) where
-    pub next-of-none : none ≡ nextSite t v none
-    unfolding nextSite bind
-    next-of-none = rw asked
+  module _ (asked : (has v netlogon_nt_version_with_closest_site && has t.server.roles role_level2008) ≡ true) where
+    pub next_of_none : none ≡ next_site_lem t v none
+    unfolding next_site_lem bind
+    next_of_none = rw asked
 
-    pub next-of : (client : Site) → Option·map (λ s. s .name) (siteIfAny t (client .next)) ≡ nextSite t v (some client)
-    unfolding nextSite bind
-    next-of client = rw asked
+    pub next_of : (client : Site) → map (λ s. s.name) (site_if_any t client.next) ≡ next_site_lem t v (some client)
+    unfolding next_site_lem bind
+    next_of client = rw asked

@@ -1,7 +1,7 @@
 -- Bounds that the functions keep to.
-use Prim.Native.Nat.{_<_}
-use Rattle·console·specs.specs.declared.digits.Digit.{Digit}
-use Rattle·console·specs.specs.declared.digits.Digit.the-variants.{Bad, Value}
+use Rattle.std.specs.Prelude.{◌<◌}
+use Rattle.console.specs.declared.digits.Digit.{Digit}
+use Rattle.console.specs.declared.digits.Digit.TheVariants.{Bad, Value}
 
 abbrev pub Small : Digit → Type 0
 Small Bad = Unit {0}

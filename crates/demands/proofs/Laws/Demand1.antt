@@ -1,65 +1,65 @@
 -- Demand 1 is proved: each definition names the reasons for which it refuses, and what follows it names its own.
-use mathlib.Core.Path.{_≡_, refl, sym, ap, _∙_, subst}
+use mathlib.Core.Path.{◌≡◌, refl, sym, ap, ◌∙◌, subst}
 use mathlib.Core.Bool.{not}
-use mathlib.Core.List.{List, [], _∷_}
+use mathlib.Core.List.{List, [], ◌∷◌}
 use mathlib.Core.Option.{Option, none, some}
-use Prim.Native.Nat.{ℕ, _<_}
+use Prim.Native.Nat.{ℕ, ◌<◌}
 use native.Mathlib.Omega.{arith}
 use lib.ListN.{length, take}
-use Rattle·answers.specs.declared.Refusal.{Refusal}
-use Rattle·answers.specs.declared.Refusal.the-variants.{ImageLength, BlockCheck, BlockLayout, TableWhole}
-use Rattle·answers.specs.declared.Refusal.the-variants.{FilterLength, FilterShape, UnknownClause, DuplicateClause, ClauseValue}
-use Rattle·answers.specs.declared.Refusal.the-variants.{GuidLength, GuidNotHeld, DnsNameEmpty, DnsNameNotHeld}
-use Rattle·answers.specs.declared.Refusal.the-variants.{SidShape, SidNotHeld, SidOfAnother, UserLabelEmpty, NoRoom}
-use Rattle·answers.specs.declared.Refusal.the-variants.{ReplyCut, ReplyOpcode, ReplyText, ReplyFixed, ReplyLeftOver, MailslotShape}
-use Rattle·answers.specs.Refusal.{number}
-use Rattle·answers.specs.Try.{Try, refused, good, _>>=_}
-use Rattle·choose.specs.Judge.{contextUsed, orWhole, contextIn}
-use Rattle·filter_position.specs.declared.position.RawClause.{RawClause}
-use Rattle·filter.specs.declared.request.Request.{Request}
-use Rattle·filter_position.specs.Filter.{clausesOf}
-use Rattle·filter_read.specs.declared.read.Taken.{Taken}
-use Rattle·filter_read.specs.declared.read.Taken.the-variants as taken
-use Rattle·filter_read.specs.declared.value.Judged.{Judged}
-use Rattle·filter_read.specs.declared.value.Judged.the-variants as judged
-use Rattle·filter_read.specs.Taken.{judgedClauses, requestIn, takenAs, takenNumber}
-use Rattle·filter_read.specs.Value.{Ping, pingIn, pingFrom, judgedValues, judgedNumber}
-use Rattle·answers.specs.declared.written.Written.{Written}
-use Rattle·answers.specs.declared.written.Written.the-variants as written
-use Rattle·answers.specs.Written.{writtenAs, writtenOctets, writtenLength, writtenNumber}
-use Rattle·filter_write.specs.Write.{filterFor}
-use Rattle·locator.specs.declared.Answer.{Answer}
-use Rattle·locator.specs.declared.Answer.the-variants as answer
-use Rattle·locator.specs.Answer.{Outcome, replyTo, answerOver, answerBy, answerTo, answerAs, octetsWritten, answerLength, answerContext, answerForm, answerNumber}
-use Rattle·mailslot.specs.declared.message.Message.{Message}
-use Rattle·mailslot.specs.declared.message.MessageRead.{MessageRead}
-use Rattle·mailslot.specs.declared.message.MessageRead.the-variants as messageRead
-use Rattle·mailslot.specs.Message.{goodMessage, asShape, readFields, messageIn, messageFor}
-use Rattle·mailslot.specs.Read.{messageAs, messageNumber, messageGiven}
-use Rattle·mailslot_answer.specs.Ping.{messagePing, mailslotPing}
-use Rattle·octets.specs.Buffer.{over}
-use Rattle·octets.proofs.Laws.Buffer.{over-none}
-use Rattle·octets.specs.Lists.{any}
-use Rattle·reader.specs.Name.{readName}
-use Rattle·reader.specs.Reader.{readIn}
-use Rattle·reader_forms.specs.declared.reading.Reading.{Reading}
-use Rattle·reader_forms.specs.declared.reading.Reading.the-variants as reading
-use Rattle·reader_forms.specs.Reading.{readingAs, readingLength, readingFields, readingNumber}
-use Rattle·reader_text.specs.declared.NameText.{NameText}
-use Rattle·reader_text.specs.declared.TextLength.{TextLength}
-use Rattle·reader_text.specs.declared.TextLength.the-variants as text
-use Rattle·reader_text.specs.Text.{nameText, textLengthAs, textLength, textNumber}
-use Rattle·table.specs.declared.Caller.{Caller}
-use Rattle·table.specs.Context.{Context}
-use Rattle·table.specs.Table.{Table}
-use Rattle·table_check.specs.declared.check.Check.{Check}
-use Rattle·table_check.specs.Check.{grow, grown, checkOf}
-use Rattle·table_whole.specs.declared.judge.Judgement.{Judgement}
-use Rattle·table_whole.specs.declared.judge.Judgement.the-variants as judgement
-use Rattle·table_whole.specs.Judgement.{tableIn, judgedAs, judgementNumber}
-use Rattle·demands·specs.specs.Demand1.{ForImage, ForFilter, ForValues, ForWriting, ForPing, ForReply, ForName, ForMessage, ForMessageWriting, ForMailslot, Demand1, ForAny}
-use Rattle·demands·proofs.proofs.Laws.Only.{Only, Any, only-if, only-then, only-returned}
-use Rattle·demands·proofs.proofs.Laws.Reading.{formRead, name-only, reading-only}
+use Rattle.answers.specs.declared.Refusal.{Refusal}
+use Rattle.answers.specs.declared.Refusal.TheVariants.{ImageLength, BlockCheck, BlockLayout, TableWhole}
+use Rattle.answers.specs.declared.Refusal.TheVariants.{FilterLength, FilterShape, UnknownClause, DuplicateClause, ClauseValue}
+use Rattle.answers.specs.declared.Refusal.TheVariants.{GuidLength, GuidNotHeld, DnsNameEmpty, DnsNameNotHeld}
+use Rattle.answers.specs.declared.Refusal.TheVariants.{SidShape, SidNotHeld, SidOfAnother, UserLabelEmpty, NoRoom}
+use Rattle.answers.specs.declared.Refusal.TheVariants.{ReplyCut, ReplyOpcode, ReplyText, ReplyFixed, ReplyLeftOver, MailslotShape}
+use Rattle.answers.specs.Refusal.{number}
+use Rattle.answers.specs.Try.{Try, refused, good, ◌>>=◌}
+use Rattle.choose.specs.Judge.{context_used, or_whole, context_in}
+use Rattle.filter_position.specs.declared.position.RawClause.{RawClause}
+use Rattle.filter.specs.declared.request.Request.{Request}
+use Rattle.filter_position.specs.Filter.{clauses_of}
+use Rattle.filter_read.specs.declared.read.Taken.{Taken}
+use Rattle.filter_read.specs.declared.read.Taken.TheVariants as taken
+use Rattle.filter_read.specs.declared.value.Judged.{Judged}
+use Rattle.filter_read.specs.declared.value.Judged.TheVariants as judged
+use Rattle.filter_read.specs.Taken.{judged_clauses, request_in, taken_as, taken_number}
+use Rattle.filter_read.specs.Value.{Ping, ping_in, ping_from, judged_values, judged_number}
+use Rattle.answers.specs.declared.written.Written.{Written}
+use Rattle.answers.specs.declared.written.Written.TheVariants as written
+use Rattle.answers.specs.Written.{written_as, written_octets, written_length, written_number}
+use Rattle.filter_write.specs.Write.{filter_for}
+use Rattle.locator.specs.declared.Answer.{Answer}
+use Rattle.locator.specs.declared.Answer.TheVariants as answer
+use Rattle.locator.specs.Answer.{Outcome, reply_to, answer_over, answer_by, answer_to, answer_as, octets_written, answer_length, answer_context, answer_form, answer_number}
+use Rattle.mailslot.specs.declared.message.Message.{Message}
+use Rattle.mailslot.specs.declared.message.MessageRead.{MessageRead}
+use Rattle.mailslot.specs.declared.message.MessageRead.TheVariants as message_read
+use Rattle.mailslot.specs.Message.{good_message, as_shape, read_fields, message_in, message_for}
+use Rattle.mailslot.specs.Read.{message_as, message_number, message_given}
+use Rattle.mailslot_answer.specs.Ping.{message_ping, mailslot_ping}
+use Rattle.octets.specs.Buffer.{over}
+use Rattle.octets.proofs.Laws.Buffer.{over_none}
+use Rattle.octets.specs.Lists.{any}
+use Rattle.reader.specs.Name.{read_name}
+use Rattle.reader.specs.Reader.{read_in}
+use Rattle.reader_forms.specs.declared.reading.Reading.{Reading}
+use Rattle.reader_forms.specs.declared.reading.Reading.TheVariants as reading
+use Rattle.reader_forms.specs.Reading.{reading_as, reading_length, reading_fields, reading_number}
+use Rattle.reader_text.specs.declared.NameText.{NameText}
+use Rattle.reader_text.specs.declared.TextLength.{TextLength}
+use Rattle.reader_text.specs.declared.TextLength.TheVariants as text
+use Rattle.reader_text.specs.Text.{name_text_lem, text_length_as, text_length, text_number}
+use Rattle.table.specs.declared.Caller.{Caller}
+use Rattle.table.specs.Context.{Context}
+use Rattle.table.specs.Table.{Table}
+use Rattle.table_check.specs.declared.check.Check.{Check}
+use Rattle.table_check.specs.Check.{grow, grown, check_of_lem}
+use Rattle.table_whole.specs.declared.judge.Judgement.{Judgement}
+use Rattle.table_whole.specs.declared.judge.Judgement.TheVariants as judgement
+use Rattle.table_whole.specs.Judgement.{table_in, judged_as, judgement_number}
+use Rattle.demands.specs.Demand1.{ForImage, ForFilter, ForValues, ForWriting, ForPing, ForReply, ForName, ForMessage, ForMessageWriting, ForMailslot, Demand1, ForAny}
+use Rattle.demands.proofs.Laws.Only.{Only, Any, only_if, only_then, only-returned}
+use Rattle.demands.proofs.Laws.Reading.{form_read, name-only, reading_only}
 
 -- a refusal whose number is so
 abbrev By : (ℕ → Type 0) → Refusal → Type 0
@@ -68,162 +68,159 @@ By F r = F (number r)
 -- ---- the reasons of each definition
 
 module _ (P : Refusal → Type 0) where
-  table-only : P ImageLength → P BlockCheck → P BlockLayout → P TableWhole → (image : List ℕ) → Only P Any (tableIn image)
-  unfolding tableIn
-  table-only a b c d image = search (only-if P)
+  table-only : P ImageLength → P BlockCheck → P BlockLayout → P TableWhole → (image : List ℕ) → Only P Any (table_in image)
+  unfolding table_in
+  table-only a b c d image = search (only_if P)
 
-  request-only : P FilterLength → P FilterShape → P UnknownClause → P DuplicateClause → (s : List ℕ) → Only P Any (requestIn s)
-  unfolding requestIn
-  request-only a b c d s = search (only-if P, clauses (clausesOf s))
+  request-only : P FilterLength → P FilterShape → P UnknownClause → P DuplicateClause → (s : List ℕ) → Only P Any (request_in s)
+  unfolding request_in
+  request-only a b c d s = search (only_if P, clauses (clauses_of s))
     where
-      clauses : (o : Option (List RawClause)) → Only P Any (judgedClauses s o)
+      clauses : (o : Option (List RawClause)) → Only P Any (judged_clauses s o)
       clauses none = b
-      clauses (some fs) = search (only-if P)
+      clauses (some fs) = search (only_if P)
 
-  ping-only : P ClauseValue → (s : List ℕ) (r : Request) → Only P Any (pingIn s r)
-  unfolding pingIn
-  ping-only a s r = search (only-if P)
+  ping-only : P ClauseValue → (s : List ℕ) (r : Request) → Only P Any (ping_in s r)
+  unfolding ping_in
+  ping-only a s r = search (only_if P)
 
-  filter-only : P FilterShape → P FilterLength → P NoRoom → (source : List ℕ) (r : Request) (room : ℕ) → Only P Any (filterFor source r room)
-  unfolding filterFor
-  filter-only a b c source r room = search (only-if P)
+  filter-only : P FilterShape → P FilterLength → P NoRoom → (source : List ℕ) (r : Request) (room : ℕ) → Only P Any (filter_for source r room)
+  unfolding filter_for
+  filter-only a b c source r room = search (only_if P)
 
-  shape-only : {A : Type 0} → P MailslotShape → (t : Try A) → Only P Any (asShape t)
-  shape-only a (refused r) = a
-  shape-only a (good m) = tt
+  shape_only : {A : Type 0} → P MailslotShape → (t : Try A) → Only P Any (as_shape t)
+  shape_only a (refused r) = a
+  shape_only a (good m) = tt
 
-  message-only : P MailslotShape → (s : List ℕ) → Only P Any (messageIn s)
-  unfolding messageIn
-  message-only a s = only-then P Any (asShape (readFields s)) _ (shape-only a (readFields s)) (λ m. only-if P Any (not (goodMessage s m)) MailslotShape (good m) a tt)
+  message_only : P MailslotShape → (s : List ℕ) → Only P Any (message_in s)
+  unfolding message_in
+  message_only a s = only_then P Any (as_shape (read_fields s)) _ (shape_only a (read_fields s)) (λ m. only_if P Any (not (good_message s m)) MailslotShape (good m) a tt)
 
-  message-written-only : P MailslotShape → P NoRoom → (source : List ℕ) (m : Message) (room : ℕ) → Only P Any (messageFor source m room)
-  unfolding messageFor
-  message-written-only a b source m room = search (only-if P)
+  message_written-only : P MailslotShape → P NoRoom → (source : List ℕ) (m : Message) (room : ℕ) → Only P Any (message_for source m room)
+  unfolding message_for
+  message_written-only a b source m room = search (only_if P)
 
-  found-only : P TableWhole → (o : Option Context) → Only P Any (orWhole o)
+  found-only : P TableWhole → (o : Option Context) → Only P Any (or_whole o)
   found-only e none = e
   found-only e (some c) = tt
 
   -- 15 to 17: a message names no context
-  message-context-only : P TableWhole → P SidShape → P SidNotHeld → P SidOfAnother → (t : Table) (s : List ℕ) (m : Message) → Only P Any (contextIn t (messagePing s m))
-  unfolding contextIn
-  message-context-only e f g h t s m =
-      only-then P Any (orWhole (contextUsed t (messagePing s m))) _ (found-only e (contextUsed t (messagePing s m))) (λ c. search (only-if P))
+  message_context-only : P TableWhole → P SidShape → P SidNotHeld → P SidOfAnother → (t : Table) (s : List ℕ) (m : Message) → Only P Any (context_in t (message_ping s m))
+  unfolding context_in
+  message_context-only e f g h t s m =
+      only_then P Any (or_whole (context_used t (message_ping s m))) _ (found-only e (context_used t (message_ping s m))) (λ c. search (only_if P))
 
   context-only : P GuidLength → P GuidNotHeld → P DnsNameEmpty → P DnsNameNotHeld → P TableWhole → P SidShape → P SidNotHeld → P SidOfAnother
-      → (t : Table) (p : Ping) → Only P Any (contextIn t p)
-  unfolding contextIn
-  context-only a b c d e f g h t p = search (only-if P, only-then P, found-only e (contextUsed t p)) depth 9
+      → (t : Table) (p : Ping) → Only P Any (context_in t p)
+  unfolding context_in
+  context-only a b c d e f g h t p = search (only_if P, only_then P, found-only e (context_used t p)) depth 9
 
-  reply-only : P UserLabelEmpty → P NoRoom → (t : Table) (caller : Caller) (p : Ping) (room : ℕ) (c : Context) → Only P Any (replyTo t caller p room c)
-  unfolding replyTo
-  reply-only a b t caller p room c = search (only-if P)
+  reply_only : P UserLabelEmpty → P NoRoom → (t : Table) (caller : Caller) (p : Ping) (room : ℕ) (c : Context) → Only P Any (reply_to t caller p room c)
+  unfolding reply_to
+  reply_only a b t caller p room c = search (only_if P)
 
-answer-only : (image : List ℕ) (caller : Caller) (filter : List ℕ) (room : ℕ) → Only (By ForPing) Any (answerTo image caller filter room)
-unfolding answerBy pingFrom answerOver
-answer-only image caller filter room =
-    only-then (By ForPing) Any (tableIn image) _ (table-only (By ForPing) refl refl refl refl image) (λ t.
-    only-then (By ForPing) Any (pingFrom filter) _ (only-then (By ForPing) Any (requestIn filter) _ (request-only (By ForPing) refl refl refl refl filter) (ping-only (By ForPing) refl filter)) (λ p.
-    only-then (By ForPing) Any (contextIn t p) _ (context-only (By ForPing) refl refl refl refl refl refl refl refl t p) (reply-only (By ForPing) refl refl t caller p room)))
+answer_only : (image : List ℕ) (caller : Caller) (filter : List ℕ) (room : ℕ) → Only (By ForPing) Any (answer_to image caller filter room)
+unfolding answer_by ping_from answer_over
+answer_only image caller filter room =
+    only_then (By ForPing) Any (table_in image) _ (table-only (By ForPing) refl refl refl refl image) (λ t.
+    only_then (By ForPing) Any (ping_from filter) _ (only_then (By ForPing) Any (request_in filter) _ (request-only (By ForPing) refl refl refl refl filter) (ping-only (By ForPing) refl filter)) (λ p.
+    only_then (By ForPing) Any (context_in t p) _ (context-only (By ForPing) refl refl refl refl refl refl refl refl t p) (reply_only (By ForPing) refl refl t caller p room)))
 
-mailslot-only : (image : List ℕ) (caller : Caller) (message : List ℕ) (room : ℕ) → Only (By ForMailslot) Any (answerBy mailslotPing image caller message room)
-unfolding answerBy mailslotPing answerOver
+mailslot-only : (image : List ℕ) (caller : Caller) (message : List ℕ) (room : ℕ) → Only (By ForMailslot) Any (answer_by mailslot_ping image caller message room)
+unfolding answer_by mailslot_ping answer_over
 mailslot-only image caller message room =
-    only-then (By ForMailslot) Any (tableIn image) _ (table-only (By ForMailslot) refl refl refl refl image) (λ t. by (messageIn message) t (message-only (By ForMailslot) refl message))
+    only_then (By ForMailslot) Any (table_in image) _ (table-only (By ForMailslot) refl refl refl refl image) (λ t. by (message_in message) t (message_only (By ForMailslot) refl message))
   where
-    by : (o : Try Message) (t : Table) → Only (By ForMailslot) Any o → Only (By ForMailslot) Any (o >>= (λ m. good (messagePing message m)) >>= λ p. contextIn t p >>= replyTo t caller p room)
+    by : (o : Try Message) (t : Table) → Only (By ForMailslot) Any o → Only (By ForMailslot) Any (o >>= (λ m. good (message_ping message m)) >>= λ p. context_in t p >>= reply_to t caller p room)
     by (refused r) t h = h
     by (good m) t h =
-        let p : Ping = messagePing message m in
-        only-then (By ForMailslot) Any (contextIn t p) _ (message-context-only (By ForMailslot) refl refl refl refl t message m) (reply-only (By ForMailslot) refl refl t caller p room)
+        let p : Ping = message_ping message m in
+        only_then (By ForMailslot) Any (context_in t p) _ (message_context-only (By ForMailslot) refl refl refl refl t message m) (reply_only (By ForMailslot) refl refl t caller p room)
 
 -- ---- the calls
 
 -- every refusal has a number of document 01
-number-known : (r : Refusal) → ForAny (number r)
-number-known ImageLength = refl
-number-known BlockCheck = refl
-number-known BlockLayout = refl
-number-known TableWhole = refl
-number-known FilterLength = refl
-number-known FilterShape = refl
-number-known UnknownClause = refl
-number-known DuplicateClause = refl
-number-known ClauseValue = refl
-number-known GuidLength = refl
-number-known GuidNotHeld = refl
-number-known DnsNameEmpty = refl
-number-known DnsNameNotHeld = refl
-number-known SidShape = refl
-number-known SidNotHeld = refl
-number-known SidOfAnother = refl
-number-known UserLabelEmpty = refl
-number-known NoRoom = refl
-number-known ReplyCut = refl
-number-known ReplyOpcode = refl
-number-known ReplyText = refl
-number-known ReplyFixed = refl
-number-known ReplyLeftOver = refl
-number-known MailslotShape = refl
+number_known : (r : Refusal) → ForAny (number r)
+number_known ImageLength = refl
+number_known BlockCheck = refl
+number_known BlockLayout = refl
+number_known TableWhole = refl
+number_known FilterLength = refl
+number_known FilterShape = refl
+number_known UnknownClause = refl
+number_known DuplicateClause = refl
+number_known ClauseValue = refl
+number_known GuidLength = refl
+number_known GuidNotHeld = refl
+number_known DnsNameEmpty = refl
+number_known DnsNameNotHeld = refl
+number_known SidShape = refl
+number_known SidNotHeld = refl
+number_known SidOfAnother = refl
+number_known UserLabelEmpty = refl
+number_known NoRoom = refl
+number_known ReplyCut = refl
+number_known ReplyOpcode = refl
+number_known ReplyText = refl
+number_known ReplyFixed = refl
+number_known ReplyLeftOver = refl
+number_known MailslotShape = refl
 
 -- two sums of 16 bits each
 abbrev Sums : Check → Type 0
-Sums c = (c .a < 65536) × (c .b < 65536)
+Sums c = (c.a < 65536) × (c.b < 65536)
 
-sums-grown : (c : Check) (octets : List ℕ) → Sums c → Sums (grown c octets)
+sums_grown : (c : Check) (octets : List ℕ) → Sums c → Sums (grown c octets)
 unfolding grown
-sums-grown c [] h = h
-sums-grown c (x ∷ xs) h = sums-grown (grow c x) xs (omega arith, omega arith)
+sums_grown c [] h = h
+sums_grown c (x ∷ xs) h = sums_grown (grow c x) xs (omega arith, omega arith)
 
-pub demand-1 : Demand1
-unfolding any nameText checkOf
-demand-1 =
+pub demand_1 : Demand1
+unfolding any name_text_lem check_of_lem
+demand_1 =
     record {
-      «check_of» = λ octets c p. let s = subst Sums (sym p) (sums-grown (record { a = 1; b = 0 }) octets (omega arith, omega arith)) in (p, s .0, s .1);
+      check_of = λ octets c p. let s = subst Sums (sym p) (sums_grown (record { a = 1; b = 0 }) octets (omega arith, omega arith)) in (p, s.0, s.1);
       judge =
           λ image j r p e.
-          subst (λ (x : Judgement). ForImage (judgementNumber x)) (sym e) (
-          only-returned judgedAs judgement.Refused (λ q r h. cc) (λ a r h. cc) (By ForImage) Any (tableIn image) (table-only (By ForImage) refl refl refl refl image) j r (p .same) e .0);
-      «take_apart» =
+          subst (λ (x : Judgement). ForImage (judgement_number x)) (sym e) (only-returned judged_as judgement.Refused (λ q r h. cc) (λ a r h. cc) (By ForImage) Any (table_in image) (table-only (By ForImage) refl refl refl refl image) j r p.same e).0;
+      take_apart =
           λ filter t r p e.
-          subst (λ (x : Taken). ForFilter (takenNumber x)) (sym e) (
-          only-returned takenAs taken.Refused (λ q r h. cc) (λ a r h. cc) (By ForFilter) Any (requestIn filter) (request-only (By ForFilter) refl refl refl refl filter) t r (p .same) e .0);
-      «judge_values» =
+          subst (λ (x : Taken). ForFilter (taken_number x)) (sym e) (only-returned taken_as taken.Refused (λ q r h. cc) (λ a r h. cc) (By ForFilter) Any (request_in filter) (request-only (By ForFilter) refl refl refl refl filter) t r p.same e).0;
+      judge_values =
           λ filter request j r p e.
-          subst (λ (x : Judged). ForValues (judgedNumber x)) (sym e) (
-          only-returned judgedValues judged.Refused (λ q r h. cc) (λ a r h. cc) (By ForValues) Any (pingIn filter request) (ping-only (By ForValues) refl filter request) j r (p .same) e .0);
-      «write_filter» =
+          subst (λ (x : Judged). ForValues (judged_number x)) (sym e) (only-returned judged_values judged.Refused (λ q r h. cc) (λ a r h. cc) (By ForValues) Any (ping_in filter request) (ping-only (By ForValues) refl filter request) j r p.same e).0;
+      write_filter =
           λ source request before after w r p e.
-          let t : Try (List ℕ) = filterFor source request (length before) in
-          let o = only-returned writtenAs written.Refused (λ q r h. cc) (λ a r h. cc) (By ForWriting) Any t (filter-only (By ForWriting) refl refl refl source request (length before)) w r (p .returned .same) e in
-          (subst (λ (x : Written). ForWriting (writtenNumber x)) (sym e) (o .0), ap writtenLength e, p .left ∙ ap (λ (x : Try (List ℕ)). over (writtenOctets x) before) (o .1) ∙ over-none before);
-      «answer_ping» =
+          let t : Try (List ℕ) = filter_for source request (length before) in
+          let o = only-returned written_as written.Refused (λ q r h. cc) (λ a r h. cc) (By ForWriting) Any t (filter-only (By ForWriting) refl refl refl source request (length before)) w r p.returned.same e in
+          (subst (λ (x : Written). ForWriting (written_number x)) (sym e) o.0, ap written_length e, p.left ∙ ap (λ (x : Try (List ℕ)). over (written_octets x) before) o.1 ∙ over_none before);
+      answer_ping =
           λ image caller filter before after a r p e.
-          let t : Try Outcome = answerTo image caller filter (length before) in
-          let o = only-returned answerAs answer.Refused (λ q r h. cc) (λ a r h. cc) (By ForPing) Any t (answer-only image caller filter (length before)) a r (p .returned .same) e in
-          (subst (λ (x : Answer). ForPing (answerNumber x)) (sym e) (o .0), ap answerLength e, ap answerContext e, ap answerForm e, p .left ∙ ap (λ (x : Try Outcome). over (octetsWritten x) before) (o .1) ∙ over-none before);
-      «read_reply» =
+          let t : Try Outcome = answer_to image caller filter (length before) in
+          let o = only-returned answer_as answer.Refused (λ q r h. cc) (λ a r h. cc) (By ForPing) Any t (answer_only image caller filter (length before)) a r p.returned.same e in
+          (subst (λ (x : Answer). ForPing (answer_number x)) (sym e) o.0, ap answer_length e, ap answer_context e, ap answer_form e, p.left ∙ ap (λ (x : Try Outcome). over (octets_written x) before) o.1 ∙ over_none before);
+      read_reply =
           λ reply form v x r p e.
-          let o = only-returned (readingAs reply) reading.Refused (λ q r h. cc) (λ a r h. cc) (By ForReply) (λ f. formRead f ≡ form) (readIn form v reply) (reading-only (By ForReply) refl refl refl refl refl form v reply) x r (p .same) e in
-          (subst (λ (x : Reading). ForReply (readingNumber x)) (sym e) (o .0), ap readingLength e, ap readingFields e);
-      «name_text» =
+          let o = only-returned (reading_as reply) reading.Refused (λ q r h. cc) (λ a r h. cc) (By ForReply) (λ f. form_read f ≡ form) (read_in form v reply) (reading_only (By ForReply) refl refl refl refl refl form v reply) x r p.same e in
+          (subst (λ (x : Reading). ForReply (reading_number x)) (sym e) o.0, ap reading_length e, ap reading_fields e);
+      name_text =
           λ reply start t r p e.
-          let o = only-returned textLengthAs text.Refused (λ q r h. cc) (λ a r h. cc) (By ForName) Any (nameText reply start)
-          (only-then (By ForName) Any (readName reply start) _ (name-only (By ForName) refl refl reply start) (λ f. tt)) (t .len) r (ap (λ (x : NameText). x .len) (p .same)) e in
-          (subst (λ (x : TextLength). ForName (textNumber x)) (sym e) (o .0), ap textLength e, ap (λ (l : TextLength). take (textLength l) (t .octets)) e);
-      «read_message» =
+          let o = only-returned text_length_as text.Refused (λ q r h. cc) (λ a r h. cc) (By ForName) Any (name_text_lem reply start)
+          (only_then (By ForName) Any (read_name reply start) _ (name-only (By ForName) refl refl reply start) (λ f. tt)) t.len r (ap (λ (x : NameText). x.len) p.same) e in
+          (subst (λ (x : TextLength). ForName (text_number x)) (sym e) o.0, ap text_length e, ap (λ (l : TextLength). take (text_length l) t.octets) e);
+      read_message =
           λ message m r p e.
-          let o = only-returned messageAs messageRead.Refused (λ q r h. cc) (λ a r h. cc) (By ForMessage) Any (messageIn message) (message-only (By ForMessage) refl message) m r (p .same) e in
-          (subst (λ (x : MessageRead). ForMessage (messageNumber x)) (sym e) (o .0), ap messageGiven e);
-      «write_message» =
+          let o = only-returned message_as message_read.Refused (λ q r h. cc) (λ a r h. cc) (By ForMessage) Any (message_in message) (message_only (By ForMessage) refl message) m r p.same e in
+          (subst (λ (x : MessageRead). ForMessage (message_number x)) (sym e) o.0, ap message_given e);
+      write_message =
           λ source message before after w r p e.
-          let t : Try (List ℕ) = messageFor source message (length before) in
-          let o = only-returned writtenAs written.Refused (λ q r h. cc) (λ a r h. cc) (By ForMessageWriting) Any t (message-written-only (By ForMessageWriting) refl refl source message (length before)) w r (p .returned .same) e in
-          (subst (λ (x : Written). ForMessageWriting (writtenNumber x)) (sym e) (o .0), ap writtenLength e, p .left ∙ ap (λ (x : Try (List ℕ)). over (writtenOctets x) before) (o .1) ∙ over-none before);
-      «answer_mailslot» =
+          let t : Try (List ℕ) = message_for source message (length before) in
+          let o = only-returned written_as written.Refused (λ q r h. cc) (λ a r h. cc) (By ForMessageWriting) Any t (message_written-only (By ForMessageWriting) refl refl source message (length before)) w r p.returned.same e in
+          (subst (λ (x : Written). ForMessageWriting (written_number x)) (sym e) o.0, ap written_length e, p.left ∙ ap (λ (x : Try (List ℕ)). over (written_octets x) before) o.1 ∙ over_none before);
+      answer_mailslot =
           λ image caller message before after a r p e.
-          let t : Try Outcome = answerBy mailslotPing image caller message (length before) in
-          let o = only-returned answerAs answer.Refused (λ q r h. cc) (λ a r h. cc) (By ForMailslot) Any t (mailslot-only image caller message (length before)) a r (p .returned .same) e in
-          (subst (λ (x : Answer). ForMailslot (answerNumber x)) (sym e) (o .0), ap answerLength e, ap answerContext e, ap answerForm e, p .left ∙ ap (λ (x : Try Outcome). over (octetsWritten x) before) (o .1) ∙ over-none before);
-      «number_of» = λ r n p. subst ForAny (sym p) (number-known r);
+          let t : Try Outcome = answer_by mailslot_ping image caller message (length before) in
+          let o = only-returned answer_as answer.Refused (λ q r h. cc) (λ a r h. cc) (By ForMailslot) Any t (mailslot-only image caller message (length before)) a r p.returned.same e in
+          (subst (λ (x : Answer). ForMailslot (answer_number x)) (sym e) o.0, ap answer_length e, ap answer_context e, ap answer_form e, p.left ∙ ap (λ (x : Try Outcome). over (octets_written x) before) o.1 ∙ over_none before);
+      number_of = λ r n p. subst ForAny (sym p) (number_known r);
     }

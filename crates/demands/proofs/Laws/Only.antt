@@ -1,10 +1,10 @@
 -- What judgements in a row come to: they are refused for these reasons only, and what they give is so.
-use mathlib.Core.Path.{_≡_, sym, ap, _∙_, subst}
+use mathlib.Core.Path.{◌≡◌, sym, ap, ◌∙◌, subst}
 use mathlib.Core.Bool.{Bool, true, false}
 use Prim.Native.Nat.{ℕ}
 use native.Mathlib.Omega.{arith}
-use Rattle·answers.specs.declared.Refusal.{Refusal}
-use Rattle·answers.specs.Try.{Try, refused, good, refusedIf, _>>=_}
+use Rattle.answers.specs.declared.Refusal.{Refusal}
+use Rattle.answers.specs.Try.{Try, refused, good, refused_if, ◌>>=◌}
 
 -- a reason that it may be refused for, or something so
 abbrev pub Only : {A : Type 0} → (Refusal → Type 0) → (A → Type 0) → Try A → Type 0
@@ -16,19 +16,19 @@ abbrev pub Any : {A : Type 0} → A → Type 0
 Any a = Unit {0}
 
 module _ (P : Refusal → Type 0) where
-  pub only-if : {A : Type 0} (Q : A → Type 0) (b : Bool) (r : Refusal) (rest : Try A) → P r → Only P Q rest → Only P Q (refusedIf b r rest)
-  only-if Q true r rest p o = p
-  only-if Q false r rest p o = o
+  pub only_if : {A : Type 0} (Q : A → Type 0) (b : Bool) (r : Refusal) (rest : Try A) → P r → Only P Q rest → Only P Q (refused_if b r rest)
+  only_if Q true r rest p o = p
+  only_if Q false r rest p o = o
 
-  pub only-then : {A B : Type 0} (Q : B → Type 0) (t : Try A) (f : A → Try B) → Only P Any t → ((a : A) → Only P Q (f a)) → Only P Q (t >>= f)
-  only-then Q (refused r) f o next = o
-  only-then Q (good a) f o next = next a
+  pub only_then : {A B : Type 0} (Q : B → Type 0) (t : Try A) (f : A → Try B) → Only P Any t → ((a : A) → Only P Q (f a)) → Only P Q (t >>= f)
+  only_then Q (refused r) f o next = o
+  only_then Q (good a) f o next = next a
 
 pub only-good : {A : Type 0} (P : Refusal → Type 0) (Q : A → Type 0) (t : Try A) (a : A) → Only P Q t → t ≡ good a → Q a
 only-good P Q t a o e = subst (Only P Q) e o
 
 -- what a call returns, by an enum with a refusal: it refuses for such a reason, and where the definition does
-module _ {A X : Type 0} (returns : Try A → X) (refusal : Refusal → X) (same : (q r : Refusal) → returns (refused q) ≡ refusal r → q ≡ r) (never : (a : A) (r : Refusal) → returns (good a) ≡ refusal r → _≡_ {A = ℕ} 0 1) where
+module _ {A X : Type 0} (returns : Try A → X) (refusal : Refusal → X) (same : (q r : Refusal) → returns (refused q) ≡ refusal r → q ≡ r) (never : (a : A) (r : Refusal) → returns (good a) ≡ refusal r → ◌≡◌ {A = ℕ} 0 1) where
   pub only-returned : (P : Refusal → Type 0) (Q : A → Type 0) (t : Try A) → Only P Q t → (x : X) (r : Refusal) → x ≡ returns t → x ≡ refusal r → P r × (t ≡ refused r)
   only-returned P Q (refused q) o x r p e = let z : q ≡ r = same q r (sym p ∙ e) in (subst P z o, ap refused z)
-  only-returned P Q (good a) o x r p e = let z : _≡_ {A = ℕ} 0 1 = never a r (sym p ∙ e) in absurd (omega arith)
+  only-returned P Q (good a) o x r p e = let z : ◌≡◌ {A = ℕ} 0 1 = never a r (sym p ∙ e) in absurd (omega arith)

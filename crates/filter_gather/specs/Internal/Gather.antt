@@ -1,18 +1,16 @@
 -- What is gathered from a filter's clauses, one after the other: the first of each name, and whether 7 or 8 is to be given.
-use mathlib.Core.Bool.{Bool, true, false}
-use mathlib.Core.List.{List, [], _∷_}
-use mathlib.Core.Option.{Option, none, some}
-use Prim.Native.Nat.{ℕ}
-use Rattle·octets.specs.Lists.{first, cut}
-use Rattle·octets.specs.Text.{sameFolded}
-use Rattle·filter_position.specs.declared.position.RawClause.{RawClause}
-use Rattle·filter.specs.declared.request.Clause.the-variants.{Absent, Present}
-use Rattle·filter.specs.declared.request.ClauseName.{ClauseName}
-use Rattle·filter.specs.declared.request.Request.{Request}
-use Rattle·filter.specs.Internal.ClauseNames.{stored}
-use Rattle·filter.specs.Request.{clauseNames, spelling, clause, requestBy, isPresent}
-use Rattle·filter_gather·specs.specs.declared.gather.SpelledName.{SpelledName}
-use Rattle·filter_gather·specs.specs.declared.gather.SpelledName.the-variants as spelled
+use Rattle.std.specs.Prelude.{Bool, true, false, List, [], ◌∷◌, ℕ}
+use Rattle.std.proofs.Math.Option.{Option, none, some}
+use Rattle.octets.specs.Lists.{first, cut}
+use Rattle.octets.specs.Text.{same_folded}
+use Rattle.filter_position.specs.declared.position.RawClause.{RawClause}
+use Rattle.filter.specs.declared.request.Clause.TheVariants.{Absent, Present}
+use Rattle.filter.specs.declared.request.ClauseName.{ClauseName}
+use Rattle.filter.specs.declared.request.Request.{Request}
+use Rattle.filter.specs.Internal.ClauseNames.{stored}
+use Rattle.filter.specs.Request.{clause_names, spelling, clause, request_by, is_present}
+use Rattle.filter_gather.specs.declared.gather.SpelledName.{SpelledName}
+use Rattle.filter_gather.specs.declared.gather.SpelledName.TheVariants as spelled
 
 -- the clauses read so far: the first of each name, whether one was of another name, and whether one was there before
 pub record Gathered : Type 0 where
@@ -25,39 +23,39 @@ pub data Gathering : Type 0 where
   Wrong : Gathering
   Good : Gathered → Gathering
 
-abbrev pub gatheringOf : Bool → Gathered → Gathering
-gatheringOf true g = Good g
-gatheringOf false g = Wrong
+abbrev pub gathering_of : Bool → Gathered → Gathering
+gathering_of true g = Good g
+gathering_of false g = Wrong
 
 -- the clause name that octets spell
 
-abbrev pub spelledAs : Option ClauseName → SpelledName
-spelledAs none = spelled.Unknown
-spelledAs (some n) = spelled.Known n
+abbrev pub spelled_as : Option ClauseName → SpelledName
+spelled_as none = spelled.Unknown
+spelled_as (some n) = spelled.Known n
 
-unfoldable pub nameSpelled : List ℕ → Option ClauseName
-nameSpelled x = first (λ name. sameFolded x (spelling name)) clauseNames
+unfoldable pub name_spelled : List ℕ → Option ClauseName
+name_spelled x = first (λ name. same_folded x (spelling name)) clause_names
 
 -- one more clause: of another name, of a name that is there already, or the first of its name
 
-abbrev pub addedTo : Gathered → ClauseName → RawClause → Bool → Gathered
-addedTo g name f true = record { request = g .request; unknown = g .unknown; duplicate = true }
-addedTo g name f false = record { request = stored (g .request) name (Present (f .start) (f .len)); unknown = g .unknown; duplicate = g .duplicate }
+abbrev pub added_to : Gathered → ClauseName → RawClause → Bool → Gathered
+added_to g name f true = record { request = g.request; unknown = g.unknown; duplicate = true }
+added_to g name f false = record { request = stored g.request name (Present f.start f.len); unknown = g.unknown; duplicate = g.duplicate }
 
-abbrev pub addedAs : Gathered → RawClause → Option ClauseName → Gathered
-addedAs g f none = record { request = g .request; unknown = true; duplicate = g .duplicate }
-addedAs g f (some name) = addedTo g name f (isPresent (clause (g .request) name))
+abbrev pub added_as : Gathered → RawClause → Option ClauseName → Gathered
+added_as g f none = record { request = g.request; unknown = true; duplicate = g.duplicate }
+added_as g f (some name) = added_to g name f (is_present (clause g.request name))
 
 unfoldable pub added : List ℕ → Gathered → RawClause → Gathered
-added s g f = addedAs g f (nameSpelled (cut s (f .«name_start») (f .«name_len»)))
+added s g f = added_as g f (name_spelled (cut s f.name_start f.name_len))
 
-unfoldable pub allAdded : List ℕ → Gathered → List RawClause → Gathered
-allAdded s g [] = g
-allAdded s g (f ∷ fs) = allAdded s (added s g f) fs
+unfoldable pub all_added : List ℕ → Gathered → List RawClause → Gathered
+all_added s g [] = g
+all_added s g (f ∷ fs) = all_added s (added s g f) fs
 
-abbrev pub gatheredFrom : List ℕ → Gathered → Option (List RawClause) → Gathering
-gatheredFrom s g none = Wrong
-gatheredFrom s g (some fs) = Good (allAdded s g fs)
+abbrev pub gathered_from : List ℕ → Gathered → Option (List RawClause) → Gathering
+gathered_from s g none = Wrong
+gathered_from s g (some fs) = Good (all_added s g fs)
 
 abbrev pub nothing : Gathered
-nothing = record { request = requestBy (λ name. Absent); unknown = false; duplicate = false }
+nothing = record { request = request_by (λ name. Absent); unknown = false; duplicate = false }

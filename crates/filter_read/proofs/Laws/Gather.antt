@@ -1,230 +1,230 @@
 -- Laws of gathering: what clauses make, one after the other, is what document 01 says of them as a whole.
-use mathlib.Core.Path.{_≡_, refl, sym, ap, fun-ext, _∙_}
-use mathlib.Core.Bool.{Bool, true, false, cond, not, _||_, _&&_, or-assoc, or-true, or-false}
-use mathlib.Core.List.{List, [], _∷_}
+use mathlib.Core.Path.{◌≡◌, refl, sym, ap, fun_ext, ◌∙◌}
+use mathlib.Core.Bool.{Bool, true, false, cond, not, ◌||◌, ◌&&◌, or_assoc, or-true, or-false}
+use mathlib.Core.List.{List, [], ◌∷◌}
 use mathlib.Core.Option.{Option, none, some}
 use Prim.Native.Nat.{ℕ}
 use native.Mathlib.Omega.{arith}
 use borrow.Author.Tests.{not-false}
-use Rattle·answers.specs.declared.Refusal.the-variants.{UnknownClause, DuplicateClause}
-use Rattle·answers.specs.Try.{Try, good, refusedIf}
-use Rattle·octets.specs.Lists.{any, first, firstOr, unique, isSome}
-use Rattle·octets.proofs.Laws.Lists.{first-any, first-holds, any-ext, any-either, any-never, neither-left, neither-right}
-use Rattle·octets.specs.Text.{sameFolded}
-use Rattle·octets.proofs.Laws.Text.{folded-left, folded-sym}
-use Rattle·filter_position.specs.declared.position.RawClause.{RawClause}
-use Rattle·filter.specs.declared.request.Clause.{Clause}
-use Rattle·filter.specs.declared.request.Clause.the-variants.{Absent, Present}
-use Rattle·filter.specs.declared.request.ClauseName.{ClauseName}
-use Rattle·filter.specs.declared.request.Request.{Request}
-use Rattle·filter.specs.Internal.ClauseNames.{isSameName, stored}
-use Rattle·filter.specs.Request.{clauseNames, spelling, clause, requestBy, isPresent}
-use Rattle·filter.proofs.Laws.ClauseNames.{names-none, same-name, clause-by}
-use Rattle·filter_gather.specs.Internal.Gather.{Gathered, Wrong, Good, nameSpelled, addedTo, addedAs, added, allAdded, gatheredFrom, nothing}
-use Rattle·filter_read·specs.specs.Taken.{nameOctets, isNamed, hasUnknown, hasDuplicate, asClause, requestOf, judgedClauses}
+use Rattle.answers.specs.declared.Refusal.TheVariants.{UnknownClause, DuplicateClause}
+use Rattle.answers.specs.Try.{Try, good, refused_if}
+use Rattle.octets.specs.Lists.{any, first, first_or, unique, is_some}
+use Rattle.octets.proofs.Laws.Lists.{first_any, first_holds, any_ext, any_either, any_never, neither_left, neither_right}
+use Rattle.octets.specs.Text.{same_folded}
+use Rattle.octets.proofs.Laws.Text.{folded_left, folded_sym}
+use Rattle.filter_position.specs.declared.position.RawClause.{RawClause}
+use Rattle.filter.specs.declared.request.Clause.{Clause}
+use Rattle.filter.specs.declared.request.Clause.TheVariants.{Absent, Present}
+use Rattle.filter.specs.declared.request.ClauseName.{ClauseName}
+use Rattle.filter.specs.declared.request.Request.{Request}
+use Rattle.filter.specs.Internal.ClauseNames.{is_same_name, stored}
+use Rattle.filter.specs.Request.{clause_names, spelling, clause, request_by, is_present}
+use Rattle.filter.proofs.Laws.ClauseNames.{names_none, same-name, clause_by}
+use Rattle.filter_gather.specs.Internal.Gather.{Gathered, Wrong, Good, name_spelled, added_to, added_as, added, all_added, gathered_from, nothing}
+use Rattle.filter_read.specs.Taken.{name_octets, is_named, has_unknown, has_duplicate, as_clause, request_of, judged_clauses}
 
 -- the answer that gathered clauses make
-abbrev pub answerOf : Gathered → Try Request
-answerOf g = refusedIf (g .unknown) UnknownClause (refusedIf (g .duplicate) DuplicateClause (good (g .request)))
+abbrev pub answer_of : Gathered → Try Request
+answer_of g = refused_if g.unknown UnknownClause (refused_if g.duplicate DuplicateClause (good g.request))
 
 -- the name that octets spell is the only one
 module _ (x : List ℕ) where
-  pub named-one : (m n : ClauseName) → nameSpelled x ≡ some m → sameFolded x (spelling n) ≡ isSameName m n
-  unfolding nameSpelled
-  named-one m n e = folded-left x (spelling m) (spelling n) (first-holds (λ name. sameFolded x (spelling name)) clauseNames m e)
+  pub named-one : (m n : ClauseName) → name_spelled x ≡ some m → same_folded x (spelling n) ≡ is_same_name m n
+  unfolding name_spelled
+  named-one m n e = folded_left x (spelling m) (spelling n) (first_holds (λ name. same_folded x (spelling name)) clause_names m e)
 
-  pub named-not : (n : ClauseName) → nameSpelled x ≡ none → sameFolded x (spelling n) ≡ false
-  unfolding nameSpelled
-  named-not n e =
-      names-none (λ name. sameFolded x (spelling name)) n (sym (first-any (λ name. sameFolded x (spelling name)) clauseNames) ∙ ap isSome e)
+  pub named_not : (n : ClauseName) → name_spelled x ≡ none → same_folded x (spelling n) ≡ false
+  unfolding name_spelled
+  named_not n e =
+      names_none (λ name. same_folded x (spelling name)) n (sym (first_any (λ name. same_folded x (spelling name)) clause_names) ∙ ap is_some e)
 
 -- 7: one of the clauses is of another name
 
 module _ (s : List ℕ) where
-  abbrev nameFor : RawClause → Option ClauseName
-  nameFor f = nameSpelled (nameOctets s f)
+  abbrev name_for : RawClause → Option ClauseName
+  name_for f = name_spelled (name_octets s f)
 
-  abbrev isUnknown : RawClause → Bool
-  isUnknown f = not (any (λ name. isNamed s name f) clauseNames)
+  abbrev is_unknown : RawClause → Bool
+  is_unknown f = not (any (λ name. is_named s name f) clause_names)
 
-  unknown-spelled : (f : RawClause) → isUnknown f ≡ not (isSome (nameFor f))
-  unfolding isNamed nameSpelled
-  unknown-spelled f = ap not (sym (first-any (λ name. sameFolded (nameOctets s f) (spelling name)) clauseNames))
+  unknown_spelled : (f : RawClause) → is_unknown f ≡ not (is_some (name_for f))
+  unfolding is_named name_spelled
+  unknown_spelled f = ap not (sym (first_any (λ name. same_folded (name_octets s f) (spelling name)) clause_names))
 
-  unknown-one : (g : Gathered) (f : RawClause) → added s g f .unknown ≡ (g .unknown || isUnknown f)
+  unknown-one : (g : Gathered) (f : RawClause) → (added s g f).unknown ≡ (g.unknown || is_unknown f)
   unfolding added
-  unknown-one g f = by (nameFor f) ∙ ap (λ (b : Bool). g .unknown || b) (sym (unknown-spelled f))
+  unknown-one g f = by (name_for f) ∙ ap (λ (b : Bool). g.unknown || b) (sym (unknown_spelled f))
     where
-      kept : (n : ClauseName) (b : Bool) → addedTo g n f b .unknown ≡ (g .unknown || false)
-      kept n true = sym (or-false (g .unknown))
-      kept n false = sym (or-false (g .unknown))
+      kept : (n : ClauseName) (b : Bool) → (added_to g n f b).unknown ≡ (g.unknown || false)
+      kept n true = sym (or-false g.unknown)
+      kept n false = sym (or-false g.unknown)
 
-      by : (o : Option ClauseName) → addedAs g f o .unknown ≡ (g .unknown || not (isSome o))
-      by none = sym (or-true (g .unknown))
-      by (some n) = kept n (isPresent (clause (g .request) n))
+      by : (o : Option ClauseName) → (added_as g f o).unknown ≡ (g.unknown || not (is_some o))
+      by none = sym (or-true g.unknown)
+      by (some n) = kept n (is_present (clause g.request n))
 
-  pub all-unknown : (g : Gathered) (fs : List RawClause) → allAdded s g fs .unknown ≡ (g .unknown || hasUnknown s fs)
-  unfolding allAdded hasUnknown any
-  all-unknown g [] = sym (or-false (g .unknown))
+  pub all-unknown : (g : Gathered) (fs : List RawClause) → (all_added s g fs).unknown ≡ (g.unknown || has_unknown s fs)
+  unfolding all_added has_unknown any
+  all-unknown g [] = sym (or-false g.unknown)
   all-unknown g (f ∷ fs) =
       all-unknown (added s g f) fs
-      ∙ ap (λ (b : Bool). b || hasUnknown s fs) (unknown-one g f)
-      ∙ or-assoc (g .unknown) (isUnknown f) (hasUnknown s fs)
+      ∙ ap (λ (b : Bool). b || has_unknown s fs) (unknown-one g f)
+      ∙ or_assoc g.unknown (is_unknown f) (has_unknown s fs)
 
 -- the request: the first clause of each name
 
-abbrev orElse : Clause → Clause → Clause
-orElse Absent c = c
-orElse (Present start len) c = Present start len
+abbrev or_else : Clause → Clause → Clause
+or_else Absent c = c
+or_else (Present start len) c = Present start len
 
-absent-not : (c d : Clause) → isPresent c ≡ false → orElse c d ≡ d
-absent-not Absent d e = refl
-absent-not (Present start len) d e = let z : _≡_ {A = ℕ} 0 1 = cc in absurd (omega arith)
+absent_not : (c d : Clause) → is_present c ≡ false → or_else c d ≡ d
+absent_not Absent d e = refl
+absent_not (Present start len) d e = let z : ◌≡◌ {A = ℕ} 0 1 = cc in absurd (omega arith)
 
-present-is : (c d : Clause) → isPresent c ≡ true → orElse c d ≡ c
-present-is Absent d e = let z : _≡_ {A = ℕ} 0 1 = cc in absurd (omega arith)
-present-is (Present start len) d e = refl
+present_is : (c d : Clause) → is_present c ≡ true → or_else c d ≡ c
+present_is Absent d e = let z : ◌≡◌ {A = ℕ} 0 1 = cc in absurd (omega arith)
+present_is (Present start len) d e = refl
 
 module _ (s : List ℕ) (n : ClauseName) where
-  abbrev firstOne : List RawClause → Clause
-  firstOne fs = asClause (first (isNamed s n) fs)
+  abbrev first_one : List RawClause → Clause
+  first_one fs = as_clause (first (is_named s n) fs)
 
-  request-one : (g : Gathered) (f : RawClause) (fs : List RawClause) → orElse (clause (added s g f .request) n) (firstOne fs) ≡ orElse (clause (g .request) n) (firstOne (f ∷ fs))
-  unfolding added first isNamed
-  request-one g f fs = by (nameSpelled (nameOctets s f)) refl
+  request-one : (g : Gathered) (f : RawClause) (fs : List RawClause) → or_else (clause (added s g f).request n) (first_one fs) ≡ or_else (clause g.request n) (first_one (f ∷ fs))
+  unfolding added first is_named
+  request-one g f fs = by (name_spelled (name_octets s f)) refl
     where
       rest : Bool → Clause
-      rest b = asClause (firstOr b f (first (isNamed s n) fs))
+      rest b = as_clause (first_or b f (first (is_named s n) fs))
 
-      again : (m : ClauseName) (b : Bool) → isSameName m n ≡ b → isPresent (clause (g .request) m) ≡ true → orElse (clause (g .request) n) (firstOne fs) ≡ orElse (clause (g .request) n) (rest b)
+      again : (m : ClauseName) (b : Bool) → is_same_name m n ≡ b → is_present (clause g.request m) ≡ true → or_else (clause g.request n) (first_one fs) ≡ or_else (clause g.request n) (rest b)
       again m true e i =
-          let j : isPresent (clause (g .request) n) ≡ true = ap (λ (k : ClauseName). isPresent (clause (g .request) k)) (sym (same-name m n e)) ∙ i in
-          present-is (clause (g .request) n) (firstOne fs) j ∙ sym (present-is (clause (g .request) n) (rest true) j)
+          let j : is_present (clause g.request n) ≡ true = ap (λ (k : ClauseName). is_present (clause g.request k)) (sym (same-name m n e)) ∙ i in
+          present_is (clause g.request n) (first_one fs) j ∙ sym (present_is (clause g.request n) (rest true) j)
       again m false e i = refl
 
-      fresh : (m : ClauseName) (b : Bool) → isSameName m n ≡ b → isPresent (clause (g .request) m) ≡ false
-          → orElse (cond b (Present (f .start) (f .len)) (clause (g .request) n)) (firstOne fs) ≡ orElse (clause (g .request) n) (rest b)
+      fresh : (m : ClauseName) (b : Bool) → is_same_name m n ≡ b → is_present (clause g.request m) ≡ false
+          → or_else (cond b (Present f.start f.len) (clause g.request n)) (first_one fs) ≡ or_else (clause g.request n) (rest b)
       fresh m true e i =
-          let j : isPresent (clause (g .request) n) ≡ false = ap (λ (k : ClauseName). isPresent (clause (g .request) k)) (sym (same-name m n e)) ∙ i in
-          sym (absent-not (clause (g .request) n) (rest true) j)
+          let j : is_present (clause g.request n) ≡ false = ap (λ (k : ClauseName). is_present (clause g.request k)) (sym (same-name m n e)) ∙ i in
+          sym (absent_not (clause g.request n) (rest true) j)
       fresh m false e i = refl
 
-      here : (m : ClauseName) (b : Bool) → isPresent (clause (g .request) m) ≡ b → orElse (clause (addedTo g m f b .request) n) (firstOne fs) ≡ orElse (clause (g .request) n) (rest (isSameName m n))
-      here m true i = again m (isSameName m n) refl i
+      here : (m : ClauseName) (b : Bool) → is_present (clause g.request m) ≡ b → or_else (clause (added_to g m f b).request n) (first_one fs) ≡ or_else (clause g.request n) (rest (is_same_name m n))
+      here m true i = again m (is_same_name m n) refl i
       here m false i =
-          ap (λ (c : Clause). orElse c (firstOne fs)) (clause-by (λ other. cond (isSameName m other) (Present (f .start) (f .len)) (clause (g .request) other)) n)
-          ∙ fresh m (isSameName m n) refl i
+          ap (λ (c : Clause). or_else c (first_one fs)) (clause_by (λ other. cond (is_same_name m other) (Present f.start f.len) (clause g.request other)) n)
+          ∙ fresh m (is_same_name m n) refl i
 
-      by : (o : Option ClauseName) → nameSpelled (nameOctets s f) ≡ o → orElse (clause (addedAs g f o .request) n) (firstOne fs) ≡ orElse (clause (g .request) n) (rest (sameFolded (nameOctets s f) (spelling n)))
-      by none e = ap (λ (b : Bool). orElse (clause (g .request) n) (rest b)) (sym (named-not (nameOctets s f) n e))
-      by (some m) e = here m (isPresent (clause (g .request) m)) refl ∙ ap (λ (b : Bool). orElse (clause (g .request) n) (rest b)) (sym (named-one (nameOctets s f) m n e))
+      by : (o : Option ClauseName) → name_spelled (name_octets s f) ≡ o → or_else (clause (added_as g f o).request n) (first_one fs) ≡ or_else (clause g.request n) (rest (same_folded (name_octets s f) (spelling n)))
+      by none e = ap (λ (b : Bool). or_else (clause g.request n) (rest b)) (sym (named_not (name_octets s f) n e))
+      by (some m) e = here m (is_present (clause g.request m)) refl ∙ ap (λ (b : Bool). or_else (clause g.request n) (rest b)) (sym (named-one (name_octets s f) m n e))
 
-  pub all-request : (g : Gathered) (fs : List RawClause) → clause (allAdded s g fs .request) n ≡ orElse (clause (g .request) n) (firstOne fs)
-  unfolding allAdded first
-  all-request g [] = sym (or-absent (clause (g .request) n))
+  pub all-request : (g : Gathered) (fs : List RawClause) → clause (all_added s g fs).request n ≡ or_else (clause g.request n) (first_one fs)
+  unfolding all_added first
+  all-request g [] = sym (or_absent (clause g.request n))
     where
-      or-absent : (c : Clause) → orElse c Absent ≡ c
-      or-absent Absent = refl
-      or-absent (Present start len) = refl
+      or_absent : (c : Clause) → or_else c Absent ≡ c
+      or_absent Absent = refl
+      or_absent (Present start len) = refl
   all-request g (f ∷ fs) = all-request (added s g f) fs ∙ request-one g f fs
 
 -- 8: a clause whose name is there already, where each clause is of a name
 
 module _ (s : List ℕ) where
-  abbrev thereIn : Request → Option ClauseName → Bool
-  thereIn r none = false
-  thereIn r (some n) = isPresent (clause r n)
+  abbrev there_in : Request → Option ClauseName → Bool
+  there_in r none = false
+  there_in r (some n) = is_present (clause r n)
 
   abbrev there : Request → RawClause → Bool
-  there r f = thereIn r (nameSpelled (nameOctets s f))
+  there r f = there_in r (name_spelled (name_octets s f))
 
-  abbrev sameName : RawClause → RawClause → Bool
-  sameName f h = sameFolded (nameOctets s f) (nameOctets s h)
+  abbrev same_name : RawClause → RawClause → Bool
+  same_name f h = same_folded (name_octets s f) (name_octets s h)
 
   -- after a clause of name m is stored, the names there are those before and m
-  stored-there : (r : Request) (m : ClauseName) (start len : ℕ) (f h : RawClause) → nameSpelled (nameOctets s f) ≡ some m → there (stored r m (Present start len)) h ≡ (there r h || sameName f h)
-  unfolding nameSpelled
-  stored-there r m start len f h e = by (nameSpelled (nameOctets s h)) refl ∙ ap (λ (b : Bool). there r h || b) (sym like)
+  stored_there : (r : Request) (m : ClauseName) (start len : ℕ) (f h : RawClause) → name_spelled (name_octets s f) ≡ some m → there (stored r m (Present start len)) h ≡ (there r h || same_name f h)
+  unfolding name_spelled
+  stored_there r m start len f h e = by (name_spelled (name_octets s h)) refl ∙ ap (λ (b : Bool). there r h || b) (sym like)
     where
-      like : sameName f h ≡ sameFolded (nameOctets s h) (spelling m)
-      like = folded-left (nameOctets s f) (spelling m) (nameOctets s h) (first-holds (λ name. sameFolded (nameOctets s f) (spelling name)) clauseNames m e) ∙ folded-sym (spelling m) (nameOctets s h)
+      like : same_name f h ≡ same_folded (name_octets s h) (spelling m)
+      like = folded_left (name_octets s f) (spelling m) (name_octets s h) (first_holds (λ name. same_folded (name_octets s f) (spelling name)) clause_names m e) ∙ folded_sym (spelling m) (name_octets s h)
 
-      set : (n : ClauseName) (b : Bool) → isPresent (cond b (Present start len) (clause r n)) ≡ (isPresent (clause r n) || b)
-      set n true = sym (or-true (isPresent (clause r n)))
-      set n false = sym (or-false (isPresent (clause r n)))
+      set : (n : ClauseName) (b : Bool) → is_present (cond b (Present start len) (clause r n)) ≡ (is_present (clause r n) || b)
+      set n true = sym (or-true (is_present (clause r n)))
+      set n false = sym (or-false (is_present (clause r n)))
 
-      by : (o : Option ClauseName) → nameSpelled (nameOctets s h) ≡ o → thereIn (stored r m (Present start len)) o ≡ (thereIn r o || sameFolded (nameOctets s h) (spelling m))
-      by none q = sym (named-not (nameOctets s h) m q)
+      by : (o : Option ClauseName) → name_spelled (name_octets s h) ≡ o → there_in (stored r m (Present start len)) o ≡ (there_in r o || same_folded (name_octets s h) (spelling m))
+      by none q = sym (named_not (name_octets s h) m q)
       by (some n) q =
-          ap isPresent (clause-by (λ other. cond (isSameName m other) (Present start len) (clause r other)) n)
-          ∙ set n (isSameName m n)
-          ∙ ap (λ (b : Bool). isPresent (clause r n) || b) (folded-sym (spelling m) (spelling n) ∙ sym (named-one (nameOctets s h) n m q))
+          ap is_present (clause_by (λ other. cond (is_same_name m other) (Present start len) (clause r other)) n)
+          ∙ set n (is_same_name m n)
+          ∙ ap (λ (b : Bool). is_present (clause r n) || b) (folded_sym (spelling m) (spelling n) ∙ sym (named-one (name_octets s h) n m q))
 
-  duplicate-more : (f : RawClause) (fs : List RawClause) → hasDuplicate s (f ∷ fs) ≡ (any (sameName f) fs || hasDuplicate s fs)
-  unfolding hasDuplicate unique
-  duplicate-more f fs = by (any (sameName f) fs) (unique sameName fs)
+  duplicate-more : (f : RawClause) (fs : List RawClause) → has_duplicate s (f ∷ fs) ≡ (any (same_name f) fs || has_duplicate s fs)
+  unfolding has_duplicate unique
+  duplicate-more f fs = by (any (same_name f) fs) (unique same_name fs)
     where
       by : (a b : Bool) → not (not a && b) ≡ (a || not b)
       by true b = refl
       by false b = refl
 
   -- one clause more, of name m
-  duplicate-one : (g : Gathered) (f : RawClause) (fs : List RawClause) (m : ClauseName) → nameSpelled (nameOctets s f) ≡ some m → (b : Bool) → isPresent (clause (g .request) m) ≡ b
-      → (addedTo g m f b .duplicate || (any (there (addedTo g m f b .request)) fs || hasDuplicate s fs)) ≡ (g .duplicate || ((b || any (there (g .request)) fs) || (any (sameName f) fs || hasDuplicate s fs)))
-  duplicate-one g f fs m q true i = sym (or-true (g .duplicate))
+  duplicate-one : (g : Gathered) (f : RawClause) (fs : List RawClause) (m : ClauseName) → name_spelled (name_octets s f) ≡ some m → (b : Bool) → is_present (clause g.request m) ≡ b
+      → ((added_to g m f b).duplicate || (any (there (added_to g m f b).request) fs || has_duplicate s fs)) ≡ (g.duplicate || ((b || any (there g.request) fs) || (any (same_name f) fs || has_duplicate s fs)))
+  duplicate-one g f fs m q true i = sym (or-true g.duplicate)
   duplicate-one g f fs m q false i =
-      let a : any (there (stored (g .request) m (Present (f .start) (f .len)))) fs ≡ (any (there (g .request)) fs || any (sameName f) fs) =
-      any-ext (there (stored (g .request) m (Present (f .start) (f .len)))) (λ h. there (g .request) h || sameName f h) fs (λ h. stored-there (g .request) m (f .start) (f .len) f h q)
-      ∙ sym (any-either (there (g .request)) (sameName f) fs) in
-      ap (λ (x : Bool). g .duplicate || (x || hasDuplicate s fs)) a ∙ ap (λ (x : Bool). g .duplicate || x) (or-assoc (any (there (g .request)) fs) (any (sameName f) fs) (hasDuplicate s fs))
+      let a : any (there (stored g.request m (Present f.start f.len))) fs ≡ (any (there g.request) fs || any (same_name f) fs) =
+      any_ext (there (stored g.request m (Present f.start f.len))) (λ h. there g.request h || same_name f h) fs (λ h. stored_there g.request m f.start f.len f h q)
+      ∙ sym (any_either (there g.request) (same_name f) fs) in
+      ap (λ (x : Bool). g.duplicate || (x || has_duplicate s fs)) a ∙ ap (λ (x : Bool). g.duplicate || x) (or_assoc (any (there g.request) fs) (any (same_name f) fs) (has_duplicate s fs))
 
-  pub all-duplicate : (g : Gathered) (fs : List RawClause) → hasUnknown s fs ≡ false → allAdded s g fs .duplicate ≡ (g .duplicate || (any (there (g .request)) fs || hasDuplicate s fs))
-  unfolding allAdded added hasUnknown hasDuplicate any unique
-  all-duplicate g [] e = sym (or-false (g .duplicate))
-  all-duplicate g (f ∷ fs) e = by (nameSpelled (nameOctets s f)) refl (all-duplicate (added s g f) fs (neither-right (isUnknown s f) (hasUnknown s fs) e))
+  pub all-duplicate : (g : Gathered) (fs : List RawClause) → has_unknown s fs ≡ false → (all_added s g fs).duplicate ≡ (g.duplicate || (any (there g.request) fs || has_duplicate s fs))
+  unfolding all_added added has_unknown has_duplicate any unique
+  all-duplicate g [] e = sym (or-false g.duplicate)
+  all-duplicate g (f ∷ fs) e = by (name_spelled (name_octets s f)) refl (all-duplicate (added s g f) fs (neither_right (is_unknown s f) (has_unknown s fs) e))
     where
-      known : isSome (nameSpelled (nameOctets s f)) ≡ true
-      known = not-false (isSome (nameSpelled (nameOctets s f))) (sym (unknown-spelled s f) ∙ neither-left (isUnknown s f) (hasUnknown s fs) e)
+      known : is_some (name_spelled (name_octets s f)) ≡ true
+      known = not-false (is_some (name_spelled (name_octets s f))) (sym (unknown_spelled s f) ∙ neither_left (is_unknown s f) (has_unknown s fs) e)
 
-      by : (o : Option ClauseName) → nameSpelled (nameOctets s f) ≡ o
-          → allAdded s (added s g f) fs .duplicate ≡ (added s g f .duplicate || (any (there (added s g f .request)) fs || hasDuplicate s fs))
-          → allAdded s (added s g f) fs .duplicate ≡ (g .duplicate || ((there (g .request) f || any (there (g .request)) fs) || hasDuplicate s (f ∷ fs)))
-      by none q ih = let z : false ≡ true = ap isSome (sym q) ∙ known in let y : _≡_ {A = ℕ} 0 1 = cc in absurd (omega arith)
+      by : (o : Option ClauseName) → name_spelled (name_octets s f) ≡ o
+          → (all_added s (added s g f) fs).duplicate ≡ ((added s g f).duplicate || (any (there (added s g f).request) fs || has_duplicate s fs))
+          → (all_added s (added s g f) fs).duplicate ≡ (g.duplicate || ((there g.request f || any (there g.request) fs) || has_duplicate s (f ∷ fs)))
+      by none q ih = let z : false ≡ true = ap is_some (sym q) ∙ known in let y : ◌≡◌ {A = ℕ} 0 1 = cc in absurd (omega arith)
       by (some m) q ih =
           ih
-          ∙ ap (λ (o : Option ClauseName). addedAs g f o .duplicate || (any (there (addedAs g f o .request)) fs || hasDuplicate s fs)) q
-          ∙ duplicate-one g f fs m q (isPresent (clause (g .request) m)) refl
-          ∙ ap (λ (b : Bool). g .duplicate || ((thereIn (g .request) (some m) || any (there (g .request)) fs) || b)) (sym (duplicate-more f fs))
-          ∙ ap (λ (o : Option ClauseName). g .duplicate || ((thereIn (g .request) o || any (there (g .request)) fs) || hasDuplicate s (f ∷ fs))) (sym q)
+          ∙ ap (λ (o : Option ClauseName). (added_as g f o).duplicate || (any (there (added_as g f o).request) fs || has_duplicate s fs)) q
+          ∙ duplicate-one g f fs m q (is_present (clause g.request m)) refl
+          ∙ ap (λ (b : Bool). g.duplicate || ((there_in g.request (some m) || any (there g.request) fs) || b)) (sym (duplicate-more f fs))
+          ∙ ap (λ (o : Option ClauseName). g.duplicate || ((there_in g.request o || any (there g.request) fs) || has_duplicate s (f ∷ fs))) (sym q)
 
 -- gathered from nothing, clauses make what document 01 says of them
-pub gathers : (s : List ℕ) (fs : List RawClause) → answerOf (allAdded s nothing fs) ≡ judgedClauses s (some fs)
-unfolding requestOf
-gathers s fs = by-unknown (hasUnknown s fs) refl
+pub gathers : (s : List ℕ) (fs : List RawClause) → answer_of (all_added s nothing fs) ≡ judged_clauses s (some fs)
+unfolding request_of
+gathers s fs = by_unknown (has_unknown s fs) refl
   where
-    none-there : any (there s (nothing .request)) fs ≡ false
-    none-there = any-ext (there s (nothing .request)) (λ f. false) fs (λ f. absent-all (nameSpelled (nameOctets s f))) ∙ any-never fs
+    none_there : any (there s nothing.request) fs ≡ false
+    none_there = any_ext (there s nothing.request) (λ f. false) fs (λ f. absent-all (name_spelled (name_octets s f))) ∙ any_never fs
       where
-        absent-all : (o : Option ClauseName) → thereIn s (nothing .request) o ≡ false
+        absent-all : (o : Option ClauseName) → there_in s nothing.request o ≡ false
         absent-all none = refl
-        absent-all (some n) = ap isPresent (clause-by (λ name. Absent) n)
+        absent-all (some n) = ap is_present (clause_by (λ name. Absent) n)
 
-    made : allAdded s nothing fs .request ≡ requestOf s fs
-    made = ap requestBy (fun-ext (λ n. all-request s n nothing fs ∙ ap (λ (c : Clause). orElse c (firstOne s n fs)) (clause-by (λ name. Absent) n)))
+    made : (all_added s nothing fs).request ≡ request_of s fs
+    made = ap request_by (fun_ext (λ n. all-request s n nothing fs ∙ ap (λ (c : Clause). or_else c (first_one s n fs)) (clause_by (λ name. Absent) n)))
 
-    by-unknown : (b : Bool) → hasUnknown s fs ≡ b → answerOf (allAdded s nothing fs) ≡ judgedClauses s (some fs)
-    by-unknown true e =
-        let h : allAdded s nothing fs .unknown ≡ true = all-unknown s nothing fs ∙ e in
+    by_unknown : (b : Bool) → has_unknown s fs ≡ b → answer_of (all_added s nothing fs) ≡ judged_clauses s (some fs)
+    by_unknown true e =
+        let h : (all_added s nothing fs).unknown ≡ true = all-unknown s nothing fs ∙ e in
         rw (h, e)
-    by-unknown false e =
-        let h : allAdded s nothing fs .unknown ≡ false = all-unknown s nothing fs ∙ e in
-        let w : allAdded s nothing fs .duplicate ≡ hasDuplicate s fs = all-duplicate s nothing fs e ∙ ap (λ (b : Bool). b || hasDuplicate s fs) none-there in
+    by_unknown false e =
+        let h : (all_added s nothing fs).unknown ≡ false = all-unknown s nothing fs ∙ e in
+        let w : (all_added s nothing fs).duplicate ≡ has_duplicate s fs = all-duplicate s nothing fs e ∙ ap (λ (b : Bool). b || has_duplicate s fs) none_there in
         rw (h, e, w, made)
 
-pub gathered-none : (s : List ℕ) (o : Option (List RawClause)) → gatheredFrom s nothing o ≡ Wrong → o ≡ none
-gathered-none s none e = refl
-gathered-none s (some fs) e = let z : _≡_ {A = ℕ} 0 1 = cc in absurd (omega arith)
+pub gathered_none : (s : List ℕ) (o : Option (List RawClause)) → gathered_from s nothing o ≡ Wrong → o ≡ none
+gathered_none s none e = refl
+gathered_none s (some fs) e = let z : ◌≡◌ {A = ℕ} 0 1 = cc in absurd (omega arith)
 
-pub gathered-some : (s : List ℕ) (o : Option (List RawClause)) (g : Gathered) → gatheredFrom s nothing o ≡ Good g → judgedClauses s o ≡ answerOf g
-gathered-some s none g e = let z : _≡_ {A = ℕ} 0 1 = cc in absurd (omega arith)
-gathered-some s (some fs) g e = let h : allAdded s nothing fs ≡ g = cc in sym (gathers s fs) ∙ ap answerOf h
+pub gathered_some : (s : List ℕ) (o : Option (List RawClause)) (g : Gathered) → gathered_from s nothing o ≡ Good g → judged_clauses s o ≡ answer_of g
+gathered_some s none g e = let z : ◌≡◌ {A = ℕ} 0 1 = cc in absurd (omega arith)
+gathered_some s (some fs) g e = let h : all_added s nothing fs ≡ g = cc in sym (gathers s fs) ∙ ap answer_of h

@@ -1,18 +1,18 @@
 -- Where 9 finds nothing, NtVer and AAC are numbers.
-use mathlib.Core.Path.{_≡_}
-use mathlib.Core.Bool.{false, _||_}
+use mathlib.Core.Path.{◌≡◌}
+use mathlib.Core.Bool.{false, ◌||◌}
 use mathlib.Core.List.{List}
 use Prim.Native.Nat.{ℕ}
-use Rattle·octets.proofs.Laws.Lists.{neither-left, neither-right}
-use Rattle·filter.specs.declared.request.Clause.{Clause}
-use Rattle·filter_read·specs.specs.Internal.WrongValue.{wrongNumber, wrongUser}
+use Rattle.octets.proofs.Laws.Lists.{neither_left, neither_right}
+use Rattle.filter.specs.declared.request.Clause.{Clause}
+use Rattle.filter_read.specs.Internal.WrongValue.{wrong_number, wrong_user}
 
-module _ (s : List ℕ) (v aac user : Clause) (h : (wrongNumber s v || wrongNumber s aac || wrongUser s user) ≡ false) where
-  numbers : (wrongNumber s v || wrongNumber s aac) ≡ false
-  numbers = neither-left (wrongNumber s v || wrongNumber s aac) (wrongUser s user) h
+module _ (s : List ℕ) (v aac user : Clause) (h : (wrong_number s v || wrong_number s aac || wrong_user s user) ≡ false) where
+  numbers : (wrong_number s v || wrong_number s aac) ≡ false
+  numbers = neither_left (wrong_number s v || wrong_number s aac) (wrong_user s user) h
 
-  pub version-right : wrongNumber s v ≡ false
-  version-right = neither-left (wrongNumber s v) (wrongNumber s aac) numbers
+  pub version-right : wrong_number s v ≡ false
+  version-right = neither_left (wrong_number s v) (wrong_number s aac) numbers
 
-  pub aac-right : wrongNumber s aac ≡ false
-  aac-right = neither-right (wrongNumber s v) (wrongNumber s aac) numbers
+  pub aac-right : wrong_number s aac ≡ false
+  aac-right = neither_right (wrong_number s v) (wrong_number s aac) numbers

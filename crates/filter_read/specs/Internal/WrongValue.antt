@@ -1,15 +1,13 @@
 -- 9, clause by clause.
-use mathlib.Core.Bool.{Bool, not}
-use mathlib.Core.List.{List}
-use Prim.Native.Nat.{ℕ}
-use Rattle·octets.specs.Lists.{holds}
-use Rattle·unicode.specs.UserName.{isUserName}
-use Rattle·filter.specs.declared.request.Clause.{Clause}
-use Rattle·filter.specs.Request.{octetsOf}
-use Rattle·filter_read·specs.specs.Value.{isNumber}
+use Rattle.std.specs.Prelude.{Bool, not, List, ℕ}
+use Rattle.octets.specs.Lists.{holds}
+use Rattle.unicode_text.specs.UserName.{is_user_name}
+use Rattle.filter.specs.declared.request.Clause.{Clause}
+use Rattle.filter.specs.Request.{octets_of}
+use Rattle.filter_read.specs.Value.{is_number}
 
-abbrev pub wrongNumber : List ℕ → Clause → Bool
-wrongNumber s c = holds (λ x. not (isNumber x)) (octetsOf s c)
+abbrev pub wrong_number : List ℕ → Clause → Bool
+wrong_number s c = holds (λ x. not (is_number x)) (octets_of s c)
 
-abbrev pub wrongUser : List ℕ → Clause → Bool
-wrongUser s c = holds (λ x. not (isUserName x)) (octetsOf s c)
+abbrev pub wrong_user : List ℕ → Clause → Bool
+wrong_user s c = holds (λ x. not (is_user_name x)) (octets_of s c)

@@ -1,11 +1,11 @@
 -- Laws of stretches of lent slices.
 use mathlib.Core.List.{List}
-use Prim.Native.Nat.{ℕ, _≤_}
+use Prim.Native.Nat.{ℕ, ◌≤◌}
 use native.Mathlib.Omega.{arith}
 use lib.ListN.{length, length-take}
-use Rattle·lent·specs.specs.declared.stretch.Stretch.{Stretch}
-use Rattle·lent·specs.specs.Internal.Stretch.{octetsAt}
+use Rattle.lent.specs.declared.stretch.Stretch.{Stretch}
+use Rattle.lent.specs.Internal.Stretch.{octets_at}
 
 -- a stretch has no more octets than it says
-pub stretch-short : (table request : List ℕ) (s : Stretch) → length (octetsAt table request s) ≤ s .len
-stretch-short table request s = simp length-take (omega arith)
+pub stretch_short : (table request : List ℕ) (s : Stretch) → length (octets_at table request s) ≤ s.len
+stretch_short table request s = simp length-take (omega arith)

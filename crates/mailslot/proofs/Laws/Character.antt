@@ -1,130 +1,130 @@
 -- What a unit, or a pair of them, does to what is left of a user.
-use mathlib.Core.Path.{_≡_, refl, sym, ap, subst, _∙_}
-use mathlib.Core.Bool.{Bool, true, false, _&&_, and-false}
-use mathlib.Core.List.{List, [], _∷_, _++_, flatMap}
-use mathlib.Core.Option.{Option, none, some, Option·map}
-use Prim.Native.Nat.{ℕ, zero, suc, _+_, _*_, _-_, _%_, _≤_, _<_}
+use mathlib.Core.Path.{◌≡◌, refl, sym, ap, subst, ◌∙◌}
+use mathlib.Core.Bool.{Bool, true, false, ◌&&◌, and-false}
+use mathlib.Core.List.{List, [], ◌∷◌, ◌++◌, flat_map}
+use mathlib.Core.Option.{Option, none, some, map}
+use Prim.Native.Nat.{ℕ, zero, suc, ◌+◌, ◌*◌, ◌-◌, ◌%◌, ◌≤◌, ◌<◌}
 use native.Mathlib.Omega.{arith}
 use lib.Dec.{leb, ltb}
-use lib.ListN.{length, getD, length-append, length-take, length-drop}
-use borrow.Author.Tests.{ne-eqb, lt-leb, lt-ltb, le-ltb, ltb-true, ltb-false}
-use Rattle·octets.specs.Lists.{all, cut, holds}
-use Rattle·octets.specs.NameRule.{without, userNameMost}
-use Rattle·octets.specs.Number.{little, u16At}
-use Rattle·octets.proofs.Laws.Lists.{cut-cons, cond-has}
-use Rattle·octets.proofs.Laws.Number.{u16-octets}
-use Rattle·octets.proofs.Laws.Text.{within-range, without-range}
-use Rattle·unicode.specs.Utf8.{Partial, Decoder, between, partway, onDecoded, utf8Of}
-use Rattle·unicode.specs.Utf16.{lead16, follow16, decode16, pointsFrom16, pointsOf16}
-use Rattle·unicode.proofs.Laws.OneText.{afterHigh, lead-plain, lead-high, follow-low}
-use Rattle·mailslot·specs.specs.Internal.Runs.{userLeft, Stops, Character, CharacterSize}
+use lib.ListN.{length, get_or, length-append, length-take, length-drop}
+use borrow.Author.Tests.{ne_eqb, lt-leb, lt-ltb, le-ltb, ltb-true, ltb-false}
+use Rattle.octets.specs.Lists.{all, cut, holds}
+use Rattle.octets.specs.NameRule.{without, user_name_most}
+use Rattle.octets.specs.Number.{little, u16_at}
+use Rattle.octets.proofs.Laws.Lists.{cut-cons, cond_has}
+use Rattle.octets.proofs.Laws.Number.{u16-octets}
+use Rattle.octets.proofs.Laws.Text.{within_range, without_range}
+use Rattle.unicode_text.specs.Utf8.{Partial, Decoder, between, partway, on_decoded, utf8_of}
+use Rattle.unicode_text.specs.Utf16.{lead16, follow16, decode16, points_from16, points_of16}
+use Rattle.unicode_text.proofs.Laws.OneText.{after_high_lem, lead_plain, lead_high, follow-low}
+use Rattle.mailslot.specs.Internal.Runs.{user_left, Stops, Character, CharacterSize}
 
 -- ---- by the code points that are left
 
 abbrev left : ℕ → Option (List ℕ) → Bool
-left size o = holds (λ cs. leb (size + length (flatMap utf8Of cs)) userNameMost && without 0 cs) o
+left size o = holds (λ cs. leb (size + length (flat_map utf8_of cs)) user_name_most && without 0 cs) o
 
-left-point : (size c w : ℕ) (o : Option (List ℕ)) → 1 ≤ c → length (utf8Of c) ≡ w → left size (Option·map (λ cs. c ∷ cs) o) ≡ left (size + w) o
-unfolding flatMap all
+left-point : (size c w : ℕ) (o : Option (List ℕ)) → 1 ≤ c → length (utf8_of c) ≡ w → left size (map (λ cs. c ∷ cs) o) ≡ left (size + w) o
+unfolding flat_map all
 left-point size c w none h e = refl
 left-point size c w (some cs) h e =
-    let n : size + length (utf8Of c ++ flatMap utf8Of cs) ≡ size + w + length (flatMap utf8Of cs) = simp length-append (omega arith) in
-    rw (ne-eqb c 0 (λ z. omega arith), n)
+    let n : size + length (utf8_of c ++ flat_map utf8_of cs) ≡ size + w + length (flat_map utf8_of cs) = simp length-append (omega arith) in
+    rw (ne_eqb c 0 (λ z. omega arith), n)
 
-left-zero : (size : ℕ) (o : Option (List ℕ)) → left size (Option·map (λ cs. 0 ∷ cs) o) ≡ false
+left-zero : (size : ℕ) (o : Option (List ℕ)) → left size (map (λ cs. 0 ∷ cs) o) ≡ false
 unfolding all
 left-zero size none = refl
-left-zero size (some cs) = and-false (leb (size + length (flatMap utf8Of (0 ∷ cs))) userNameMost)
+left-zero size (some cs) = and-false (leb (size + length (flat_map utf8_of (0 ∷ cs))) user_name_most)
 
 -- too many octets are too many, whatever follows
-pub left-over : (size : ℕ) (l : List ℕ) → userNameMost < size → userLeft size l ≡ false
-left-over size l h = go (pointsOf16 l)
+pub left_over : (size : ℕ) (l : List ℕ) → user_name_most < size → user_left size l ≡ false
+left_over size l h = go (points_of16 l)
   where
     go : (o : Option (List ℕ)) → left size o ≡ false
     go none = refl
-    go (some cs) = rw (lt-leb (size + length (flatMap utf8Of cs)) userNameMost (omega arith))
+    go (some cs) = rw (lt-leb (size + length (flat_map utf8_of cs)) user_name_most (omega arith))
 
-some-octets : (c : ℕ) → length (utf8Of c) ≡ 0 → ⊥
-unfolding utf8Of
+some-octets : (c : ℕ) → length (utf8_of c) ≡ 0 → ⊥
+unfolding utf8_of
 some-octets c =
-    cond-has P (ltb c 0x80) _ _ (λ e q. omega arith) (λ e.
-    cond-has P (ltb c 0x800) _ _ (λ f q. omega arith) (λ f.
-    cond-has P (ltb c 0x10000) _ _ (λ g q. omega arith) (λ g q. omega arith)))
+    cond_has P (ltb c 0x80) _ _ (λ e q. omega arith) (λ e.
+    cond_has P (ltb c 0x800) _ _ (λ f q. omega arith) (λ f.
+    cond_has P (ltb c 0x10000) _ _ (λ g q. omega arith) (λ g q. omega arith)))
   where
     P : List ℕ → Type 0
     P x = length x ≡ 0 → ⊥
 
-four-octets : (c : ℕ) → 0x10000 ≤ c → length (utf8Of c) ≡ 4
-unfolding utf8Of
-four-octets c h = rw (le-ltb c 0x80 (omega arith), le-ltb c 0x800 (omega arith), le-ltb c 0x10000 h)
+four_octets : (c : ℕ) → 0x10000 ≤ c → length (utf8_of c) ≡ 4
+unfolding utf8_of
+four_octets c h = rw (le-ltb c 0x80 (omega arith), le-ltb c 0x800 (omega arith), le-ltb c 0x10000 h)
 
-pub three-octets : (c : ℕ) → 0x800 ≤ c → c < 0x10000 → length (utf8Of c) ≡ 3
-unfolding utf8Of
-three-octets c h k = rw (le-ltb c 0x80 (omega arith), le-ltb c 0x800 h, lt-ltb c 0x10000 k)
+pub three_octets : (c : ℕ) → 0x800 ≤ c → c < 0x10000 → length (utf8_of c) ≡ 3
+unfolding utf8_of
+three_octets c h k = rw (le-ltb c 0x80 (omega arith), le-ltb c 0x800 h, lt-ltb c 0x10000 k)
 
-pub two-octets : (c : ℕ) → 0x80 ≤ c → c < 0x800 → length (utf8Of c) ≡ 2
-unfolding utf8Of
+pub two-octets : (c : ℕ) → 0x80 ≤ c → c < 0x800 → length (utf8_of c) ≡ 2
+unfolding utf8_of
 two-octets c h k = rw (le-ltb c 0x80 h, lt-ltb c 0x800 k)
 
-pub octet-alone : (c : ℕ) → c < 0x80 → length (utf8Of c) ≡ 1
-unfolding utf8Of
-octet-alone c h = rw (lt-ltb c 0x80 h)
+pub octet_alone : (c : ℕ) → c < 0x80 → length (utf8_of c) ≡ 1
+unfolding utf8_of
+octet_alone c h = rw (lt-ltb c 0x80 h)
 
 -- ---- by the octets that are left
 
-alone : (i : Partial) (l : List ℕ) → length l < 2 → pointsFrom16 (partway i) l ≡ none
-unfolding pointsFrom16
+alone : (i : Partial) (l : List ℕ) → length l < 2 → points_from16 (partway i) l ≡ none
+unfolding points_from16
 alone i [] k = refl
 alone i (x ∷ []) k = refl
 alone i (x ∷ y ∷ l) k = absurd (omega arith)
 
 module _ (s : List ℕ) (at : ℕ) where
   -- a stretch from its first unit on
-  pub by-unit : (d : Decoder) (u m : ℕ) → u ≡ u16At s at → at + 2 ≤ length s → pointsFrom16 d (cut s at (2 + m)) ≡ onDecoded (decode16 d u) (λ n. pointsFrom16 n (cut s (at + 2) m))
-  unfolding pointsFrom16 little
-  by-unit d u m e h =
+  pub by_unit : (d : Decoder) (u m : ℕ) → u ≡ u16_at s at → at + 2 ≤ length s → points_from16 d (cut s at (2 + m)) ≡ on_decoded (decode16 d u) (λ n. points_from16 n (cut s (at + 2) m))
+  unfolding points_from16 little
+  by_unit d u m e h =
       let two : at + 1 + 1 ≡ at + 2 = omega arith in
-      let octets : cut s at (2 + m) ≡ getD s at 0 ∷ getD s (at + 1) 0 ∷ cut s (at + 2) m =
+      let octets : cut s at (2 + m) ≡ get_or s at 0 ∷ get_or s (at + 1) 0 ∷ cut s (at + 2) m =
       ap (λ (k : ℕ). cut s at k) (two-more m)
       ∙ cut-cons s at (suc m) 0 (omega arith)
-      ∙ ap (λ (l : List ℕ). getD s at 0 ∷ l) (cut-cons s (at + 1) m 0 (omega arith) ∙ ap (λ (i : ℕ). getD s (at + 1) 0 ∷ cut s i m) two) in
-      let unit : little (getD s at 0 ∷ getD s (at + 1) 0 ∷ []) ≡ u = omega (arith, u16-octets s at h) in
-      ap (pointsFrom16 d) octets ∙ ap (λ (v : ℕ). onDecoded (decode16 d v) (λ n. pointsFrom16 n (cut s (at + 2) m))) unit
+      ∙ ap (λ (l : List ℕ). get_or s at 0 ∷ l) (cut-cons s (at + 1) m 0 (omega arith) ∙ ap (λ (i : ℕ). get_or s (at + 1) 0 ∷ cut s i m) two) in
+      let unit : little (get_or s at 0 ∷ get_or s (at + 1) 0 ∷ []) ≡ u = omega (arith, u16-octets s at h) in
+      ap (points_from16 d) octets ∙ ap (λ (v : ℕ). on_decoded (decode16 d v) (λ n. points_from16 n (cut s (at + 2) m))) unit
     where
       two-more : (m : ℕ) → 2 + m ≡ suc (suc m)
       two-more m = omega arith
 
-  pub one-octet : (size : ℕ) → at < length s → userLeft size (cut s at 1) ≡ false
-  unfolding pointsFrom16
-  one-octet size h = rw (cut-cons s at 0 0 h)
+  pub one_octet : (size : ℕ) → at < length s → user_left size (cut s at 1) ≡ false
+  unfolding points_from16
+  one_octet size h = rw (cut-cons s at 0 0 h)
 
   -- by the decoder's answer to the first unit
-  left-unit : (u size m : ℕ) → u ≡ u16At s at → at + 2 ≤ length s → userLeft size (cut s at (2 + m)) ≡ left size (onDecoded (lead16 u) (λ n. pointsFrom16 n (cut s (at + 2) m)))
-  left-unit u size m e h = ap (left size) (by-unit between u m e h)
+  left_unit : (u size m : ℕ) → u ≡ u16_at s at → at + 2 ≤ length s → user_left size (cut s at (2 + m)) ≡ left size (on_decoded (lead16 u) (λ n. points_from16 n (cut s (at + 2) m)))
+  left_unit u size m e h = ap (left size) (by_unit between u m e h)
 
   -- no user goes on where none of two octets or more does
-  stops-by : (size : ℕ) → at < length s → ((m : ℕ) → at + 2 + m ≤ length s → userLeft size (cut s at (2 + m)) ≡ false) → Stops s at size
-  stops-by size h f zero k = one-octet size h
-  stops-by size h f (suc m) k = let e : suc (suc m) ≡ 2 + m = omega arith in rw e (f m (omega arith))
+  stops_by : (size : ℕ) → at < length s → ((m : ℕ) → at + 2 + m ≤ length s → user_left size (cut s at (2 + m)) ≡ false) → Stops s at size
+  stops_by size h f zero k = one_octet size h
+  stops_by size h f (suc m) k = let e : suc (suc m) ≡ 2 + m = omega arith in rw e (f m (omega arith))
 
-  module _ (u : ℕ) (e : u ≡ u16At s at) (h : at + 2 ≤ length s) where
-    lacking : ((size m : ℕ) → at + 2 + m ≤ length s → userLeft size (cut s at (2 + m)) ≡ false) → CharacterSize s at 0
-    lacking f = record { most = omega arith; stands = λ k. absurd (omega arith); lacks = λ q size. stops-by size (omega arith) (f size) }
+  module _ (u : ℕ) (e : u ≡ u16_at s at) (h : at + 2 ≤ length s) where
+    lacking : ((size m : ℕ) → at + 2 + m ≤ length s → user_left size (cut s at (2 + m)) ≡ false) → CharacterSize s at 0
+    lacking f = record { most = omega arith; stands = λ k. absurd (omega arith); lacks = λ q size. stops_by size (omega arith) (f size) }
 
     pub zero-lacks : u ≡ 0 → CharacterSize s at 0
     zero-lacks z =
         lacking (λ size m k.
-        left-unit u size m e h
-        ∙ rw (z, lead-plain 0 (λ q. omega arith)) (left-zero size (pointsOf16 (cut s (at + 2) m))))
+        left_unit u size m e h
+        ∙ rw (z, lead_plain 0 (λ q. omega arith)) (left-zero size (points_of16 (cut s (at + 2) m))))
 
     pub low-lacks : 0xDC00 ≤ u → u ≤ 0xDFFF → CharacterSize s at 0
     unfolding lead16
     low-lacks k n =
-        lacking (λ size m l. left-unit u size m e h ∙ rw (without-range 0xD800 0xDBFF u (λ q. omega arith), within-range 0xDC00 0xDFFF u k n))
+        lacking (λ size m l. left_unit u size m e h ∙ rw (without_range 0xD800 0xDBFF u (λ q. omega arith), within_range 0xDC00 0xDFFF u k n))
 
     -- a unit of its own
-    pub plain-stands : (w : ℕ) → 1 ≤ u → (0xD800 ≤ u → 0xE000 ≤ u) → length (utf8Of u) ≡ w → w < 4 → CharacterSize s at w
-    plain-stands w z k n l =
+    pub plain_stands : (w : ℕ) → 1 ≤ u → (0xD800 ≤ u → 0xE000 ≤ u) → length (utf8_of u) ≡ w → w < 4 → CharacterSize s at w
+    plain_stands w z k n l =
         record {
           most = omega arith;
           stands = λ q. subst (λ (i : ℕ). Character s at i w) (sym (rw (lt-ltb w 4 l))) stood;
@@ -138,33 +138,33 @@ module _ (s : List ℕ) (at : ℕ) where
         stood = record {
           some = λ q. omega arith;
           to = h;
-          inside = λ size m a b. let one : m ≡ 1 = omega arith in rw one (one-octet size (omega arith));
-          after = λ size m. left-unit u size m e h ∙ rw (lead-plain u k) (left-point size u w (pointsOf16 (cut s (at + 2) m)) z n);
+          inside = λ size m a b. let one : m ≡ 1 = omega arith in rw one (one_octet size (omega arith));
+          after = λ size m. left_unit u size m e h ∙ rw (lead_plain u k) (left-point size u w (points_of16 (cut s (at + 2) m)) z n);
         }
 
     module _ (k : 0xD800 ≤ u) (n : u ≤ 0xDBFF) where
-      left-high : (size m : ℕ) → userLeft size (cut s at (2 + m)) ≡ left size (pointsFrom16 (partway (afterHigh u)) (cut s (at + 2) m))
-      left-high size m = left-unit u size m e h ∙ rw (lead-high u k n)
+      left-high : (size m : ℕ) → user_left size (cut s at (2 + m)) ≡ left size (points_from16 (partway (after_high_lem u)) (cut s (at + 2) m))
+      left-high size m = left_unit u size m e h ∙ rw (lead_high u k n)
 
       -- less than a unit after it
-      high-short : (size m : ℕ) → m < 2 → userLeft size (cut s at (2 + m)) ≡ false
+      high-short : (size m : ℕ) → m < 2 → user_left size (cut s at (2 + m)) ≡ false
       high-short size m l =
           let q : length (cut s (at + 2) m) < 2 = simp (length-take, length-drop) (omega arith) in
-          left-high size m ∙ ap (left size) (alone (afterHigh u) (cut s (at + 2) m) q)
+          left-high size m ∙ ap (left size) (alone (after_high_lem u) (cut s (at + 2) m) q)
 
       pub high-alone : length s < at + 4 → CharacterSize s at 0
       high-alone l = lacking (λ size m q. high-short size m (omega arith))
 
 -- a high surrogate, and a unit after it
-module _ (s : List ℕ) (at u : ℕ) (e : u ≡ u16At s at) (h : at + 4 ≤ length s) (k : 0xD800 ≤ u) (n : u ≤ 0xDBFF) (v : ℕ) (f : v ≡ u16At s (at + 2)) where
-  left-both : (size m : ℕ) → userLeft size (cut s at (4 + m)) ≡ left size (onDecoded (follow16 (afterHigh u) v) (λ d. pointsFrom16 d (cut s (at + 4) m)))
-  left-both size m =
+module _ (s : List ℕ) (at u : ℕ) (e : u ≡ u16_at s at) (h : at + 4 ≤ length s) (k : 0xD800 ≤ u) (n : u ≤ 0xDBFF) (v : ℕ) (f : v ≡ u16_at s (at + 2)) where
+  left_both : (size m : ℕ) → user_left size (cut s at (4 + m)) ≡ left size (on_decoded (follow16 (after_high_lem u) v) (λ d. points_from16 d (cut s (at + 4) m)))
+  left_both size m =
       let four : 4 + m ≡ 2 + (2 + m) = omega arith in
       let next : at + 2 + 2 ≡ at + 4 = omega arith in
-      ap (λ (i : ℕ). userLeft size (cut s at i)) four
+      ap (λ (i : ℕ). user_left size (cut s at i)) four
       ∙ left-high s at u e (omega arith) k n size (2 + m)
-      ∙ ap (left size) (by-unit s (at + 2) (partway (afterHigh u)) v m f (omega arith))
-      ∙ ap (λ (i : ℕ). left size (onDecoded (follow16 (afterHigh u) v) (λ d. pointsFrom16 d (cut s i m)))) next
+      ∙ ap (left size) (by_unit s (at + 2) (partway (after_high_lem u)) v m f (omega arith))
+      ∙ ap (λ (i : ℕ). left size (on_decoded (follow16 (after_high_lem u) v) (λ d. points_from16 d (cut s i m)))) next
 
   stood : 0xDC00 ≤ v → v ≤ 0xDFFF → Character s at 4 4
   stood a b =
@@ -173,24 +173,24 @@ module _ (s : List ℕ) (at u : ℕ) (e : u ≡ u16At s at) (h : at + 4 ≤ leng
         some = λ q. omega arith;
         to = h;
         inside = λ size m p q. go size m (ltb m 2) refl p q;
-        after = λ size m. left-both size m ∙ rw (follow-low u v a b) (left-point size c 4 (pointsOf16 (cut s (at + 4) m)) (omega arith) (four-octets c (omega arith)));
+        after = λ size m. left_both size m ∙ rw (follow-low u v a b) (left-point size c 4 (points_of16 (cut s (at + 4) m)) (omega arith) (four_octets c (omega arith)));
       }
     where
-      go : (size m : ℕ) (b : Bool) → ltb m 2 ≡ b → 1 ≤ m → m < 4 → userLeft size (cut s at m) ≡ false
-      go size m true p q r = let one : m ≡ 1 = omega (arith, ltb-true m 2 p) in rw one (one-octet s at size (omega arith))
+      go : (size m : ℕ) (b : Bool) → ltb m 2 ≡ b → 1 ≤ m → m < 4 → user_left size (cut s at m) ≡ false
+      go size m true p q r = let one : m ≡ 1 = omega (arith, ltb-true m 2 p) in rw one (one_octet s at size (omega arith))
       go size m false p q r =
           let more : m ≡ 2 + (m - 2) = omega (arith, ltb-false m 2 p) in
           rw more (high-short s at u e (omega arith) k n size (m - 2) (omega arith))
 
-  pub pair-stands : 0xDC00 ≤ v → v ≤ 0xDFFF → CharacterSize s at 4
-  pair-stands a b = record { most = omega arith; stands = λ q. stood a b; lacks = λ q. absurd (omega arith) }
+  pub pair_stands : 0xDC00 ≤ v → v ≤ 0xDFFF → CharacterSize s at 4
+  pair_stands a b = record { most = omega arith; stands = λ q. stood a b; lacks = λ q. absurd (omega arith) }
 
   pub high-lone : (0xDC00 ≤ v → 0xE000 ≤ v) → CharacterSize s at 0
   unfolding follow16
   high-lone l = lacking s at u e (omega arith) (λ size m q. go size m (ltb m 2) refl)
     where
-      go : (size m : ℕ) (b : Bool) → ltb m 2 ≡ b → userLeft size (cut s at (2 + m)) ≡ false
+      go : (size m : ℕ) (b : Bool) → ltb m 2 ≡ b → user_left size (cut s at (2 + m)) ≡ false
       go size m true p = high-short s at u e (omega arith) k n size m (ltb-true m 2 p)
       go size m false p =
           let more : 2 + m ≡ 4 + (m - 2) = omega (arith, ltb-false m 2 p) in
-          rw more (left-both size (m - 2) ∙ rw (without-range 0xDC00 0xDFFF v (λ k. omega (arith, l k))))
+          rw more (left_both size (m - 2) ∙ rw (without_range 0xDC00 0xDFFF v (λ k. omega (arith, l k))))

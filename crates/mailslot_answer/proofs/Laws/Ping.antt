@@ -1,114 +1,114 @@
 -- The ping of a message that reads: its clauses as the code lays them out, and that 9 lets its user pass.
-use mathlib.Core.Path.{_≡_, refl, sym, ap, _∙_, subst}
-use mathlib.Core.Bool.{Bool, true, false, not, _&&_}
-use mathlib.Core.List.{List, [], _∷_, _++_, append-assoc}
-use mathlib.Core.Option.{Option, none, some, Option·getD}
-use Prim.Native.Nat.{ℕ, _+_, _-_, _≤_, _<_}
+use mathlib.Core.Path.{◌≡◌, refl, sym, ap, ◌∙◌, subst}
+use mathlib.Core.Bool.{true, false, not, ◌&&◌}
+use mathlib.Core.List.{List, [], ◌∷◌, ◌++◌, append_assoc}
+use mathlib.Core.Option.{Option, none, some, get_or}
+use Prim.Native.Nat.{ℕ, ◌+◌, ◌-◌, ◌≤◌, ◌<◌}
 use native.Mathlib.Omega.{arith}
 use lib.Dec.{leb}
 use lib.ListN.{length, drop}
 use borrow.Author.Tests.{leb-true, not-false}
-use Rattle·answers.specs.Try.{Try, refused, good, _>>=_}
-use Rattle·answers.proofs.Laws.Try.{good-same, good-then, refusedIf-good}
-use Rattle·filter.specs.declared.request.Clause.{Clause}
-use Rattle·filter.specs.declared.request.Clause.the-variants.{Absent, Present}
-use Rattle·filter.specs.Request.{octetsOf}
-use Rattle·filter_read.specs.Internal.RawPing.{pingAt}
-use Rattle·lent.specs.Internal.OverAt.{overAt}
-use Rattle·lent.proofs.Laws.OverAt.{laid-over, laid-more, over-laid}
-use Rattle·octets.specs.{Buffer.over, Lists.cut, Lists.holds, NameRule.without, NameRule.userNameMost}
-use Rattle·octets.proofs.Laws.Lists.{both-left, true-not-false, cut-after}
-use Rattle·reader.specs.Field.{stretchOf}
-use Rattle·unicode.specs.{UserName.isUserName, Utf8.isUtf8, Utf16.utf8From16}
-use Rattle·answers.specs.declared.Refusal.{Refusal}
-use Rattle·mailslot.specs.declared.message.Message.{Message}
-use Rattle·mailslot.specs.declared.message.MessageRead.the-variants as read
-use Rattle·mailslot.specs.Read.{messageAs}
-use Rattle·mailslot.specs.Message.{isMessageUser, goodMessage, readFields, asShape, messageIn}
-use Rattle·mailslot.proofs.Laws.Longest.{sid-most}
-use Rattle·mailslot.proofs.Laws.Shape.{good-parts, good-numbers}
-use Rattle·transcode.specs.Internal.Text8.{utf8Text}
-use Rattle·mailslot_answer·specs.specs.Ping.{unlessEmpty, messagePing, mailslotPing}
-use Rattle·mailslot_answer·specs.specs.Internal.Source.{ClauseAt}
+use Rattle.answers.specs.Try.{Try, refused, good, ◌>>=◌}
+use Rattle.answers.proofs.Laws.Try.{good-same, good_then, refused_if-good}
+use Rattle.filter.specs.declared.request.Clause.{Clause}
+use Rattle.filter.specs.declared.request.Clause.TheVariants.{Absent, Present}
+use Rattle.filter.specs.Request.{octets_of}
+use Rattle.filter_read.specs.Internal.RawPing.{ping_at}
+use Rattle.lent.specs.Internal.OverAt.{over_at}
+use Rattle.lent.proofs.Laws.OverAt.{laid_over, laid_more, over_laid}
+use Rattle.octets.specs.{Buffer.over, Lists.cut, Lists.holds, NameRule.without, NameRule.user_name_most}
+use Rattle.octets.proofs.Laws.Lists.{both_left, true_not_false, cut-after}
+use Rattle.reader.specs.Field.{stretch_of}
+use Rattle.unicode_text.specs.{UserName.is_user_name, Utf8.is_utf8, Utf16.utf8_from16}
+use Rattle.answers.specs.declared.Refusal.{Refusal}
+use Rattle.mailslot.specs.declared.message.Message.{Message}
+use Rattle.mailslot.specs.declared.message.MessageRead.TheVariants as read
+use Rattle.mailslot.specs.Read.{message_as}
+use Rattle.mailslot.specs.Message.{is_message_user, good_message, read_fields, as_shape, message_in}
+use Rattle.mailslot.proofs.Laws.Longest.{sid-most}
+use Rattle.mailslot.proofs.Laws.Shape.{good-parts, good_numbers}
+use Rattle.transcode.specs.Internal.Text8.{utf8_text}
+use Rattle.mailslot_answer.specs.Ping.{unless_empty, message_ping, mailslot_ping}
+use Rattle.mailslot_answer.specs.Internal.Source.{ClauseAt}
 
 -- what a good user is in UTF-8
-user-text : (s : List ℕ) → isMessageUser s ≡ true → (t : List ℕ) × (utf8From16 s ≡ some t) × (isUserName t ≡ true)
-unfolding isMessageUser
-user-text s e = go (utf8From16 s) refl e
+user-text : (s : List ℕ) → is_message_user s ≡ true → (t : List ℕ) × (utf8_from16 s ≡ some t) × (is_user_name t ≡ true)
+unfolding is_message_user
+user-text s e = go (utf8_from16 s) refl e
   where
-    go : (o : Option (List ℕ)) → utf8From16 s ≡ o → holds isUserName o ≡ true → (t : List ℕ) × (utf8From16 s ≡ some t) × (isUserName t ≡ true)
-    go none q h = absurd (true-not-false (sym h))
+    go : (o : Option (List ℕ)) → utf8_from16 s ≡ o → holds is_user_name o ≡ true → (t : List ℕ) × (utf8_from16 s ≡ some t) × (is_user_name t ≡ true)
+    go none q h = absurd (true_not_false (sym h))
     go (some t) q h = (t, q, h)
 
-user-short : (t : List ℕ) → isUserName t ≡ true → length t ≤ userNameMost
-unfolding isUserName
-user-short t e = leb-true (length t) userNameMost (both-left (leb (length t) userNameMost) (isUtf8 t) (both-left (leb (length t) userNameMost && isUtf8 t) (without 0 t) e))
+user-short : (t : List ℕ) → is_user_name t ≡ true → length t ≤ user_name_most
+unfolding is_user_name
+user-short t e = leb-true (length t) user_name_most (both_left (leb (length t) user_name_most) (is_utf8 t) (both_left (leb (length t) user_name_most && is_utf8 t) (without 0 t) e))
 
-module _ (s : List ℕ) (m : Message) (e : messageIn s ≡ good m) where
-  good-message : goodMessage s m ≡ true
-  unfolding messageIn
-  good-message =
-      let f = good-then (asShape (readFields s)) _ m e in
-      let g = refusedIf-good (not (goodMessage s (f .0))) _ (good (f .0)) m (f .2) in
-      subst (λ (x : Message). goodMessage s x ≡ true) (good-same (g .1)) (not-false (goodMessage s (f .0)) (g .0))
+module _ (s : List ℕ) (m : Message) (e : message_in s ≡ good m) where
+  good_message_lem : good_message s m ≡ true
+  unfolding message_in
+  good_message_lem =
+      let f = good_then (as_shape (read_fields s)) _ m e in
+      let g = refused_if-good (not (good_message s f.0)) _ (good f.0) m f.2 in
+      subst (λ (x : Message). good_message s x ≡ true) (good-same g.1) (not-false (good_message s f.0) g.0)
 
-  good-user : isMessageUser (stretchOf s (m .user)) ≡ true
-  good-user = good-parts s m good-message .user
+  good-user : is_message_user (stretch_of s m.user) ≡ true
+  good-user = (good-parts s m good_message_lem).user
 
-  sid-fits : length (stretchOf s (m .sid)) ≤ 68
-  sid-fits = sid-most (stretchOf s (m .sid)) (good-parts s m good-message .sid)
+  sid_fits : length (stretch_of s m.sid) ≤ 68
+  sid_fits = sid-most (stretch_of s m.sid) (good-parts s m good_message_lem).sid
 
-  pub bits-fit : m .bits < 0x100000000
-  bits-fit = good-numbers s m good-message .1
+  pub bits_fit : m.bits < 0x100000000
+  bits_fit = (good_numbers s m good_message_lem).1
 
-  pub version-fits : m .version < 0x100000000
-  version-fits = good-numbers s m good-message .2
+  pub version_fits : m.version < 0x100000000
+  version_fits = (good_numbers s m good_message_lem).2
 
   -- its octets in UTF-8
-  abbrev pub userText : List ℕ
-  userText = Option·getD (utf8From16 (stretchOf s (m .user))) []
+  abbrev pub user_text_lem : List ℕ
+  user_text_lem = get_or (utf8_from16 (stretch_of s m.user)) []
 
-  pub user-told : utf8From16 (stretchOf s (m .user)) ≡ some userText
-  user-told = let t = user-text (stretchOf s (m .user)) good-user in t .1 ∙ ap some (sym (ap (λ (o : Option (List ℕ)). Option·getD o []) (t .1)))
+  pub user-told : utf8_from16 (stretch_of s m.user) ≡ some user_text_lem
+  user-told = let t = user-text (stretch_of s m.user) good-user in t.1 ∙ ap some (sym (ap (λ (o : Option (List ℕ)). get_or o []) t.1))
 
-  pub user-name : isUserName userText ≡ true
+  pub user-name : is_user_name user_text_lem ≡ true
   user-name =
-      let t = user-text (stretchOf s (m .user)) good-user in
-      ap (λ (o : Option (List ℕ)). isUserName (Option·getD o [])) (t .1) ∙ t .2
+      let t = user-text (stretch_of s m.user) good-user in
+      ap (λ (o : Option (List ℕ)). is_user_name (get_or o [])) t.1 ∙ t.2
 
-  user-fits : length userText ≤ 63
-  user-fits = user-short userText user-name
+  user_fits : length user_text_lem ≤ 63
+  user_fits = user-short user_text_lem user-name
 
   -- of octets that are the user's units, and of those that are the SID
-  pub user-room : (x : List ℕ) → x ≡ stretchOf s (m .user) → length (utf8Text x) ≤ 63
-  user-room x q = subst (λ (y : List ℕ). length (utf8Text y) ≤ 63) (sym q) user-fits
+  pub user_room : (x : List ℕ) → x ≡ stretch_of s m.user → length (utf8_text x) ≤ 63
+  user_room x q = subst (λ (y : List ℕ). length (utf8_text y) ≤ 63) (sym q) user_fits
 
-  pub sid-room : (x : List ℕ) → x ≡ stretchOf s (m .sid) → length x ≤ 68
-  sid-room x q = subst (λ (y : List ℕ). length y ≤ 68) (sym q) sid-fits
+  pub sid_room_lem : (x : List ℕ) → x ≡ stretch_of s m.sid → length x ≤ 68
+  sid_room_lem x q = subst (λ (y : List ℕ). length y ≤ 68) (sym q) sid_fits
 
-  pub user-passes : holds (λ x. not (isUserName x)) (messagePing s m .user) ≡ false
-  user-passes = go userText user-name
+  pub user_passes : holds (λ x. not (is_user_name x)) (message_ping s m).user ≡ false
+  user_passes = go user_text_lem user-name
     where
-      go : (t : List ℕ) → isUserName t ≡ true → holds (λ x. not (isUserName x)) (unlessEmpty t) ≡ false
+      go : (t : List ℕ) → is_user_name t ≡ true → holds (λ x. not (is_user_name x)) (unless_empty t) ≡ false
       go [] h = refl
       go (x ∷ xs) h = ap not h
 
-  pub pinged : mailslotPing s ≡ good (messagePing s m)
-  unfolding mailslotPing
-  pinged = ap (λ (o : Try Message). o >>= λ (x : Message). good (messagePing s x)) e
+  pub pinged : mailslot_ping s ≡ good (message_ping s m)
+  unfolding mailslot_ping
+  pinged = ap (λ (o : Try Message). o >>= λ (x : Message). good (message_ping s x)) e
 
 -- what reading gave, by the enum
-pub read-good : (t : Try Message) (m : Message) → read.Read m ≡ messageAs t → t ≡ good m
-read-good (refused x) m e = let z : _≡_ {A = ℕ} 0 1 = cc in absurd (omega arith)
+pub read-good : (t : Try Message) (m : Message) → read.Read m ≡ message_as t → t ≡ good m
+read-good (refused x) m e = let z : ◌≡◌ {A = ℕ} 0 1 = cc in absurd (omega arith)
 read-good (good a) m e = let k : m ≡ a = cc in ap good (sym k)
 
-pub read-refused : (t : Try Message) (x : Refusal) → read.Refused x ≡ messageAs t → t ≡ refused x
+pub read-refused : (t : Try Message) (x : Refusal) → read.Refused x ≡ message_as t → t ≡ refused x
 read-refused (refused y) x e = let k : x ≡ y = cc in ap refused (sym k)
-read-refused (good a) x e = let z : _≡_ {A = ℕ} 0 1 = cc in absurd (omega arith)
+read-refused (good a) x e = let z : ◌≡◌ {A = ℕ} 0 1 = cc in absurd (omega arith)
 
-pub not-pinged : (s : List ℕ) (x : Refusal) → messageIn s ≡ refused x → mailslotPing s ≡ refused x
-unfolding mailslotPing
-not-pinged s x e = ap (λ (o : Try Message). o >>= λ (m : Message). good (messagePing s m)) e
+pub not_pinged : (s : List ℕ) (x : Refusal) → message_in s ≡ refused x → mailslot_ping s ≡ refused x
+unfolding mailslot_ping
+not_pinged s x e = ap (λ (o : Try Message). o >>= λ (m : Message). good (message_ping s m)) e
 
 -- a clause by its length, as the code makes it
 module _ (start len : ℕ) where
@@ -116,35 +116,35 @@ module _ (start len : ℕ) where
   absent-clause e s [] q l = refl
   absent-clause e s (y ∷ ys) q l = absurd (omega arith)
 
-  pub present-clause : (len ≡ 0 → ⊥) → ClauseAt start len (Present start len)
-  present-clause n s [] q l = absurd (n (sym l))
-  present-clause n s (y ∷ ys) q l = ap some q
+  pub present_clause : (len ≡ 0 → ⊥) → ClauseAt start len (Present start len)
+  present_clause n s [] q l = absurd (n (sym l))
+  present_clause n s (y ∷ ys) q l = ap some q
 
 -- the user and the SID at the front of a source, each as its stretch
 module _ (t x d : List ℕ) (now : List ℕ) (e : now ≡ over (t ++ x) d) where
-  laid-out : now ≡ t ++ (x ++ drop (length (t ++ x)) d)
+  laid_out : now ≡ t ++ (x ++ drop (length (t ++ x)) d)
   unfolding over
-  laid-out = e ∙ append-assoc t x (drop (length (t ++ x)) d)
+  laid_out = e ∙ append_assoc t x (drop (length (t ++ x)) d)
 
-  pub front-cut : cut now 0 (length t) ≡ t
-  front-cut = ap (λ (y : List ℕ). cut y 0 (length t)) laid-out ∙ cut-after [] t (x ++ drop (length (t ++ x)) d)
+  pub front_cut : cut now 0 (length t) ≡ t
+  front_cut = ap (λ (y : List ℕ). cut y 0 (length t)) laid_out ∙ cut-after [] t (x ++ drop (length (t ++ x)) d)
 
-  pub back-cut : cut now (length t) (length x) ≡ x
-  back-cut = ap (λ (y : List ℕ). cut y (length t) (length x)) laid-out ∙ cut-after t x (drop (length (t ++ x)) d)
+  pub back_cut : cut now (length t) (length x) ≡ x
+  back_cut = ap (λ (y : List ℕ). cut y (length t) (length x)) laid_out ∙ cut-after t x (drop (length (t ++ x)) d)
 
 -- what was put makes the ping: the user as UTF-8, then the SID, by the stretches that hold them
-pub ping-made : (s : List ℕ) (m : Message) (units sid d now now' : List ℕ) (n n' : ℕ) (userClause sidClause : Clause)
-    → units ≡ stretchOf s (m .user) → sid ≡ stretchOf s (m .sid)
-    → n ≡ length (utf8Text units) → now ≡ over (utf8Text units) d → n' ≡ n + length sid → now' ≡ overAt n sid now
+pub ping_made : (s : List ℕ) (m : Message) (units sid d now now' : List ℕ) (n n' : ℕ) (userClause sidClause : Clause)
+    → units ≡ stretch_of s m.user → sid ≡ stretch_of s m.sid
+    → n ≡ length (utf8_text units) → now ≡ over (utf8_text units) d → n' ≡ n + length sid → now' ≡ over_at n sid now
     → ClauseAt 0 n userClause → ClauseAt n (n' - n) sidClause
-    → pingAt now' (record { «dns_domain» = Absent; «user» = userClause; «aac» = m .bits; «domain_sid» = sidClause; «domain_guid» = Absent; «version» = m .version }) ≡ messagePing s m
-ping-made s m units sid d now now' n n' userClause sidClause p q e f e' f' user-at sid-at =
-    let t : List ℕ = utf8Text units in
-    let l : now' ≡ over (t ++ sid) d = over-laid (laid-more sid (laid-over f e) e' f') in
+    → ping_at now' (record { dns_domain = Absent; «user» = userClause; «aac» = m.bits; domain_sid = sidClause; domain_guid = Absent; «version» = m.version }) ≡ message_ping s m
+ping_made s m units sid d now now' n n' userClause sidClause p q e f e' f' user-at sid-at =
+    let t : List ℕ = utf8_text units in
+    let l : now' ≡ over (t ++ sid) d = over_laid (laid_more sid (laid_over f e) e' f') in
     let k : n' - n ≡ length sid = omega arith in
-    let a : octetsOf now' userClause ≡ unlessEmpty t = user-at now' t (ap (cut now' 0) e ∙ front-cut t sid d now' l) (sym e) in
-    let x : cut now' n (n' - n) ≡ sid = ap (cut now' n) k ∙ ap (λ (i : ℕ). cut now' i (length sid)) e ∙ back-cut t sid d now' l in
-    let b : octetsOf now' sidClause ≡ unlessEmpty sid = sid-at now' sid x (sym k) in
-    let user : octetsOf now' userClause ≡ unlessEmpty (utf8Text (stretchOf s (m .user))) = a ∙ ap (λ (y : List ℕ). unlessEmpty (utf8Text y)) p in
-    let domain : octetsOf now' sidClause ≡ unlessEmpty (stretchOf s (m .sid)) = b ∙ ap unlessEmpty q in
-    λ i. record { dnsDomain = none; user = user i; aac = m .bits; domainSid = domain i; domainGuid = none; version = m .version }
+    let a : octets_of now' userClause ≡ unless_empty t = user-at now' t (ap (cut now' 0) e ∙ front_cut t sid d now' l) (sym e) in
+    let x : cut now' n (n' - n) ≡ sid = ap (cut now' n) k ∙ ap (λ (i : ℕ). cut now' i (length sid)) e ∙ back_cut t sid d now' l in
+    let b : octets_of now' sidClause ≡ unless_empty sid = sid-at now' sid x (sym k) in
+    let user : octets_of now' userClause ≡ unless_empty (utf8_text (stretch_of s m.user)) = a ∙ ap (λ (y : List ℕ). unless_empty (utf8_text y)) p in
+    let domain : octets_of now' sidClause ≡ unless_empty (stretch_of s m.sid) = b ∙ ap unless_empty q in
+    λ i. record { dns_domain_lem = none; user = user i; aac = m.bits; domain_sid_lem = domain i; domain_guid_lem = none; version = m.version }

@@ -1,34 +1,34 @@
 -- How many octets a message has, part by part.
-use mathlib.Core.Path.{_≡_, refl, ap, _∙_}
-use mathlib.Core.List.{List, [], _∷_, _++_}
-use Prim.Native.Nat.{ℕ, _+_}
+use mathlib.Core.Path.{◌≡◌, refl, ap, ◌∙◌}
+use mathlib.Core.List.{List, [], ◌∷◌, ◌++◌}
+use Prim.Native.Nat.{ℕ, ◌+◌}
 use native.Mathlib.Omega.{arith}
 use lib.ListN.{length, replicate, length-append, length-replicate}
-use borrow.Author.Tests.{ne-eqb}
-use Rattle·octets.proofs.Laws.Number.{length-little}
-use Rattle·reader.specs.Field.{stretchOf}
-use Rattle·reply.proofs.Laws.Reply.{ending-length}
-use Rattle·mailslot.specs.declared.message.Message.{Message}
-use Rattle·mailslot.specs.Message.{messageHead, paddedSid, messageOctets}
-use Rattle·mailslot.specs.Internal.Shape.{sidPadding}
+use borrow.Author.Tests.{ne_eqb}
+use Rattle.octets.proofs.Laws.Number.{length-little}
+use Rattle.reader.specs.Field.{stretch_of}
+use Rattle.reply.proofs.Laws.Reply.{ending-length}
+use Rattle.mailslot.specs.declared.message.Message.{Message}
+use Rattle.mailslot.specs.Message.{message_head, padded_sid, message_octets}
+use Rattle.mailslot.specs.Internal.Shape.{sid_padding}
 
 -- the padding is known by the SID's size
-pub padded-sid : (at : ℕ) (sid : List ℕ) → paddedSid at sid ≡ replicate (sidPadding (length sid) at) 0 ++ sid
+pub padded-sid : (at : ℕ) (sid : List ℕ) → padded_sid at sid ≡ replicate (sid_padding (length sid) at) 0 ++ sid
 padded-sid at [] = refl
-padded-sid at (x ∷ xs) = rw (ne-eqb (length (x ∷ xs)) 0 (λ z. omega arith))
+padded-sid at (x ∷ xs) = rw (ne_eqb (length (x ∷ xs)) 0 (λ z. omega arith))
 
-pub padded-length : (at : ℕ) (sid : List ℕ) → length (paddedSid at sid) ≡ sidPadding (length sid) at + length sid
+pub padded-length : (at : ℕ) (sid : List ℕ) → length (padded_sid at sid) ≡ sid_padding (length sid) at + length sid
 padded-length at sid = ap length (padded-sid at sid) ∙ simp (length-append, length-replicate)
 
 module _ (source : List ℕ) (m : Message) where
-  pub head-length : length (messageHead source m) ≡ 17 + length (stretchOf source (m .computer)) + length (stretchOf source (m .user)) + length (stretchOf source (m .mailslot))
-  unfolding messageHead
-  head-length = simp (length-append, length-little) (omega arith)
+  pub head_length : length (message_head source m) ≡ 17 + length (stretch_of source m.computer) + length (stretch_of source m.user) + length (stretch_of source m.mailslot)
+  unfolding message_head
+  head_length = simp (length-append, length-little) (omega arith)
 
-  pub message-parts : length (messageOctets source m) ≡ length (messageHead source m) + length (paddedSid (length (messageHead source m)) (stretchOf source (m .sid))) + 8
-  unfolding messageOctets
-  message-parts = simp (length-append, ending-length)
+  pub message_parts : length (message_octets source m) ≡ length (message_head source m) + length (padded_sid (length (message_head source m)) (stretch_of source m.sid)) + 8
+  unfolding message_octets
+  message_parts = simp (length-append, ending-length)
 
-  pub message-length : length (messageOctets source m)
-      ≡ length (messageHead source m) + sidPadding (length (stretchOf source (m .sid))) (length (messageHead source m)) + length (stretchOf source (m .sid)) + 8
-  message-length = omega (arith, message-parts, padded-length (length (messageHead source m)) (stretchOf source (m .sid)))
+  pub message_length : length (message_octets source m)
+      ≡ length (message_head source m) + sid_padding (length (stretch_of source m.sid)) (length (message_head source m)) + length (stretch_of source m.sid) + 8
+  message_length = omega (arith, message_parts, padded-length (length (message_head source m)) (stretch_of source m.sid))

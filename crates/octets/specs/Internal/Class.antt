@@ -1,12 +1,10 @@
 -- Classes of octets, each as a test.
-use mathlib.Core.Bool.{Bool, not}
-use Prim.Native.Nat.{ℕ}
-use lib.Dec.{eqb}
-use Rattle·octets·specs.specs.declared.text.Class.{Class}
-use Rattle·octets·specs.specs.declared.text.Class.the-variants.{Zero, Printable, Other}
-use Rattle·octets·specs.specs.Text.{isPrintable}
+use Rattle.std.specs.Prelude.{Bool, not, ℕ, eqb}
+use Rattle.octets.specs.declared.text.Class.{Class}
+use Rattle.octets.specs.declared.text.Class.TheVariants.{Zero, Printable, Other}
+use Rattle.octets.specs.Text.{is_printable}
 
-abbrev pub isOf : Class → ℕ → Bool
-isOf Zero x = eqb x 0
-isOf Printable x = isPrintable x
-isOf (Other y) x = not (eqb x y)
+abbrev pub is_of : Class → ℕ → Bool
+is_of Zero x = eqb x 0
+is_of Printable x = is_printable x
+is_of (Other y) x = not (eqb x y)

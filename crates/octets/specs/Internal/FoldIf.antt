@@ -1,8 +1,7 @@
 -- An octet as it is compared, with ASCII case ignored or not.
-use mathlib.Core.Bool.{Bool, true, false}
-use Prim.Native.Nat.{ℕ}
-use Rattle·octets·specs.specs.Text.{lower}
+use Rattle.std.specs.Prelude.{Bool, true, false, ℕ}
+use Rattle.octets.specs.Text.{lower}
 
-abbrev pub foldIf : Bool → ℕ → ℕ
-foldIf true x = lower x
-foldIf false x = x
+abbrev pub fold_if : Bool → ℕ → ℕ
+fold_if true x = lower x
+fold_if false x = x

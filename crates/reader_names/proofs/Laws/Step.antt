@@ -1,26 +1,26 @@
 -- A step keeps to its bounds, and leads to what the reader defines.
-use mathlib.Core.Path.{_≡_, refl}
-use mathlib.Core.Bool.{Bool, true, false, not, _||_}
+use mathlib.Core.Path.{◌≡◌, refl}
+use mathlib.Core.Bool.{Bool, true, false, not, ◌||◌}
 use mathlib.Core.List.{List, []}
-use Prim.Native.Nat.{ℕ, suc, _+_, _<_, _≤_}
+use Prim.Native.Nat.{ℕ, suc, ◌+◌, ◌<◌, ◌≤◌}
 use native.Mathlib.Omega.{arith}
 use lib.Dec.{eqb, ltb}
 use lib.ListN.{length}
 use borrow.Author.Tests.{ltb-true, ltb-false, eqb-false, not-false}
-use Rattle·answers.specs.declared.Refusal.{Refusal}
-use Rattle·answers.specs.declared.Refusal.the-variants.{ReplyText}
-use Rattle·answers.specs.Try.{Try, refused, good, refusedIf, _>>=_}
-use Rattle·names.specs.Walk.{Look, end, label, pointer, missing, reserved, lookAt, onLook, labelAt, WalkedName}
-use Rattle·octets.proofs.Laws.Lists.{neither-left, neither-right}
-use Rattle·reader.specs.Field.{Read}
-use Rattle·reader.specs.Name.{cutAfter, labelBefore, endingAt, readNameFrom}
-use Rattle·reader_names·specs.specs.declared.step.NameStep.{NameStep}
-use Rattle·reader_names·specs.specs.declared.step.NameStep.the-variants as step
-use Rattle·reader_names·specs.specs.Internal.Step.{stepIf, labelStep, pointerStep, nameStep, StepWithin}
+use Rattle.answers.specs.declared.Refusal.{Refusal}
+use Rattle.answers.specs.declared.Refusal.TheVariants.{ReplyText}
+use Rattle.answers.specs.Try.{Try, refused, good, refused_if, ◌>>=◌}
+use Rattle.names.specs.Walk.{Look, end, label, pointer, missing, reserved, look_at, on_look, label_at, WalkedName}
+use Rattle.octets.proofs.Laws.Lists.{neither_left, neither_right}
+use Rattle.reader.specs.Field.{Read}
+use Rattle.reader.specs.Name.{cut_after, label_before, ending_at, read_name_from}
+use Rattle.reader_names.specs.declared.step.NameStep.{NameStep}
+use Rattle.reader_names.specs.declared.step.NameStep.TheVariants as step
+use Rattle.reader_names.specs.Internal.Step.{step_if, label_step, pointer_step, name_step, StepWithin}
 
 -- ---- bounds
 
-step-has : (P : NameStep → Type 0) (b : Bool) (x y : NameStep) → (b ≡ true → P x) → (b ≡ false → P y) → P (stepIf b x y)
+step-has : (P : NameStep → Type 0) (b : Bool) (x y : NameStep) → (b ≡ true → P x) → (b ≡ false → P y) → P (step_if b x y)
 step-has P true x y f g = f refl
 step-has P false x y f g = g refl
 
@@ -28,8 +28,8 @@ module _ (s : List ℕ) (run at spent pointers : ℕ) where
   abbrev Within : NameStep → Type 0
   Within = StepWithin (length s) run at spent pointers
 
-  pub label-within : (n : ℕ) → 1 ≤ n → Within (labelStep s at spent pointers n)
-  unfolding labelStep
+  pub label-within : (n : ℕ) → 1 ≤ n → Within (label_step s at spent pointers n)
+  unfolding label_step
   label-within n some =
       step-has Within (ltb 255 (spent + 1 + n + 1)) _ _ (λ e. tt) (λ e.
       step-has Within (ltb (length s) (at + 1 + n)) _ _ (λ f. tt) (λ f. kept (ltb-false 255 (spent + 1 + n + 1) e) (ltb-false (length s) (at + 1 + n) f)))
@@ -37,11 +37,11 @@ module _ (s : List ℕ) (run at spent pointers : ℕ) where
       kept : spent + 1 + n + 1 ≤ 255 → at + 1 + n ≤ length s → Within (step.Label n)
       kept e f = (some, f, omega arith)
 
-  pub pointer-within : (t : ℕ) → at + 2 ≤ length s → pointers ≤ 16 → Within (pointerStep run pointers t)
-  unfolding pointerStep
+  pub pointer-within : (t : ℕ) → at + 2 ≤ length s → pointers ≤ 16 → Within (pointer_step run pointers t)
+  unfolding pointer_step
   pointer-within t there most =
       step-has Within (not (ltb t run) || eqb pointers 16) _ _ (λ e. tt)
-      (λ e. kept (ltb-true t run (not-false (ltb t run) (neither-left (not (ltb t run)) (eqb pointers 16) e))) (eqb-false pointers 16 (neither-right (not (ltb t run)) (eqb pointers 16) e)))
+      (λ e. kept (ltb-true t run (not-false (ltb t run) (neither_left (not (ltb t run)) (eqb pointers 16) e))) (eqb-false pointers 16 (neither_right (not (ltb t run)) (eqb pointers 16) e)))
     where
       kept : t < run → (pointers ≡ 16 → ⊥) → Within (step.Pointer t)
       kept e f = (there, e, few)
@@ -53,34 +53,34 @@ module _ (s : List ℕ) (run at spent pointers : ℕ) where
 
 module _ (s : List ℕ) (run at spent pointers : ℕ) where
   -- what is left of the reading after a step
-  abbrev pub afterStep : ℕ → NameStep → Try (Read WalkedName)
-  afterStep k step.Ends = good (record { value = record { labels = []; pointers = pointers }; next = at + 1 })
-  afterStep k (step.Label n) = readNameFrom k s run (at + 1 + n) (spent + 1 + n) pointers >>= λ f. good (labelBefore (labelAt s at n) f)
-  afterStep k (step.Pointer t) = readNameFrom k s t t spent (pointers + 1) >>= λ f. good (endingAt (at + 2) f)
-  afterStep k (step.Refused r) = refused r
+  abbrev pub after_step : ℕ → NameStep → Try (Read WalkedName)
+  after_step k step.Ends = good (record { value = record { labels = []; pointers = pointers }; next = at + 1 })
+  after_step k (step.Label n) = read_name_from k s run (at + 1 + n) (spent + 1 + n) pointers >>= λ f. good (label_before (label_at s at n) f)
+  after_step k (step.Pointer t) = read_name_from k s t t spent (pointers + 1) >>= λ f. good (ending_at (at + 2) f)
+  after_step k (step.Refused r) = refused r
 
   -- a refusal by a test, before what follows
-  tested : (k : ℕ) (b : Bool) (r : Refusal) (rest : Try (Read WalkedName)) (x : NameStep) → rest ≡ afterStep k x → refusedIf b r rest ≡ afterStep k (stepIf b (step.Refused r) x)
+  tested : (k : ℕ) (b : Bool) (r : Refusal) (rest : Try (Read WalkedName)) (x : NameStep) → rest ≡ after_step k x → refused_if b r rest ≡ after_step k (step_if b (step.Refused r) x)
   tested k true r rest x e = refl
   tested k false r rest x e = e
 
-  pub one-step : (k : ℕ) → readNameFrom (suc k) s run at spent pointers ≡ afterStep k (nameStep s run at spent pointers)
-  unfolding readNameFrom nameStep labelStep pointerStep
-  one-step k = go (lookAt s at)
+  pub one-step : (k : ℕ) → read_name_from (suc k) s run at spent pointers ≡ after_step k (name_step s run at spent pointers)
+  unfolding read_name_from name_step label_step pointer_step
+  one-step k = go (look_at s at)
     where
       go : (v : Look)
-          → onLook v (good (record { value = record { labels = []; pointers = pointers }; next = at + 1 }))
+          → on_look v (good (record { value = record { labels = []; pointers = pointers }; next = at + 1 }))
           (λ n.
-          refusedIf (ltb 255 (spent + 1 + n + 1)) ReplyText
-          (refusedIf (ltb (length s) (at + 1 + n)) (cutAfter pointers)
-          (readNameFrom k s run (at + 1 + n) (spent + 1 + n) pointers >>= λ f. good (labelBefore (labelAt s at n) f))))
-          (λ t. refusedIf (not (ltb t run) || eqb pointers 16) ReplyText (readNameFrom k s t t spent (pointers + 1) >>= λ f. good (endingAt (at + 2) f)))
-          (refused (cutAfter pointers)) (refused ReplyText)
-          ≡ afterStep k (onLook v step.Ends (labelStep s at spent pointers) (pointerStep run pointers) (step.Refused (cutAfter pointers)) (step.Refused ReplyText))
+          refused_if (ltb 255 (spent + 1 + n + 1)) ReplyText
+          (refused_if (ltb (length s) (at + 1 + n)) (cut_after pointers)
+          (read_name_from k s run (at + 1 + n) (spent + 1 + n) pointers >>= λ f. good (label_before (label_at s at n) f))))
+          (λ t. refused_if (not (ltb t run) || eqb pointers 16) ReplyText (read_name_from k s t t spent (pointers + 1) >>= λ f. good (ending_at (at + 2) f)))
+          (refused (cut_after pointers)) (refused ReplyText)
+          ≡ after_step k (on_look v step.Ends (label_step s at spent pointers) (pointer_step run pointers) (step.Refused (cut_after pointers)) (step.Refused ReplyText))
       go end = refl
       go (label n) =
           tested k (ltb 255 (spent + 1 + n + 1)) ReplyText _ _
-          (tested k (ltb (length s) (at + 1 + n)) (cutAfter pointers) (afterStep k (step.Label n)) (step.Label n) refl)
-      go (pointer t) = tested k (not (ltb t run) || eqb pointers 16) ReplyText (afterStep k (step.Pointer t)) (step.Pointer t) refl
+          (tested k (ltb (length s) (at + 1 + n)) (cut_after pointers) (after_step k (step.Label n)) (step.Label n) refl)
+      go (pointer t) = tested k (not (ltb t run) || eqb pointers 16) ReplyText (after_step k (step.Pointer t)) (step.Pointer t) refl
       go missing = refl
       go reserved = refl

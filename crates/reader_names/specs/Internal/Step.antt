@@ -1,29 +1,25 @@
 -- A name's next step, as the code takes it.
-use mathlib.Core.Bool.{Bool, true, false, not, _||_}
-use mathlib.Core.List.{List}
-use Prim.Native.Nat.{ℕ, _+_, _≤_, _<_}
-use lib.Dec.{eqb, ltb}
-use lib.ListN.{length}
-use Rattle·answers.specs.declared.Refusal.the-variants.{ReplyText}
-use Rattle·names.specs.Walk.{lookAt, onLook}
-use Rattle·reader.specs.Name.{writtenMost, pointersMost, cutAfter}
-use Rattle·reader_names·specs.specs.declared.step.NameStep.{NameStep}
-use Rattle·reader_names·specs.specs.declared.step.NameStep.the-variants.{Ends, Label, Pointer, Refused}
+use Rattle.std.specs.Prelude.{Bool, true, false, not, ◌||◌, List, ℕ, ◌+◌, ◌≤◌, ◌<◌, eqb, ltb, length}
+use Rattle.answers.specs.declared.Refusal.TheVariants.{ReplyText}
+use Rattle.names.specs.Walk.{look_at, on_look}
+use Rattle.reader.specs.Name.{written_most, pointers_most, cut_after}
+use Rattle.reader_names.specs.declared.step.NameStep.{NameStep}
+use Rattle.reader_names.specs.declared.step.NameStep.TheVariants.{Ends, Label, Pointer, Refused}
 
-abbrev pub stepIf : Bool → NameStep → NameStep → NameStep
-stepIf true a b = a
-stepIf false a b = b
+abbrev pub step_if : Bool → NameStep → NameStep → NameStep
+step_if true a b = a
+step_if false a b = b
 
 -- at a length octet n
-unfoldable pub labelStep : List ℕ → ℕ → ℕ → ℕ → ℕ → NameStep
-labelStep s at spent pointers n = stepIf (ltb writtenMost (spent + 1 + n + 1)) (Refused ReplyText) (stepIf (ltb (length s) (at + 1 + n)) (Refused (cutAfter pointers)) (Label n))
+unfoldable pub label_step : List ℕ → ℕ → ℕ → ℕ → ℕ → NameStep
+label_step s at spent pointers n = step_if (ltb written_most (spent + 1 + n + 1)) (Refused ReplyText) (step_if (ltb (length s) (at + 1 + n)) (Refused (cut_after pointers)) (Label n))
 
 -- at a pointer to t
-unfoldable pub pointerStep : ℕ → ℕ → ℕ → NameStep
-pointerStep run pointers t = stepIf (not (ltb t run) || eqb pointers pointersMost) (Refused ReplyText) (Pointer t)
+unfoldable pub pointer_step : ℕ → ℕ → ℕ → NameStep
+pointer_step run pointers t = step_if (not (ltb t run) || eqb pointers pointers_most) (Refused ReplyText) (Pointer t)
 
-unfoldable pub nameStep : List ℕ → ℕ → ℕ → ℕ → ℕ → NameStep
-nameStep s run at spent pointers = onLook (lookAt s at) Ends (labelStep s at spent pointers) (pointerStep run pointers) (Refused (cutAfter pointers)) (Refused ReplyText)
+unfoldable pub name_step : List ℕ → ℕ → ℕ → ℕ → ℕ → NameStep
+name_step s run at spent pointers = on_look (look_at s at) Ends (label_step s at spent pointers) (pointer_step run pointers) (Refused (cut_after pointers)) (Refused ReplyText)
 
 -- the bounds that a step keeps to
 abbrev pub StepWithin : ℕ → ℕ → ℕ → ℕ → ℕ → NameStep → Type 0

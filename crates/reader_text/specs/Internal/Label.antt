@@ -1,6 +1,5 @@
 -- A label as it is put after a text.
-use mathlib.Core.List.{List, _∷_}
-use Prim.Native.Nat.{ℕ, zero, suc}
+use Rattle.std.specs.Prelude.{List, ◌∷◌, ℕ, zero, suc}
 
 -- a dot parts it from the label before, if so many octets written out have one
 abbrev pub dotted : ℕ → List ℕ → List ℕ

@@ -1,38 +1,34 @@
 -- A reply as it is planned: the names that its form writes, and its length.
-use mathlib.Core.Path.{_≡_}
-use mathlib.Core.Bool.{Bool, true, false}
-use mathlib.Core.List.{List, [], _++_}
-use mathlib.Core.Option.{Option, none, some}
-use Prim.Native.Nat.{ℕ}
-use lib.ListN.{length, getD, take}
-use Rattle·answers.specs.declared.Form.{Form}
-use Rattle·answers.specs.declared.Form.the-variants.{Nt40, Response, Ex}
-use Rattle·answers.specs.Wire.{exVersion, exVersionWithNextSite}
-use Rattle·names.specs.declared.plan.Ending.the-variants.{Zero}
-use Rattle·names.specs.declared.plan.PlannedName.{PlannedName}
-use Rattle·names.specs.Name.{writeName, writeNames}
-use Rattle·names.specs.Internal.Plan.{Fit, AllFit, nameOctets, namesTails, writingOf, writingsOf}
-use Rattle·reply·specs.specs.declared.raw.RawReply.{RawReply}
-use Rattle·reply·specs.specs.declared.plan.Plan.{Plan}
-use Rattle·reply·specs.specs.Reply.{Reply, ending, responseHead, responseNames, exHead, exNames, addressIf, octetsIn}
-use Rattle·reply·specs.specs.Internal.RawReply.{noStretch, replyIn, Short}
+use Rattle.std.specs.Prelude.{◌≡◌, Bool, true, false, List, [], ◌++◌, ℕ, length, get_or, take}
+use Rattle.std.proofs.Math.Option.{Option, none, some}
+use Rattle.answers.specs.declared.Form.{Form}
+use Rattle.answers.specs.declared.Form.TheVariants.{Nt40, Response, Ex}
+use Rattle.answers.specs.Wire.{ex_version, ex_version_with_next_site}
+use Rattle.names.specs.declared.plan.Ending.TheVariants.{Zero}
+use Rattle.names.specs.declared.plan.PlannedName.{PlannedName}
+use Rattle.names.specs.Name.{write_name, write_names}
+use Rattle.names.specs.Internal.Plan.{Fit, AllFit, name_octets, names_tails, writing_of, writings_of}
+use Rattle.reply.specs.declared.raw.RawReply.{RawReply}
+use Rattle.reply.specs.declared.plan.Plan.{Plan}
+use Rattle.reply.specs.Reply.{Reply, ending, response_head, response_names, ex_head, ex_names, address_if, octets_in}
+use Rattle.reply.specs.Internal.RawReply.{no_stretch, reply_in, Short}
 
 -- before name 8, or before the version where there is none
-unfoldable pub exFront : Reply → List ℕ
-exFront r = exHead r ++ writeNames [] (length (exHead r)) (exNames r) .octets ++ addressIf (r .withAddress) (r .ipv4)
+unfoldable pub ex_front : Reply → List ℕ
+ex_front r = ex_head r ++ (write_names [] (length (ex_head r)) (ex_names r)).octets ++ address_if r.with_address_lem r.ipv4
 
-abbrev pub noName : PlannedName
-noName = record { text = noStretch; offset = 0; literal = 0; ending = Zero }
+abbrev pub no_name : PlannedName
+no_name = record { text = no_stretch; offset = 0; literal = 0; ending = Zero }
 
 -- name 8 in the plan
-abbrev pub lastName : List PlannedName → PlannedName
-lastName names = getD names 8 noName
+abbrev pub last_name : List PlannedName → PlannedName
+last_name names = get_or names 8 no_name
 
 module _ (table request : List ℕ) where
   -- name 8 and the version by it, as planned
-  abbrev pub lastOctets : Bool → PlannedName → List ℕ
-  lastOctets true name = nameOctets table request name ++ ending exVersionWithNextSite
-  lastOctets false name = ending exVersion
+  abbrev pub last_octets : Bool → PlannedName → List ℕ
+  last_octets true name = name_octets table request name ++ ending ex_version_with_next_site
+  last_octets false name = ending ex_version
 
   abbrev pub LastFits : Bool → PlannedName → Type 0
   LastFits true name = Fit table request name
@@ -40,18 +36,18 @@ module _ (table request : List ℕ) where
 
   pub record ResponsePlan (r : Reply) (names : List PlannedName) : Type 0 where
     pub fit : AllFit table request (take 3 names)
-    pub writes : writeNames [] (length (responseHead r)) (responseNames r) ≡ writingsOf table request (take 3 names)
+    pub writes : write_names [] (length (response_head r)) (response_names r) ≡ writings_of table request (take 3 names)
 
   -- name 8 is planned after the eight others
   abbrev pub NextPlan : Option (List ℕ) → List PlannedName → ℕ → Type 0
   NextPlan none names at = Unit {0}
   NextPlan (some text) names at =
-      Fit table request (lastName names) × (writeName (namesTails table request (take 8 names)) at text ≡ writingOf table request (lastName names))
+      Fit table request (last_name names) × (write_name (names_tails table request (take 8 names)) at text ≡ writing_of table request (last_name names))
 
   pub record ExPlan (r : Reply) (names : List PlannedName) : Type 0 where
     pub fit : AllFit table request (take 8 names)
-    pub writes : writeNames [] (length (exHead r)) (exNames r) ≡ writingsOf table request (take 8 names)
-    pub next : NextPlan (r .nextSite) names (length (exFront r))
+    pub writes : write_names [] (length (ex_head r)) (ex_names r) ≡ writings_of table request (take 8 names)
+    pub next : NextPlan r.next_site_lem names (length (ex_front r))
 
   abbrev pub NamesPlan : Form → Reply → List PlannedName → Type 0
   NamesPlan Nt40 r names = Unit {0}
@@ -60,5 +56,5 @@ module _ (table request : List ℕ) where
 
   pub record PlanOf (form : Form) (raw : RawReply) (plan : Plan) : Type 0 where
     pub short : Short raw
-    pub names : NamesPlan form (replyIn table request raw) (plan .«names»)
-    pub whole : plan .«length» ≡ length (octetsIn form (replyIn table request raw))
+    pub names : NamesPlan form (reply_in table request raw) plan.«names»
+    pub whole : plan.«length» ≡ length (octets_in form (reply_in table request raw))

@@ -1,7 +1,7 @@
 -- Bounds that a step of the walk keeps to.
-use Prim.Native.Nat.{ℕ, _+_, _<_, _≤_}
-use Rattle·reply_lines·specs.specs.declared.walk.WalkStep.{WalkStep}
-use Rattle·reply_lines·specs.specs.declared.walk.WalkStep.the-variants.{Ends, Label, Pointer, Lost}
+use Rattle.std.specs.Prelude.{ℕ, ◌+◌, ◌<◌, ◌≤◌}
+use Rattle.reply_lines.specs.declared.walk.WalkStep.{WalkStep}
+use Rattle.reply_lines.specs.declared.walk.WalkStep.TheVariants.{Ends, Label, Pointer, Lost}
 
 abbrev pub StepWithin : ℕ → ℕ → ℕ → WalkStep → Type 0
 StepWithin length run at Ends = Unit {0}

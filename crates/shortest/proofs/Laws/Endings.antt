@@ -1,24 +1,24 @@
 -- After each name the writer's tails are all endings of the names so far: each ending was written literally once, or was pointed to, and then it was there.
-use mathlib.Core.Path.{_≡_, refl, sym, ap, _∙_}
+use mathlib.Core.Path.{◌≡◌, refl, sym, ap, ◌∙◌, subst}
 use mathlib.Core.Bool.{Bool, true, false}
-use mathlib.Core.List.{List, [], _∷_, _++_, append-nil}
+use mathlib.Core.List.{List, [], ◌∷◌, ◌++◌, append-nil}
 use mathlib.Core.Option.{Option, none, some}
-use Prim.Native.Nat.{ℕ, _+_}
+use Prim.Native.Nat.{ℕ, ◌+◌}
 use lib.ListN.{length}
-use Rattle·names.specs.Name.{Tail, Writing, literally, pointerOr, writeLabels}
-use Rattle·octets.specs.Label.{labels, joined}
-use Rattle·octets.specs.Lists.{first, firstOr, isSome}
-use Rattle·octets.specs.Text.{same}
-use Rattle·octets.proofs.Laws.Label.{Plain, labels-joined}
-use Rattle·octets.proofs.Laws.Lists.{Every, every-append, every-weaken, found, orElse, first-append, true-not-false}
-use Rattle·octets.proofs.Laws.Text.{same-equal, same-self}
+use Rattle.names.specs.Name.{Tail, Writing, literally, pointer_or, write_labels}
+use Rattle.octets.specs.Label.{labels, joined}
+use Rattle.octets.specs.Lists.{first, first_or, is_some}
+use Rattle.octets.specs.Text.{same}
+use Rattle.octets.proofs.Laws.Label.{Plain, labels-joined}
+use Rattle.octets.proofs.Laws.Lists.{Every, every_append, every_weaken, found, or_else, first-append, true_not_false}
+use Rattle.octets.proofs.Laws.Text.{same_equal, same_self}
 
 -- a tail with this text is there: the writer's search finds one
 abbrev pub find : List Tail → List ℕ → Option Tail
-find tails text = first (λ t. same (t .text) text) tails
+find tails text = first (λ t. same t.text text) tails
 
 abbrev pub Holds : List Tail → List ℕ → Type 0
-Holds tails text = isSome (find tails text) ≡ true
+Holds tails text = is_some (find tails text) ≡ true
 
 -- all endings of these labels are there
 abbrev pub HoldsEndings : List Tail → List (List ℕ) → Type 0
@@ -27,83 +27,84 @@ HoldsEndings tails (l ∷ ls) = Holds tails (joined (l ∷ ls)) × HoldsEndings 
 
 -- with each tail all its endings are there
 abbrev pub Closed : List Tail → Type 0
-Closed tails = Every (λ t. HoldsEndings tails (labels (t .text))) tails
+Closed tails = Every (λ t. HoldsEndings tails (labels t.text)) tails
 
 -- ---- more tails hold more
 
-pub endings-more : (a b : List Tail) → ((text : List ℕ) → Holds a text → Holds b text) → (ls : List (List ℕ)) → HoldsEndings a ls → HoldsEndings b ls
-endings-more a b more [] h = tt
-endings-more a b more (l ∷ ls) h = (more (joined (l ∷ ls)) (h .0), endings-more a b more ls (h .1))
+pub endings_more : (a b : List Tail) → ((text : List ℕ) → Holds a text → Holds b text) → (ls : List (List ℕ)) → HoldsEndings a ls → HoldsEndings b ls
+endings_more a b more [] h = tt
+endings_more a b more (l ∷ ls) h = (more (joined (l ∷ ls)) h.0, endings_more a b more ls h.1)
 
-either-some : (x y : Option Tail) → isSome x ≡ true → isSome (orElse x y) ≡ true
-either-some none y e = absurd (true-not-false (sym e))
-either-some (some t) y e = refl
+either_some : (x y : Option Tail) → is_some x ≡ true → is_some (or_else x y) ≡ true
+either_some none y e = absurd (true_not_false (sym e))
+either_some (some t) y e = refl
 
 pub holds-before : (a b : List Tail) (text : List ℕ) → Holds a text → Holds (a ++ b) text
-holds-before a b text h = rw (first-append (λ t. same (t .text) text) a b) (either-some (find a text) (find b text) h)
+holds-before a b text h = rw (first-append (λ t. same t.text text) a b) (either_some (find a text) (find b text) h)
 
 -- one more among them
 holds-between : (a b : List Tail) (t : Tail) (text : List ℕ) → Holds (a ++ b) text → Holds (a ++ (t ∷ b)) text
 unfolding first
 holds-between a b t text h =
-    rw (first-append (λ t. same (t .text) text) a (t ∷ b)) (go (find a text) (same (t .text) text) (find b text) (rw (first-append (λ t. same (t .text) text) a b) at h))
+    rw (first-append (λ t. same t.text text) a (t ∷ b)) (go (find a text) (same t.text text) (find b text) (rw (first-append (λ t. same t.text text) a b) at h))
   where
-    go : (x : Option Tail) (c : Bool) (y : Option Tail) → isSome (orElse x y) ≡ true → isSome (orElse x (firstOr c t y)) ≡ true
+    go : (x : Option Tail) (c : Bool) (y : Option Tail) → is_some (or_else x y) ≡ true → is_some (or_else x (first_or c t y)) ≡ true
     go none true y e = refl
     go none false y e = e
     go (some u) c y e = refl
 
-holds-this : (a b : List Tail) (at : ℕ) (text : List ℕ) → Holds (a ++ (record { offset = at; text = text } ∷ b)) text
+holds_this : (a b : List Tail) (at : ℕ) (text : List ℕ) → Holds (a ++ (record { offset = at; text = text } ∷ b)) text
 unfolding first
-holds-this a b at text = rw (first-append (λ t. same (t .text) text) a (record { offset = at; text = text } ∷ b), same-self text) (go (find a text))
+holds_this a b at text = rw (first-append (λ t. same t.text text) a (record { offset = at; text = text } ∷ b), same_self text) (go (find a text))
   where
-    go : (x : Option Tail) → isSome (orElse x (some (record { offset = at; text = text }))) ≡ true
+    go : (x : Option Tail) → is_some (or_else x (some (record { offset = at; text = text }))) ≡ true
     go none = refl
     go (some u) = refl
 
 -- ---- one name
 
 -- all its endings are there once it is written
-pub endings-held : (earlier : List Tail) (at : ℕ) (ls : List (List ℕ)) → Plain ls → Closed earlier → HoldsEndings (earlier ++ writeLabels earlier at ls .tails) ls
-unfolding writeLabels
-endings-held earlier at [] plain closed = tt
-endings-held earlier at (l ∷ ls) plain closed = go (find earlier text) refl (endings-held earlier (at + (1 + length l)) ls (plain .1) closed)
+pub endings_held : (earlier : List Tail) (at : ℕ) (ls : List (List ℕ)) → Plain ls → Closed earlier → HoldsEndings (earlier ++ (write_labels earlier at ls).tails) ls
+unfolding write_labels
+endings_held earlier at [] plain closed = tt
+endings_held earlier at (l ∷ ls) plain closed = go (find earlier text) refl (endings_held earlier (at + (1 + length l)) ls plain.1 closed)
   where
     text : List ℕ
     text = joined (l ∷ ls)
 
     rest : Writing
-    rest = writeLabels earlier (at + (1 + length l)) ls
+    rest = write_labels earlier (at + (1 + length l)) ls
 
     here : Writing
     here = literally at text l rest
 
-    go : (f : Option Tail) → find earlier text ≡ f → HoldsEndings (earlier ++ rest .tails) ls → HoldsEndings (earlier ++ pointerOr f here .tails) (l ∷ ls)
+    go : (f : Option Tail) → find earlier text ≡ f → HoldsEndings (earlier ++ rest.tails) ls → HoldsEndings (earlier ++ (pointer_or f here).tails) (l ∷ ls)
     go (some t) q h =
-        let f = found (λ t. same (t .text) text) (λ t. HoldsEndings earlier (labels (t .text))) earlier t closed q in
-        let e : labels (t .text) ≡ l ∷ ls = ap labels (same-equal (t .text) text (f .1)) ∙ labels-joined (l ∷ ls) plain in
-        rw append-nil (rw e at (f .0))
+        let f = found (λ t. same t.text text) (λ t. HoldsEndings earlier (labels t.text)) earlier t closed q in
+        let e : labels t.text ≡ l ∷ ls = ap labels (same_equal t.text text f.1) ∙ labels-joined (l ∷ ls) plain in
+        let h : HoldsEndings (earlier ++ []) (l ∷ ls) = subst (λ (x : List Tail). HoldsEndings x (l ∷ ls)) (sym (append-nil earlier)) (rw e at f.0) in
+        h
     go none q h =
         let new : Tail = record { offset = at; text = text } in
-        (holds-this earlier (rest .tails) at text, endings-more (earlier ++ rest .tails) (earlier ++ (new ∷ rest .tails)) (holds-between earlier (rest .tails) new) ls h)
+        (holds_this earlier rest.tails at text, endings_more (earlier ++ rest.tails) (earlier ++ (new ∷ rest.tails)) (holds-between earlier rest.tails new) ls h)
 
 -- the tails that it leaves are endings of its own
-own-endings : (earlier : List Tail) (at : ℕ) (ls : List (List ℕ)) (all : List Tail) → Plain ls → HoldsEndings all ls → Every (λ t. HoldsEndings all (labels (t .text))) (writeLabels earlier at ls .tails)
-unfolding writeLabels
-own-endings earlier at [] all plain h = tt
-own-endings earlier at (l ∷ ls) all plain h = go (find earlier (joined (l ∷ ls))) (own-endings earlier (at + (1 + length l)) ls all (plain .1) (h .1))
+own_endings : (earlier : List Tail) (at : ℕ) (ls : List (List ℕ)) (all : List Tail) → Plain ls → HoldsEndings all ls → Every (λ t. HoldsEndings all (labels t.text)) (write_labels earlier at ls).tails
+unfolding write_labels
+own_endings earlier at [] all plain h = tt
+own_endings earlier at (l ∷ ls) all plain h = go (find earlier (joined (l ∷ ls))) (own_endings earlier (at + (1 + length l)) ls all plain.1 h.1)
   where
     rest : Writing
-    rest = writeLabels earlier (at + (1 + length l)) ls
+    rest = write_labels earlier (at + (1 + length l)) ls
 
-    go : (f : Option Tail) → Every (λ t. HoldsEndings all (labels (t .text))) (rest .tails) → Every (λ t. HoldsEndings all (labels (t .text))) (pointerOr f (literally at (joined (l ∷ ls)) l rest) .tails)
+    go : (f : Option Tail) → Every (λ t. HoldsEndings all (labels t.text)) rest.tails → Every (λ t. HoldsEndings all (labels t.text)) (pointer_or f (literally at (joined (l ∷ ls)) l rest)).tails
     go (some t) r = tt
     go none r = (rw (labels-joined (l ∷ ls) plain) h, r)
 
-pub closed-after : (earlier : List Tail) (at : ℕ) (ls : List (List ℕ)) → Plain ls → Closed earlier → Closed (earlier ++ writeLabels earlier at ls .tails)
-closed-after earlier at ls plain closed =
-    let own : List Tail = writeLabels earlier at ls .tails in
+pub closed_after : (earlier : List Tail) (at : ℕ) (ls : List (List ℕ)) → Plain ls → Closed earlier → Closed (earlier ++ (write_labels earlier at ls).tails)
+closed_after earlier at ls plain closed =
+    let own : List Tail = (write_labels earlier at ls).tails in
     let all : List Tail = earlier ++ own in
-    every-append (λ t. HoldsEndings all (labels (t .text))) earlier own
-    (every-weaken (λ t. HoldsEndings earlier (labels (t .text))) (λ t. HoldsEndings all (labels (t .text))) (λ t. endings-more earlier all (holds-before earlier own) (labels (t .text))) earlier closed)
-    (own-endings earlier at ls all plain (endings-held earlier at ls plain closed))
+    every_append (λ t. HoldsEndings all (labels t.text)) earlier own
+    (every_weaken (λ t. HoldsEndings earlier (labels t.text)) (λ t. HoldsEndings all (labels t.text)) (λ t. endings_more earlier all (holds-before earlier own) (labels t.text)) earlier closed)
+    (own_endings earlier at ls all plain (endings_held earlier at ls plain closed))

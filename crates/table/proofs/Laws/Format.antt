@@ -1,20 +1,20 @@
 -- The records of a body fill it.
-use mathlib.Core.Path.{_≡_, refl}
-use Prim.Native.Nat.{ℕ, _+_, _*_, _≤_, _<_}
+use mathlib.Core.Path.{◌≡◌, refl}
+use Prim.Native.Nat.{ℕ, ◌+◌, ◌*◌, ◌≤◌, ◌<◌}
 use native.Mathlib.Omega.{arith}
-use Rattle·table·specs.specs.declared.record.RecordKind.{RecordKind}
-use Rattle·table·specs.specs.declared.record.RecordKind.the-variants.{Context, Account, Site, Subnet}
-use Rattle·table·specs.specs.Block.{bodySize}
-use Rattle·table·specs.specs.Format.{formatOf}
+use Rattle.table.specs.declared.record.RecordKind.{RecordKind}
+use Rattle.table.specs.declared.record.RecordKind.TheVariants.{Context, Account, Site, Subnet}
+use Rattle.table.specs.Block.{body_size}
+use Rattle.table.specs.Format.{format_of}
 
-pub format-fills : (kind : RecordKind) → formatOf kind .count * formatOf kind .width ≡ bodySize
-format-fills Context = refl
-format-fills Account = refl
-format-fills Site = refl
-format-fills Subnet = refl
+pub format_fills : (kind : RecordKind) → (format_of kind).count * (format_of kind).width ≡ body_size
+format_fills Context = refl
+format_fills Account = refl
+format_fills Site = refl
+format_fills Subnet = refl
 
-pub record-fits : (kind : RecordKind) (i : ℕ) → i < formatOf kind .count → formatOf kind .width * i + formatOf kind .width ≤ bodySize
-record-fits Context i h = omega arith
-record-fits Account i h = omega arith
-record-fits Site i h = omega arith
-record-fits Subnet i h = omega arith
+pub record_fits : (kind : RecordKind) (i : ℕ) → i < (format_of kind).count → (format_of kind).width * i + (format_of kind).width ≤ body_size
+record_fits Context i h = omega arith
+record_fits Account i h = omega arith
+record_fits Site i h = omega arith
+record_fits Subnet i h = omega arith

@@ -1,9 +1,8 @@
 -- The block at a place of an image.
-use mathlib.Core.List.{List}
-use Prim.Native.Nat.{ℕ, _*_}
-use Rattle·octets.specs.Lists.{cut}
-use Rattle·table·specs.specs.declared.BlockPlace.{BlockPlace}
-use Rattle·table·specs.specs.Block.{blockSize}
+use Rattle.std.specs.Prelude.{List, ℕ, ◌*◌}
+use Rattle.octets.specs.Lists.{cut}
+use Rattle.table.specs.declared.BlockPlace.{BlockPlace}
+use Rattle.table.specs.Block.{block_size}
 
-abbrev pub blockAt : List ℕ → BlockPlace → List ℕ
-blockAt image place = cut image (blockSize * place .0) blockSize
+abbrev pub block_at : List ℕ → BlockPlace → List ℕ
+block_at image place = cut image (block_size * place.0) block_size

@@ -1,9 +1,8 @@
 -- A record by its offset in the image.
-use mathlib.Core.List.{List}
-use Prim.Native.Nat.{ℕ}
-use Rattle·octets.specs.Lists.{cut}
-use Rattle·table·specs.specs.declared.record.RecordKind.{RecordKind}
-use Rattle·table·specs.specs.Format.{formatOf}
+use Rattle.std.specs.Prelude.{List, ℕ}
+use Rattle.octets.specs.Lists.{cut}
+use Rattle.table.specs.declared.record.RecordKind.{RecordKind}
+use Rattle.table.specs.Format.{format_of}
 
-abbrev pub recordAt : List ℕ → RecordKind → ℕ → List ℕ
-recordAt image kind offset = cut image offset (formatOf kind .width)
+abbrev pub record_at : List ℕ → RecordKind → ℕ → List ℕ
+record_at image kind offset = cut image offset (format_of kind).width

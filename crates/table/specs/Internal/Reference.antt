@@ -1,8 +1,8 @@
 -- A site that a record refers to, as the enum that the code returns.
-use mathlib.Core.Option.{Option, none, some}
-use Rattle·table·specs.specs.declared.SiteNumber.{SiteNumber}
-use Rattle·table·specs.specs.declared.site.SiteReference.{SiteReference}
-use Rattle·table·specs.specs.declared.site.SiteReference.the-variants.{To, Nothing}
+use Rattle.std.proofs.Math.Option.{Option, none, some}
+use Rattle.table.specs.declared.SiteNumber.{SiteNumber}
+use Rattle.table.specs.declared.site.SiteReference.{SiteReference}
+use Rattle.table.specs.declared.site.SiteReference.TheVariants.{To, Nothing}
 
 abbrev pub referred : SiteReference → Option SiteNumber
 referred Nothing = none

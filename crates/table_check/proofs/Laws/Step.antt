@@ -1,28 +1,28 @@
 -- A step leaves what its octets taken singly leave; and the sums of a step, one octet after the other.
-use mathlib.Core.Path.{_≡_, refl, sym, ap, _∙_}
-use mathlib.Core.List.{List, [], _∷_, _++_}
-use Prim.Native.Nat.{ℕ, suc, _+_, _-_, _*_, _/_, _%_, _≤_, _<_}
+use mathlib.Core.Path.{◌≡◌, refl, sym, ap, ◌∙◌}
+use mathlib.Core.List.{List, [], ◌∷◌, ◌++◌}
+use Prim.Native.Nat.{ℕ, suc, ◌+◌, ◌-◌, ◌*◌, ◌/◌, ◌%◌, ◌≤◌, ◌<◌}
 use native.Mathlib.Omega.{arith}
-use native.Mathlib.Nat.{mul-add, add-mul, mul-left-comm, mod-add-mod}
+use native.Mathlib.Nat.{mul-add, add-mul, mul_left_comm, mod-add-mod}
 use native.Mathlib.Numerals.{add-one}
-use lib.ListN.{length, getD, drop, length-drop, drop-of-length-le, take-append-drop}
+use lib.ListN.{length, get_or, drop, length-drop, drop_of_length-le, take-append-drop}
 use lib.Seq.{drop-cons, drop-drop}
-use Rattle·octets.specs.Lists.{cut}
-use Rattle·table_check·specs.specs.declared.check.Check.{Check}
-use Rattle·table_check·specs.specs.Check.{grow, grown}
-use Rattle·table_check·specs.specs.Step.{sum, counted, step, StepAsSingly}
+use Rattle.octets.specs.Lists.{cut}
+use Rattle.table_check.specs.declared.check.Check.{Check}
+use Rattle.table_check.specs.Check.{grow, grown}
+use Rattle.table_check.specs.Step.{sum, counted, step, StepAsSingly}
 
 -- a factor may be reduced
-factor-mod : (p k q : ℕ) → (p + k * (q % 65536)) % 65536 ≡ (p + k * q) % 65536
-factor-mod p k q =
+factor_mod : (p k q : ℕ) → (p + k * (q % 65536)) % 65536 ≡ (p + k * q) % 65536
+factor_mod p k q =
     let e : q ≡ q % 65536 + 65536 * (q / 65536) = omega arith in
     let f : k * q ≡ k * (q % 65536) + 65536 * (k * (q / 65536)) =
-    ap (λ (n : ℕ). k * n) e ∙ mul-add k (q % 65536) (65536 * (q / 65536)) ∙ ap (λ (n : ℕ). k * (q % 65536) + n) (mul-left-comm k 65536 (q / 65536)) in
+    ap (λ (n : ℕ). k * n) e ∙ mul-add k (q % 65536) (65536 * (q / 65536)) ∙ ap (λ (n : ℕ). k * (q % 65536) + n) (mul_left_comm k 65536 (q / 65536)) in
     omega (arith, f)
 
 -- what one octet and then a step over n more leave in b
-octet-first : (a b x n w : ℕ) → ((b + (a + x) % 65536) % 65536 + n * ((a + x) % 65536) + w) % 65536 ≡ (b + (n + 1) * a + ((n + 1) * x + w)) % 65536
-octet-first a b x n w =
+octet_first : (a b x n w : ℕ) → ((b + (a + x) % 65536) % 65536 + n * ((a + x) % 65536) + w) % 65536 ≡ (b + (n + 1) * a + ((n + 1) * x + w)) % 65536
+octet_first a b x n w =
     let A : ℕ = (a + x) % 65536 in
     let apart : (b + A) % 65536 + n * A + w ≡ (b + A) % 65536 + (n * A + w) = omega arith in
     let joined : b + A + (n * A + w) ≡ b + w + (n + 1) * A = omega (arith, add-mul n 1 A) in
@@ -30,27 +30,27 @@ octet-first a b x n w =
     ap (λ (k : ℕ). k % 65536) apart
     ∙ mod-add-mod (b + A) 65536 (n * A + w)
     ∙ ap (λ (k : ℕ). k % 65536) joined
-    ∙ factor-mod (b + w) (n + 1) (a + x)
+    ∙ factor_mod (b + w) (n + 1) (a + x)
     ∙ ap (λ (k : ℕ). k % 65536) spread
 
-pub step-as-singly : StepAsSingly
+pub step_as_singly : StepAsSingly
 unfolding step grown sum counted
-step-as-singly c [] h k =
-    let a : (c .a + 0) % 65536 ≡ c .a = omega (arith, h) in
-    let b : (c .b + 0 * c .a + 0) % 65536 ≡ c .b = omega (arith, k) in
+step_as_singly c [] h k =
+    let a : (c.a + 0) % 65536 ≡ c.a = omega (arith, h) in
+    let b : (c.b + 0 * c.a + 0) % 65536 ≡ c.b = omega (arith, k) in
     λ j. record { a = a j; b = b j }
-step-as-singly c (x ∷ xs) h k =
+step_as_singly c (x ∷ xs) h k =
     let n : ℕ = length xs in
-    let apart : c .a + (x + sum xs) ≡ c .a + x + sum xs = omega arith in
-    let a : (c .a + (x + sum xs)) % 65536 ≡ ((c .a + x) % 65536 + sum xs) % 65536 = ap (λ (m : ℕ). m % 65536) apart ∙ sym (mod-add-mod (c .a + x) 65536 (sum xs)) in
-    let b : (c .b + suc n * c .a + (suc n * x + counted xs)) % 65536 ≡ ((c .b + (c .a + x) % 65536) % 65536 + n * ((c .a + x) % 65536) + counted xs) % 65536 =
-    ap (λ (m : ℕ). (c .b + m * c .a + (m * x + counted xs)) % 65536) (sym (add-one n)) ∙ sym (octet-first (c .a) (c .b) x n (counted xs)) in
-    (λ j. record { a = a j; b = b j }) ∙ step-as-singly (grow c x) xs (omega arith) (omega arith)
+    let apart : c.a + (x + sum xs) ≡ c.a + x + sum xs = omega arith in
+    let a : (c.a + (x + sum xs)) % 65536 ≡ ((c.a + x) % 65536 + sum xs) % 65536 = ap (λ (m : ℕ). m % 65536) apart ∙ sym (mod-add-mod (c.a + x) 65536 (sum xs)) in
+    let b : (c.b + suc n * c.a + (suc n * x + counted xs)) % 65536 ≡ ((c.b + (c.a + x) % 65536) % 65536 + n * ((c.a + x) % 65536) + counted xs) % 65536 =
+    ap (λ (m : ℕ). (c.b + m * c.a + (m * x + counted xs)) % 65536) (sym (add-one n)) ∙ sym (octet_first c.a c.b x n (counted xs)) in
+    (λ j. record { a = a j; b = b j }) ∙ step_as_singly (grow c x) xs (omega arith) (omega arith)
 
 -- what a step leaves is below 65,536
-pub step-below : (c : Check) (octets : List ℕ) → (step c octets .a < 65536) × (step c octets .b < 65536)
+pub step_below : (c : Check) (octets : List ℕ) → ((step c octets).a < 65536) × ((step c octets).b < 65536)
 unfolding step
-step-below c octets = (omega arith, omega arith)
+step_below c octets = (omega arith, omega arith)
 
 -- octets in two parts
 grown-append : (c : Check) (xs ys : List ℕ) → grown c (xs ++ ys) ≡ grown (grown c xs) ys
@@ -67,24 +67,24 @@ grown-cut c s i n =
 
 -- the sums from an octet on
 module _ (s : List ℕ) (i : ℕ) (h : i < length s) where
-  pub sum-next : sum (drop i s) ≡ getD s i 0 + sum (drop (i + 1) s)
+  pub sum-next : sum (drop i s) ≡ get_or s i 0 + sum (drop (i + 1) s)
   unfolding sum
   sum-next = rw (drop-cons s i 0 h, add-one i)
 
-  pub counted-next : counted (drop i s) ≡ (length s - i) * getD s i 0 + counted (drop (i + 1) s)
+  pub counted_next : counted (drop i s) ≡ (length s - i) * get_or s i 0 + counted (drop (i + 1) s)
   unfolding counted
-  counted-next =
+  counted_next =
       let n : suc (length (drop (suc i) s)) ≡ length s - i = omega (arith, length-drop (suc i) s, h) in
       ap counted (drop-cons s i 0 h)
-      ∙ ap (λ (m : ℕ). m * getD s i 0 + counted (drop (suc i) s)) n
-      ∙ ap (λ (k : ℕ). (length s - i) * getD s i 0 + counted (drop k s)) (sym (add-one i))
+      ∙ ap (λ (m : ℕ). m * get_or s i 0 + counted (drop (suc i) s)) n
+      ∙ ap (λ (k : ℕ). (length s - i) * get_or s i 0 + counted (drop k s)) (sym (add-one i))
 
 -- nothing is left at the end
 module _ (s : List ℕ) (i : ℕ) (h : length s ≤ i) where
   pub sum-end : sum (drop i s) ≡ 0
   unfolding sum
-  sum-end = rw (drop-of-length-le s h)
+  sum-end = rw (drop_of_length-le s h)
 
   pub counted-end : counted (drop i s) ≡ 0
   unfolding counted
-  counted-end = rw (drop-of-length-le s h)
+  counted-end = rw (drop_of_length-le s h)

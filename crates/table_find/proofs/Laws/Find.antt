@@ -1,99 +1,99 @@
 -- The name as it is compared, by its cases; and each lookup of the table is the search by its key.
-use mathlib.Core.Path.{_≡_, refl, sym, ap, _∙_}
-use mathlib.Core.Bool.{Bool, true, false, cond, not, _&&_}
-use mathlib.Core.List.{List, [], _∷_, _++_, map, flatMap}
-use mathlib.Core.Option.{Option·map}
-use Prim.Native.Nat.{ℕ, suc, _+_, _-_, _≤_, _<_}
+use mathlib.Core.Path.{◌≡◌, refl, sym, ap, ◌∙◌}
+use mathlib.Core.Bool.{Bool, true, false, cond, not, ◌&&◌}
+use mathlib.Core.List.{List, [], ◌∷◌, ◌++◌, map, flat_map}
+use mathlib.Core.Option
+use Prim.Native.Nat.{ℕ, suc, ◌+◌, ◌-◌, ◌≤◌, ◌<◌}
 use native.Mathlib.Omega.{arith}
 use lib.Dec.{eqb, leb}
-use lib.ListN.{length, take, getD, length-append}
+use lib.ListN.{length, take, get_or, length-append}
 use borrow.Author.Tests.{leb-true, leb-false, le-leb, lt-leb}
-use Rattle·octets.specs.Lists.{first, keep}
-use Rattle·octets.proofs.Laws.Lists.{first-map, first-keep}
-use Rattle·table.specs.declared.ContextNumber.{ContextNumber}
-use Rattle·table.specs.declared.record.RecordKind.{RecordKind}
-use Rattle·table.specs.declared.record.RecordKind.the-variants as kind
-use Rattle·table.specs.Account.{accountOf}
-use Rattle·table.specs.Context.{contextOf}
-use Rattle·table.specs.Format.{formatOf, recordsIn}
-use Rattle·table.specs.Site.{siteOf}
-use Rattle·table.specs.Table.{isUsed, bodies, recordsOf, tableOf}
-use Rattle·table_find·specs.specs.declared.search.ContextKey.{ContextKey}
-use Rattle·table_find·specs.specs.declared.search.SiteKey.{SiteKey}
-use Rattle·table_find·specs.specs.declared.search.Key.the-variants as key
-use Rattle·table_find·specs.specs.Find.{nameCompared, isAccountOf}
-use Rattle·table_find·specs.specs.Internal.Key.{isContext, isSite}
-use Rattle·table_find·specs.specs.Internal.Search.{firstIn}
+use Rattle.octets.specs.Lists.{first, keep}
+use Rattle.octets.proofs.Laws.Lists.{first-map, first-keep}
+use Rattle.table.specs.declared.ContextNumber.{ContextNumber}
+use Rattle.table.specs.declared.record.RecordKind.{RecordKind}
+use Rattle.table.specs.declared.record.RecordKind.TheVariants as kind
+use Rattle.table.specs.Account.{account_of}
+use Rattle.table.specs.Context.{context_of}
+use Rattle.table.specs.Format.{format_of, records_in}
+use Rattle.table.specs.Site.{site_of}
+use Rattle.table.specs.Table.{is_used, bodies, records_of, table_of}
+use Rattle.table_find.specs.declared.search.ContextKey.{ContextKey}
+use Rattle.table_find.specs.declared.search.SiteKey.{SiteKey}
+use Rattle.table_find.specs.declared.search.Key.TheVariants as key
+use Rattle.table_find.specs.Find.{name_compared, is_account_of}
+use Rattle.table_find.specs.Internal.Key.{is_context, is_site}
+use Rattle.table_find.specs.Internal.Search.{first_in}
 
 module _ (s : List ℕ) where
-  pub compared-short : length s < 2 → nameCompared s ≡ s
-  unfolding nameCompared
+  pub compared-short : length s < 2 → name_compared s ≡ s
+  unfolding name_compared
   compared-short h = rw (lt-leb 2 (length s) h)
 
   module _ (h : 2 ≤ length s) where
-    pub compared-other : eqb (getD s (length s - 1) 0) 46 ≡ false → nameCompared s ≡ s
-    unfolding nameCompared
-    compared-other e = rw (le-leb 2 (length s) h, e)
+    pub compared_other : eqb (get_or s (length s - 1) 0) 46 ≡ false → name_compared s ≡ s
+    unfolding name_compared
+    compared_other e = rw (le-leb 2 (length s) h, e)
 
-    module _ (e : eqb (getD s (length s - 1) 0) 46 ≡ true) where
-      pub compared-dots : eqb (getD s (length s - 2) 0) 46 ≡ true → nameCompared s ≡ s
-      unfolding nameCompared
-      compared-dots d = rw (le-leb 2 (length s) h, e, d)
+    module _ (e : eqb (get_or s (length s - 1) 0) 46 ≡ true) where
+      pub compared_dots : eqb (get_or s (length s - 2) 0) 46 ≡ true → name_compared s ≡ s
+      unfolding name_compared
+      compared_dots d = rw (le-leb 2 (length s) h, e, d)
 
-      pub compared-dot : eqb (getD s (length s - 2) 0) 46 ≡ false → nameCompared s ≡ take (length s - 1) s
-      unfolding nameCompared
-      compared-dot d = rw (le-leb 2 (length s) h, e, d)
+      pub compared_dot : eqb (get_or s (length s - 2) 0) 46 ≡ false → name_compared s ≡ take (length s - 1) s
+      unfolding name_compared
+      compared_dot d = rw (le-leb 2 (length s) h, e, d)
 
 -- the last two octets of a text, and what is left without the last
 
-getD-behind : (m : List ℕ) (x : ℕ) (r : List ℕ) → getD (m ++ (x ∷ r)) (length m) 0 ≡ x
-getD-behind [] x r = refl
-getD-behind (z ∷ m) x r = getD-behind m x r
+get_d_behind : (m : List ℕ) (x : ℕ) (r : List ℕ) → get_or (m ++ (x ∷ r)) (length m) 0 ≡ x
+get_d_behind [] x r = refl
+get_d_behind (z ∷ m) x r = get_d_behind m x r
 
-getD-last : (m : List ℕ) (x y : ℕ) → getD (m ++ (x ∷ y ∷ [])) (suc (length m)) 0 ≡ y
-getD-last [] x y = refl
-getD-last (z ∷ m) x y = getD-last m x y
+get_d_last : (m : List ℕ) (x y : ℕ) → get_or (m ++ (x ∷ y ∷ [])) (suc (length m)) 0 ≡ y
+get_d_last [] x y = refl
+get_d_last (z ∷ m) x y = get_d_last m x y
 
-take-but-last : (m : List ℕ) (x y : ℕ) → take (suc (length m)) (m ++ (x ∷ y ∷ [])) ≡ m ++ (x ∷ [])
-take-but-last [] x y = refl
-take-but-last (z ∷ m) x y = ap (λ (r : List ℕ). z ∷ r) (take-but-last m x y)
+take_but_last : (m : List ℕ) (x y : ℕ) → take (suc (length m)) (m ++ (x ∷ y ∷ [])) ≡ m ++ (x ∷ [])
+take_but_last [] x y = refl
+take_but_last (z ∷ m) x y = ap (λ (r : List ℕ). z ∷ r) (take_but_last m x y)
 
 -- the name as it is compared, by its last two octets
-pub compared-ends : (m : List ℕ) (x y : ℕ) → nameCompared (m ++ (x ∷ y ∷ [])) ≡ cond (eqb y 46 && not (eqb x 46)) (m ++ (x ∷ [])) (m ++ (x ∷ y ∷ []))
-unfolding nameCompared
+pub compared-ends : (m : List ℕ) (x y : ℕ) → name_compared (m ++ (x ∷ y ∷ [])) ≡ cond (eqb y 46 && not (eqb x 46)) (m ++ (x ∷ [])) (m ++ (x ∷ y ∷ []))
+unfolding name_compared
 compared-ends m x y =
     let n : length (m ++ (x ∷ y ∷ [])) ≡ length m + 2 = length-append m (x ∷ y ∷ []) in
     let last : length m + 2 - 1 ≡ suc (length m) = omega arith in
     let before : length m + 2 - 2 ≡ length m = omega arith in
-    rw (n, le-leb 2 (length m + 2) (omega arith), last, before, getD-last m x y, getD-behind m x (y ∷ []), take-but-last m x y)
+    rw (n, le-leb 2 (length m + 2) (omega arith), last, before, get_d_last m x y, get_d_behind m x (y ∷ []), take_but_last m x y)
 
 -- a value that does not end in a dot is compared as it is
-pub compared-undotted : (m : List ℕ) (x : ℕ) → eqb x 46 ≡ false → nameCompared (m ++ (x ∷ [])) ≡ m ++ (x ∷ [])
-compared-undotted m x e = go (leb 2 (length (m ++ (x ∷ [])))) refl
+pub compared_undotted : (m : List ℕ) (x : ℕ) → eqb x 46 ≡ false → name_compared (m ++ (x ∷ [])) ≡ m ++ (x ∷ [])
+compared_undotted m x e = go (leb 2 (length (m ++ (x ∷ [])))) refl
   where
-    go : (b : Bool) → leb 2 (length (m ++ (x ∷ []))) ≡ b → nameCompared (m ++ (x ∷ [])) ≡ m ++ (x ∷ [])
+    go : (b : Bool) → leb 2 (length (m ++ (x ∷ []))) ≡ b → name_compared (m ++ (x ∷ [])) ≡ m ++ (x ∷ [])
     go false q = compared-short (m ++ (x ∷ [])) (leb-false 2 (length (m ++ (x ∷ []))) q)
     go true q =
         let n : length (m ++ (x ∷ [])) - 1 ≡ length m = omega (arith, length-append m (x ∷ [])) in
-        compared-other (m ++ (x ∷ [])) (leb-true 2 (length (m ++ (x ∷ []))) q) (rw (n, getD-behind m x [], e))
+        compared_other (m ++ (x ∷ [])) (leb-true 2 (length (m ++ (x ∷ []))) q) (rw (n, get_d_behind m x [], e))
 
 module _ (asked : List ℕ) (blocks : List (List ℕ)) where
   -- a search in the used records of a kind, read as f does
-  used-search : {A : Type 0} (f : List ℕ → A) (p : A → Bool) (k : RecordKind)
-      → Option·map f (first (λ r. isUsed r && p (f r)) (flatMap (recordsIn (formatOf k)) (bodies (formatOf k .kind) blocks))) ≡ first p (map f (recordsOf k blocks))
-  unfolding recordsOf
-  used-search f p k =
-      let records = flatMap (recordsIn (formatOf k)) (bodies (formatOf k .kind) blocks) in
-      sym (first-map f p (keep isUsed records) ∙ ap (Option·map f) (first-keep (λ r. p (f r)) isUsed records))
+  used_search : {A : Type 0} (f : List ℕ → A) (p : A → Bool) (k : RecordKind)
+      → Option.map f (first (λ r. is_used r && p (f r)) (flat_map (records_in (format_of k)) (bodies (format_of k).kind blocks))) ≡ first p (map f (records_of k blocks))
+  unfolding records_of
+  used_search f p k =
+      let records = flat_map (records_in (format_of k)) (bodies (format_of k).kind blocks) in
+      sym (first-map f p (keep is_used records) ∙ ap (Option.map f) (first-keep (λ r. p (f r)) is_used records))
 
-  pub context-search : (k : ContextKey) → Option·map contextOf (firstIn (key.Context k) asked blocks) ≡ first (isContext k asked) (tableOf blocks .contexts)
-  unfolding firstIn tableOf
-  context-search k = used-search contextOf (isContext k asked) kind.Context
+  pub context_search : (k : ContextKey) → Option.map context_of (first_in (key.Context k) asked blocks) ≡ first (is_context k asked) (table_of blocks).contexts
+  unfolding first_in table_of
+  context_search k = used_search context_of (is_context k asked) kind.Context
 
-  pub account-search : (n : ContextNumber) → Option·map accountOf (firstIn (key.Account n) asked blocks) ≡ first (isAccountOf n asked) (tableOf blocks .accounts)
-  unfolding firstIn tableOf
-  account-search n = used-search accountOf (isAccountOf n asked) kind.Account
+  pub account_search : (n : ContextNumber) → Option.map account_of (first_in (key.Account n) asked blocks) ≡ first (is_account_of n asked) (table_of blocks).accounts
+  unfolding first_in table_of
+  account_search n = used_search account_of (is_account_of n asked) kind.Account
 
-  pub site-search : (k : SiteKey) → Option·map siteOf (firstIn (key.Site k) asked blocks) ≡ first (isSite k) (tableOf blocks .sites)
-  unfolding firstIn tableOf
-  site-search k = used-search siteOf (isSite k) kind.Site
+  pub site_search : (k : SiteKey) → Option.map site_of (first_in (key.Site k) asked blocks) ≡ first (is_site k) (table_of blocks).sites
+  unfolding first_in table_of
+  site_search k = used_search site_of (is_site k) kind.Site

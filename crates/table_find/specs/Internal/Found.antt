@@ -1,37 +1,35 @@
 -- What a lookup found: the offset of the record in the image, as the enum that the code returns.
-use mathlib.Core.List.{List}
-use mathlib.Core.Option.{Option, none, some, Option·map}
-use Prim.Native.Nat.{ℕ, _+_, _≤_}
-use lib.ListN.{length}
-use Rattle·octets.specs.Lists.{cut}
-use Rattle·table.specs.declared.record.RecordKind.{RecordKind}
-use Rattle·table.specs.declared.record.RecordKind.the-variants as kind
-use Rattle·table.specs.Account.{Account, accountOf}
-use Rattle·table.specs.Context.{Context, contextOf}
-use Rattle·table.specs.Format.{formatOf}
-use Rattle·table.specs.Site.{Site, siteOf}
-use Rattle·table.specs.Subnet.{Subnet, subnetOf}
-use Rattle·table_find·specs.specs.declared.search.Found.{Found}
-use Rattle·table_find·specs.specs.declared.search.Found.the-variants.{At, Nothing}
+use Rattle.std.specs.Prelude.{List, ℕ, ◌+◌, ◌≤◌, length}
+use Rattle.std.proofs.Math.Option.{Option, none, some, map}
+use Rattle.octets.specs.Lists.{cut}
+use Rattle.table.specs.declared.record.RecordKind.{RecordKind}
+use Rattle.table.specs.declared.record.RecordKind.TheVariants as kind
+use Rattle.table.specs.Account.{Account, account_of}
+use Rattle.table.specs.Context.{Context, context_of}
+use Rattle.table.specs.Format.{format_of}
+use Rattle.table.specs.Site.{Site, site_of}
+use Rattle.table.specs.Subnet.{Subnet, subnet_of}
+use Rattle.table_find.specs.declared.search.Found.{Found}
+use Rattle.table_find.specs.declared.search.Found.TheVariants.{At, Nothing}
 
 -- the record of a kind that was found
-abbrev pub recordFound : List ℕ → RecordKind → Found → Option (List ℕ)
-recordFound image k Nothing = none
-recordFound image k (At offset) = some (cut image offset (formatOf k .width))
+abbrev pub record_found : List ℕ → RecordKind → Found → Option (List ℕ)
+record_found image k Nothing = none
+record_found image k (At offset) = some (cut image offset (format_of k).width)
 
 -- it lies in the image
 abbrev pub LiesIn : List ℕ → RecordKind → Found → Type 0
 LiesIn image k Nothing = Unit {0}
-LiesIn image k (At offset) = offset + formatOf k .width ≤ length image
+LiesIn image k (At offset) = offset + (format_of k).width ≤ length image
 
-abbrev pub contextAt : List ℕ → Found → Option Context
-contextAt image f = Option·map contextOf (recordFound image kind.Context f)
+abbrev pub context_at : List ℕ → Found → Option Context
+context_at image f = map context_of (record_found image kind.Context f)
 
-abbrev pub accountAt : List ℕ → Found → Option Account
-accountAt image f = Option·map accountOf (recordFound image kind.Account f)
+abbrev pub account_at : List ℕ → Found → Option Account
+account_at image f = map account_of (record_found image kind.Account f)
 
-abbrev pub siteAt : List ℕ → Found → Option Site
-siteAt image f = Option·map siteOf (recordFound image kind.Site f)
+abbrev pub site_at : List ℕ → Found → Option Site
+site_at image f = map site_of (record_found image kind.Site f)
 
-abbrev pub subnetAt : List ℕ → Found → Option Subnet
-subnetAt image f = Option·map subnetOf (recordFound image kind.Subnet f)
+abbrev pub subnet_at : List ℕ → Found → Option Subnet
+subnet_at image f = map subnet_of (record_found image kind.Subnet f)

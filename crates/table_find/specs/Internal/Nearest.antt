@@ -1,29 +1,27 @@
 -- The nearest subnet, found in one pass: record by record, block by block.
-use mathlib.Core.Bool.{cond, _&&_}
-use mathlib.Core.List.{List, [], _∷_, flatMap}
-use mathlib.Core.Option.{Option, none, some}
-use Prim.Native.Nat.{ℕ}
-use lib.Dec.{ltb}
-use Rattle·table.specs.Format.{recordsIn}
-use Rattle·table.specs.Subnet.{Subnet, subnetFormat, subnetOf}
-use Rattle·table.specs.Table.{isUsed, bodies}
-use Rattle·table_find·specs.specs.Find.{inSubnet}
+use Rattle.std.specs.Prelude.{cond, ◌&&◌, ℕ, ltb}
+use mathlib.Core.List.{List, [], ◌∷◌, flat_map}
+use Rattle.std.proofs.Math.Option.{Option, none, some}
+use Rattle.table.specs.Format.{records_in}
+use Rattle.table.specs.Subnet.{Subnet, subnet_format, subnet_of}
+use Rattle.table.specs.Table.{is_used, bodies}
+use Rattle.table_find.specs.Find.{in_subnet}
 
 -- a later subnet takes the place of one with a shorter prefix
 abbrev pub longer : Option Subnet → Subnet → Option Subnet
 longer none n = some n
-longer (some m) n = cond (ltb (m .prefix) (n .prefix)) (some n) (some m)
+longer (some m) n = cond (ltb m.prefix n.prefix) (some n) (some m)
 
 -- a record in use that holds the address comes in
-abbrev pub nearerHeld : ℕ → Option Subnet → List ℕ → Option Subnet
-nearerHeld address best r = cond (isUsed r && inSubnet address (subnetOf r)) (longer best (subnetOf r)) best
+abbrev pub nearer_held : ℕ → Option Subnet → List ℕ → Option Subnet
+nearer_held address best r = cond (is_used r && in_subnet address (subnet_of r)) (longer best (subnet_of r)) best
 
-unfoldable pub nearestOver : ℕ → Option Subnet → List (List ℕ) → Option Subnet
-nearestOver address best [] = best
-nearestOver address best (r ∷ rs) = nearestOver address (nearerHeld address best r) rs
+unfoldable pub nearest_over : ℕ → Option Subnet → List (List ℕ) → Option Subnet
+nearest_over address best [] = best
+nearest_over address best (r ∷ rs) = nearest_over address (nearer_held address best r) rs
 
-unfoldable pub nearestInBody : ℕ → Option Subnet → List ℕ → Option Subnet
-nearestInBody address best b = nearestOver address best (recordsIn subnetFormat b)
+unfoldable pub nearest_in_body : ℕ → Option Subnet → List ℕ → Option Subnet
+nearest_in_body address best b = nearest_over address best (records_in subnet_format b)
 
-unfoldable pub nearestIn : ℕ → Option Subnet → List (List ℕ) → Option Subnet
-nearestIn address best blocks = nearestOver address best (flatMap (recordsIn subnetFormat) (bodies (subnetFormat .kind) blocks))
+unfoldable pub nearest_in_lem : ℕ → Option Subnet → List (List ℕ) → Option Subnet
+nearest_in_lem address best blocks = nearest_over address best (flat_map (records_in subnet_format) (bodies subnet_format.kind blocks))

@@ -1,22 +1,20 @@
 -- The first record that a key finds: in a body, in a block, in all blocks.
-use mathlib.Core.Bool.{cond}
-use mathlib.Core.List.{List, flatMap}
-use mathlib.Core.Option.{Option, none}
-use Prim.Native.Nat.{ℕ}
-use lib.Dec.{eqb}
-use Rattle·octets.specs.Lists.{first}
-use Rattle·table.specs.Block.{kindIn, body}
-use Rattle·table.specs.Format.{formatOf, recordsIn}
-use Rattle·table.specs.Table.{bodies}
-use Rattle·table_find·specs.specs.declared.search.Key.{Key}
-use Rattle·table_find·specs.specs.Internal.Key.{kindFor, isFoundBy}
+use Rattle.std.specs.Prelude.{cond, ℕ, eqb}
+use mathlib.Core.List.{List, flat_map}
+use Rattle.std.proofs.Math.Option.{Option, none}
+use Rattle.octets.specs.Lists.{first}
+use Rattle.table.specs.Block.{kind_in, body}
+use Rattle.table.specs.Format.{format_of, records_in}
+use Rattle.table.specs.Table.{bodies}
+use Rattle.table_find.specs.declared.search.Key.{Key}
+use Rattle.table_find.specs.Internal.Key.{kind_for, is_found_by}
 
-unfoldable pub firstInBody : Key → List ℕ → List ℕ → Option (List ℕ)
-firstInBody k asked b = first (isFoundBy k asked) (recordsIn (formatOf (kindFor k)) b)
+unfoldable pub first_in_body : Key → List ℕ → List ℕ → Option (List ℕ)
+first_in_body k asked b = first (is_found_by k asked) (records_in (format_of (kind_for k)) b)
 
 -- a block of another kind has none
-unfoldable pub firstInBlock : Key → List ℕ → List ℕ → Option (List ℕ)
-firstInBlock k asked block = cond (eqb (kindIn block) (formatOf (kindFor k) .kind)) (firstInBody k asked (body block)) none
+unfoldable pub first_in_block : Key → List ℕ → List ℕ → Option (List ℕ)
+first_in_block k asked block = cond (eqb (kind_in block) (format_of (kind_for k)).kind) (first_in_body k asked (body block)) none
 
-unfoldable pub firstIn : Key → List ℕ → List (List ℕ) → Option (List ℕ)
-firstIn k asked blocks = first (isFoundBy k asked) (flatMap (recordsIn (formatOf (kindFor k))) (bodies (formatOf (kindFor k) .kind) blocks))
+unfoldable pub first_in : Key → List ℕ → List (List ℕ) → Option (List ℕ)
+first_in k asked blocks = first (is_found_by k asked) (flat_map (records_in (format_of (kind_for k))) (bodies (format_of (kind_for k)).kind blocks))

@@ -1,39 +1,37 @@
 -- Records alike: in a way that no two may be.
-use mathlib.Core.Bool.{Bool, _&&_, _||_}
-use mathlib.Core.List.{List}
-use Prim.Native.Nat.{ℕ}
-use Rattle·octets.specs.Text.{same}
-use Rattle·table.specs.declared.record.RecordKind.{RecordKind}
-use Rattle·table.specs.declared.record.RecordKind.the-variants as kind
-use Rattle·table.specs.Account.{Account, accountOf}
-use Rattle·table.specs.Context.{Context, contextOf}
-use Rattle·table.specs.Countings.{sameContext}
-use Rattle·table.specs.Internal.RecordAt.{recordAt}
-use Rattle·account_names.specs.AccountName.{sameAccountName}
-use Rattle·table.specs.SameName.{sameSid, sameDnsName}
-use Rattle·table.specs.Subnet.{sameNetwork, subnetOf}
-use Rattle·table_records·specs.specs.declared.alike.Likeness.{Likeness}
-use Rattle·table_records·specs.specs.declared.alike.Likeness.the-variants.{Contexts, Accounts, Subnets}
+use Rattle.std.specs.Prelude.{Bool, ◌&&◌, ◌||◌, List, ℕ}
+use Rattle.octets.specs.Text.{same}
+use Rattle.table.specs.declared.record.RecordKind.{RecordKind}
+use Rattle.table.specs.declared.record.RecordKind.TheVariants as kind
+use Rattle.table.specs.Account.{Account, account_of}
+use Rattle.table.specs.Context.{Context, context_of}
+use Rattle.table.specs.Countings.{same_context}
+use Rattle.table.specs.Internal.RecordAt.{record_at}
+use Rattle.account_names.specs.AccountName.{same_account_name}
+use Rattle.table.specs.SameName.{same_sid, same_dns_name}
+use Rattle.table.specs.Subnet.{same_network, subnet_of}
+use Rattle.table_records.specs.declared.alike.Likeness.{Likeness}
+use Rattle.table_records.specs.declared.alike.Likeness.TheVariants.{Contexts, Accounts, Subnets}
 
-abbrev pub contextsAlike : Context → Context → Bool
-contextsAlike c d = sameContext (c .number) (d .number) || same (c .guid) (d .guid) || sameSid (c .sid) (d .sid) || sameDnsName (c .dns) (d .dns)
+abbrev pub contexts_alike : Context → Context → Bool
+contexts_alike c d = same_context c.number d.number || same c.guid d.guid || same_sid c.sid d.sid || same_dns_name c.dns d.dns
 
-abbrev pub accountsAlike : Account → Account → Bool
-accountsAlike a b = sameContext (a .context) (b .context) && sameAccountName (a .name) (b .name)
+abbrev pub accounts_alike : Account → Account → Bool
+accounts_alike a b = same_context a.context b.context && same_account_name a.name b.name
 
-abbrev pub alikeBy : Likeness → List ℕ → List ℕ → Bool
-alikeBy Contexts a b = contextsAlike (contextOf a) (contextOf b)
-alikeBy Accounts a b = accountsAlike (accountOf a) (accountOf b)
-alikeBy Subnets a b = sameNetwork (subnetOf a) (subnetOf b)
+abbrev pub alike_by : Likeness → List ℕ → List ℕ → Bool
+alike_by Contexts a b = contexts_alike (context_of a) (context_of b)
+alike_by Accounts a b = accounts_alike (account_of a) (account_of b)
+alike_by Subnets a b = same_network (subnet_of a) (subnet_of b)
 
-abbrev pub recordKindOf : Likeness → RecordKind
-recordKindOf Contexts = kind.Context
-recordKindOf Accounts = kind.Account
-recordKindOf Subnets = kind.Subnet
+abbrev pub record_kind_of : Likeness → RecordKind
+record_kind_of Contexts = kind.Context
+record_kind_of Accounts = kind.Account
+record_kind_of Subnets = kind.Subnet
 
 -- a record and the one at an offset, and those at two offsets
-abbrev pub likeAt : Likeness → List ℕ → List ℕ → ℕ → Bool
-likeAt likeness a image q = alikeBy likeness a (recordAt image (recordKindOf likeness) q)
+abbrev pub like_at : Likeness → List ℕ → List ℕ → ℕ → Bool
+like_at likeness a image q = alike_by likeness a (record_at image (record_kind_of likeness) q)
 
-abbrev pub alikeAt : Likeness → List ℕ → ℕ → ℕ → Bool
-alikeAt likeness image p q = likeAt likeness (recordAt image (recordKindOf likeness) p) image q
+abbrev pub alike_at : Likeness → List ℕ → ℕ → ℕ → Bool
+alike_at likeness image p q = like_at likeness (record_at image (record_kind_of likeness) p) image q

@@ -1,23 +1,23 @@
 -- Where the records of one kind stand in an image.
-use mathlib.Core.List.{List, [], map, flatMap}
-use Prim.Native.Nat.{ℕ, zero, suc, _+_, _/_}
-use Rattle·octets.specs.Lists.{cut, keep, keepIf, pieces}
-use Rattle·table.specs.Block.{blockSize, imageMost}
-use Rattle·table.specs.Table.{bodies, isUsed}
+use mathlib.Core.List.{List, [], map, flat_map}
+use Rattle.std.specs.Prelude.{ℕ, zero, suc, ◌+◌, ◌/◌}
+use Rattle.octets.specs.Lists.{cut, keep, keep_if, pieces}
+use Rattle.table.specs.Block.{block_size, image_most}
+use Rattle.table.specs.Table.{bodies, is_used}
 
 -- how many blocks the longest image has
-abbrev pub blocksMost : ℕ
-blocksMost = imageMost / blockSize
+abbrev pub blocks_most : ℕ
+blocks_most = image_most / block_size
 
 -- the records of w octets at offsets
-abbrev pub recordsAt : List ℕ → ℕ → List ℕ → List (List ℕ)
-recordsAt image w offsets = map (λ at. cut image at w) offsets
+abbrev pub records_at : List ℕ → ℕ → List ℕ → List (List ℕ)
+records_at image w offsets = map (λ at. cut image at w) offsets
 
 -- the offsets of those of n records from an offset on that are used
-unfoldable pub offsetsFrom : List ℕ → ℕ → ℕ → ℕ → List ℕ
-offsetsFrom image w at zero = []
-offsetsFrom image w at (suc n) = keepIf (isUsed (cut image at w)) at (offsetsFrom image w (at + w) n)
+unfoldable pub offsets_from : List ℕ → ℕ → ℕ → ℕ → List ℕ
+offsets_from image w at zero = []
+offsets_from image w at (suc n) = keep_if (is_used (cut image at w)) at (offsets_from image w (at + w) n)
 
 -- the used records of a kind, n of w octets in each body
-unfoldable pub usedOf : ℕ → ℕ → ℕ → List (List ℕ) → List (List ℕ)
-usedOf kind n w blocks = keep isUsed (flatMap (pieces n w) (bodies kind blocks))
+unfoldable pub used_of : ℕ → ℕ → ℕ → List (List ℕ) → List (List ℕ)
+used_of kind n w blocks = keep is_used (flat_map (pieces n w) (bodies kind blocks))

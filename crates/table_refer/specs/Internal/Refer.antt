@@ -1,47 +1,44 @@
 -- References of records, by what is found of the contexts and among the marks.
-use mathlib.Core.Bool.{Bool, not, _&&_, _||_}
-use mathlib.Core.List.{List}
-use mathlib.Core.Option.{Option}
-use Prim.Native.Nat.{ℕ}
-use lib.Dec.{eqb}
-use Rattle·octets.specs.Lists.{all, any, noneOr}
-use Rattle·table.specs.declared.ContextNumber.{ContextNumber}
-use Rattle·table.specs.declared.SiteNumber.{SiteNumber}
-use Rattle·table.specs.declared.record.RecordKind.the-variants as kind
-use Rattle·table.specs.Account.{accountOf}
-use Rattle·table.specs.Block.{kindIn, body}
-use Rattle·table.specs.Context.{contextOf}
-use Rattle·table.specs.Countings.{sameContext, sameSite}
-use Rattle·table.specs.Format.{recordsIn}
-use Rattle·table.specs.Site.{siteOf}
-use Rattle·table.specs.Subnet.{subnetFormat, subnetOf}
-use Rattle·table.specs.Internal.RecordAt.{recordAt}
-use Rattle·table_refer·specs.specs.Internal.Mark.{isMarked}
+use Rattle.std.specs.Prelude.{Bool, not, ◌&&◌, ◌||◌, List, ℕ, eqb}
+use Rattle.std.proofs.Math.Option.{Option}
+use Rattle.octets.specs.Lists.{all, any, none_or}
+use Rattle.table.specs.declared.ContextNumber.{ContextNumber}
+use Rattle.table.specs.declared.SiteNumber.{SiteNumber}
+use Rattle.table.specs.declared.record.RecordKind.TheVariants as kind
+use Rattle.table.specs.Account.{account_of}
+use Rattle.table.specs.Block.{kind_in, body}
+use Rattle.table.specs.Context.{context_of}
+use Rattle.table.specs.Countings.{same_context, same_site_lem}
+use Rattle.table.specs.Format.{records_in}
+use Rattle.table.specs.Site.{site_of}
+use Rattle.table.specs.Subnet.{subnet_format, subnet_of}
+use Rattle.table.specs.Internal.RecordAt.{record_at}
+use Rattle.table_refer.specs.Internal.Mark.{is_marked}
 
 -- one of the contexts at offsets has a number
-unfoldable pub hasNumber : List ℕ → List ℕ → ContextNumber → Bool
-hasNumber image contexts n = any (λ q. sameContext (contextOf (recordAt image kind.Context q) .number) n) contexts
+unfoldable pub has_number : List ℕ → List ℕ → ContextNumber → Bool
+has_number image contexts n = any (λ q. same_context (context_of (record_at image kind.Context q)).number n) contexts
 
 -- the context of the account at an offset is one of them
-abbrev pub inContexts : List ℕ → List ℕ → ℕ → Bool
-inContexts image contexts p = hasNumber image contexts (accountOf (recordAt image kind.Account p) .context)
+abbrev pub in_contexts : List ℕ → List ℕ → ℕ → Bool
+in_contexts image contexts p = has_number image contexts (account_of (record_at image kind.Account p)).context
 
-abbrev pub isMarkedOrNone : List ℕ → Option SiteNumber → Bool
-isMarkedOrNone marks = noneOr (isMarked marks)
+abbrev pub is_marked_or_none : List ℕ → Option SiteNumber → Bool
+is_marked_or_none marks = none_or (is_marked marks)
 
-abbrev pub isOtherOrNone : SiteNumber → Option SiteNumber → Bool
-isOtherOrNone own = noneOr (λ n. not (sameSite own n))
+abbrev pub is_other_or_none : SiteNumber → Option SiteNumber → Bool
+is_other_or_none own = none_or (λ n. not (same_site_lem own n))
 
-abbrev pub siteRefers : List ℕ → List ℕ → Bool
-siteRefers marks r = isMarkedOrNone marks (siteOf r .next) && isOtherOrNone (siteOf r .number) (siteOf r .next)
+abbrev pub site_refers : List ℕ → List ℕ → Bool
+site_refers marks r = is_marked_or_none marks (site_of r).next && is_other_or_none (site_of r).number (site_of r).next
 
 -- of the site at an offset
-abbrev pub siteRefersAt : List ℕ → List ℕ → ℕ → Bool
-siteRefersAt marks image p = siteRefers marks (recordAt image kind.Site p)
+abbrev pub site_refers_at : List ℕ → List ℕ → ℕ → Bool
+site_refers_at marks image p = site_refers marks (record_at image kind.Site p)
 
-abbrev pub subnetRefers : List ℕ → List ℕ → Bool
-subnetRefers marks r = isMarkedOrNone marks (subnetOf r .site)
+abbrev pub subnet_refers : List ℕ → List ℕ → Bool
+subnet_refers marks r = is_marked_or_none marks (subnet_of r).site
 
 -- each subnet of a block, if it holds any; its unused records refer to no site
-abbrev pub subnetsRefer : List ℕ → List ℕ → Bool
-subnetsRefer marks block = not (eqb (kindIn block) (subnetFormat .kind)) || all (subnetRefers marks) (recordsIn subnetFormat (body block))
+abbrev pub subnets_refer : List ℕ → List ℕ → Bool
+subnets_refer marks block = not (eqb (kind_in block) subnet_format.kind) || all (subnet_refers marks) (records_in subnet_format (body block))

@@ -1,18 +1,17 @@
 -- What neighbours in a list show of its order.
-use mathlib.Core.List.{List, [], _∷_}
-use Prim.Native.Nat.{ℕ}
-use Rattle·account_names.specs.declared.compare.Ordering.{Ordering}
-use Rattle·account_names.specs.declared.compare.Ordering.the-variants.{Less, Equal, Greater}
-use Rattle·table_unique·specs.specs.declared.unique.Neighbours.{Neighbours}
-use Rattle·table_unique·specs.specs.declared.unique.Neighbours.the-variants.{Rising, Duplicate, Unsorted}
+use Rattle.std.specs.Prelude.{List, [], ◌∷◌, ℕ}
+use Rattle.account_names.specs.declared.compare.Ordering.{Ordering}
+use Rattle.account_names.specs.declared.compare.Ordering.TheVariants.{Less, Equal, Greater}
+use Rattle.table_unique.specs.declared.unique.Neighbours.{Neighbours}
+use Rattle.table_unique.specs.declared.unique.Neighbours.TheVariants.{Rising, Duplicate, Unsorted}
 
-abbrev pub risingThen : Ordering → Neighbours → Neighbours
-risingThen Less rest = rest
-risingThen Equal rest = Duplicate
-risingThen Greater rest = Unsorted
+abbrev pub rising_then : Ordering → Neighbours → Neighbours
+rising_then Less rest = rest
+rising_then Equal rest = Duplicate
+rising_then Greater rest = Unsorted
 
 -- the first two that are not in order decide
-unfoldable pub neighboursBy : (ℕ → ℕ → Ordering) → List ℕ → Neighbours
-neighboursBy compare [] = Rising
-neighboursBy compare (x ∷ []) = Rising
-neighboursBy compare (x ∷ y ∷ s) = risingThen (compare x y) (neighboursBy compare (y ∷ s))
+unfoldable pub neighbours_by : (ℕ → ℕ → Ordering) → List ℕ → Neighbours
+neighbours_by compare [] = Rising
+neighbours_by compare (x ∷ []) = Rising
+neighbours_by compare (x ∷ y ∷ s) = rising_then (compare x y) (neighbours_by compare (y ∷ s))

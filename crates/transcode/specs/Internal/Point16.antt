@@ -1,17 +1,14 @@
 -- The code point at an offset of a UTF-16LE text, and the offset after it.
-use mathlib.Core.Path.{_≡_}
-use mathlib.Core.List.{List, _∷_}
-use mathlib.Core.Option.{none, Option·map}
-use Prim.Native.Nat.{ℕ, _+_, _≤_, _<_}
-use lib.ListN.{length, drop}
-use Rattle·unicode.specs.declared.utf8.PointAt.{PointAt}
-use Rattle·unicode.specs.declared.utf8.PointAt.the-variants.{End, Bad, Point}
-use Rattle·unicode.specs.Internal.Point.{pointLimit}
-use Rattle·unicode.specs.Utf16.{pointOctets, pointsOf16}
+use Rattle.std.specs.Prelude.{◌≡◌, List, ◌∷◌, ℕ, ◌+◌, ◌≤◌, ◌<◌, length, drop}
+use Rattle.std.proofs.Math.Option.{none, map}
+use Rattle.unicode_text.specs.declared.utf8.PointAt.{PointAt}
+use Rattle.unicode_text.specs.declared.utf8.PointAt.TheVariants.{End, Bad, Point}
+use Rattle.unicode_text.specs.Internal.Point.{point_limit}
+use Rattle.unicode_text.specs.Utf16.{point_octets, points_of16}
 
 -- what it says of the text's code points from the offset on
 abbrev pub PointRead16 : List ℕ → ℕ → PointAt → Type 0
 PointRead16 s at End = length s ≤ at
-PointRead16 s at Bad = pointsOf16 (drop at s) ≡ none
+PointRead16 s at Bad = points_of16 (drop at s) ≡ none
 PointRead16 s at (Point c next) =
-    (at < next) × (next ≤ length s) × (c < pointLimit) × (pointsOf16 (drop at s) ≡ Option·map (λ cs. c ∷ cs) (pointsOf16 (drop next s))) × (next ≡ at + length (pointOctets c))
+    (at < next) × (next ≤ length s) × (c < point_limit) × (points_of16 (drop at s) ≡ map (λ cs. c ∷ cs) (points_of16 (drop next s))) × (next ≡ at + length (point_octets c))

@@ -1,215 +1,215 @@
 -- The octets of an EX reply in the order of the reader's fields, with its names at their places.
-use mathlib.Core.Path.{_≡_, refl, sym, ap, _∙_, subst}
+use mathlib.Core.Path.{◌≡◌, refl, sym, ap, ◌∙◌, subst}
 use mathlib.Core.Bool.{Bool, true, false, cond}
-use mathlib.Core.List.{List, [], _++_, append-assoc}
+use mathlib.Core.List.{List, [], ◌++◌, append_assoc}
 use mathlib.Core.Option.{Option, none, some}
-use Prim.Native.Nat.{ℕ, _+_, _≤_}
+use Prim.Native.Nat.{ℕ, ◌+◌, ◌≤◌}
 use native.Mathlib.Omega.{arith}
 use lib.ListN.{length, length-append}
-use Rattle·answers.specs.declared.Form.the-variants.{Ex}
-use Rattle·answers.specs.Try.{good}
-use Rattle·answers.specs.Wire.{NETLOGON-NT-VERSION-5EX-WITH-IP, NETLOGON-NT-VERSION-WITH-CLOSEST-SITE, exVersion, exVersionWithNextSite, Sbz, DcSockAddrSize, sin-family}
-use Rattle·names.specs.Name.{Tail, Writing, writeName, writeNames}
-use Rattle·names.specs.WalkRelation.{Walks}
-use Rattle·names.proofs.Laws.Name.{Ready, ready-later, Written, labels-written, labels-short, sizes, names-short, Spot}
-use Rattle·names.proofs.Laws.Walk.{longer}
-use Rattle·octets.specs.Label.{labels}
-use Rattle·octets.proofs.Laws.Label.{Plain, size}
-use Rattle·octets.proofs.Laws.Lists.{Every}
-use Rattle·octets.proofs.Laws.NameRule.{Writable}
-use Rattle·octets.specs.Lists.{cut}
-use Rattle·octets.specs.Number.{littleOctets, has}
-use Rattle·octets.proofs.Laws.Number.{length-little}
-use Rattle·octets.specs.Sid.{guidSize}
-use Rattle·reader.specs.Reader as reader
-use Rattle·reader.proofs.Laws.Field.{Left, left-start, left-after, left-next}
-use Rattle·reader.proofs.Laws.Reader as reading
-use Rattle·reader.proofs.Laws.Reader.{NamesRow, givenBack, LastAt}
-use Rattle·reply.specs.Reply.{Reply, exHead, exNames, addressIf, exLast, exOctets}
-use Rattle·demands·specs.specs.Places.{namesStart, lastStart}
-use Rattle·demands·proofs.proofs.Laws.Sound.{Sound}
-use Rattle·demands·proofs.proofs.Laws.Forms.{ending-same, address-same, stretch-is, size-most, ending-length}
-use Rattle·demands·proofs.proofs.Laws.Forms.Names.{chain, named-row}
-use Rattle·demands·proofs.proofs.Laws.Places.{names-end}
+use Rattle.answers.specs.declared.Form.TheVariants.{Ex}
+use Rattle.answers.specs.Try.{good}
+use Rattle.answers.specs.Wire.{netlogon_nt_version_5ex_with_ip, netlogon_nt_version_with_closest_site, ex_version, ex_version_with_next_site, Sbz, DcSockAddrSize, sin_family}
+use Rattle.names.specs.Name.{Tail, Writing, write_name, write_names}
+use Rattle.names.specs.WalkRelation.{Walks}
+use Rattle.names.proofs.Laws.Name.{Ready, ready_later, Written, labels-written, labels-short, sizes, names-short, Spot}
+use Rattle.names.proofs.Laws.Walk.{longer}
+use Rattle.octets.specs.Label.{labels}
+use Rattle.octets.proofs.Laws.Label.{Plain, size}
+use Rattle.octets.proofs.Laws.Lists.{Every}
+use Rattle.octets.proofs.Laws.NameRule.{Writable}
+use Rattle.octets.specs.Lists.{cut}
+use Rattle.octets.specs.Number.{little_octets, has}
+use Rattle.octets.proofs.Laws.Number.{length-little}
+use Rattle.octets.specs.Sid.{guid_size}
+use Rattle.reader.specs.Reader as reader
+use Rattle.reader.proofs.Laws.Field.{Left, left-start, left_after, left-next}
+use Rattle.reader.proofs.Laws.Reader as reading
+use Rattle.reader.proofs.Laws.Reader.{NamesRow, given_back_lem, LastAt}
+use Rattle.reply.specs.Reply.{Reply, ex_head, ex_names, address_if, ex_last, ex_octets}
+use Rattle.demands.specs.Places.{names_start, last_start}
+use Rattle.demands.proofs.Laws.Sound.{Sound}
+use Rattle.demands.proofs.Laws.Forms.{ending-same, address_same, stretch_is, size-most, ending-length}
+use Rattle.demands.proofs.Laws.Forms.Names.{chain, named-row}
+use Rattle.demands.proofs.Laws.Places.{names-end}
 
 -- the octets of name 8, if there is one
-abbrev pub lastName : Option (List ℕ) → List Tail → ℕ → List ℕ
-lastName none tails at = []
-lastName (some text) tails at = writeName tails at text .octets
+abbrev pub last_name : Option (List ℕ) → List Tail → ℕ → List ℕ
+last_name none tails at = []
+last_name (some text) tails at = (write_name tails at text).octets
 
-last-same : (site : Option (List ℕ)) (names : Writing) (at : ℕ) → exLast site names at ≡ reading.last site (lastName site (names .tails) at)
-last-same none names at = ending-same exVersion
-last-same (some text) names at = rw (ending-same exVersionWithNextSite)
+last-same : (site : Option (List ℕ)) (names : Writing) (at : ℕ) → ex_last site names at ≡ reading.last site (last_name site names.tails at)
+last-same none names at = ending-same ex_version
+last-same (some text) names at = rw (ending-same ex_version_with_next_site)
 
 module _ (v : ℕ) (r : Reply) (k : Sound Ex v r) where
-  pub ex-plain : Every (λ text. Plain (labels text)) (exNames r)
-  ex-plain =
-      (k .forest .plain, (k .dns .plain, (k .host .plain, (k .netbios .plain, (k .server .plain, (k .user refl .plain, (k .ownSite .plain, (k .clientSite .plain, tt))))))))
+  pub ex_plain : Every (λ text. Plain (labels text)) (ex_names r)
+  ex_plain =
+      (k.forest.plain, (k.dns.plain, (k.host.plain, (k.netbios.plain, (k.server.plain, ((k.user refl).plain, (k.own_site_lem.plain, (k.client_site_lem.plain, tt))))))))
 
-  ex-texts : (size (labels (r .forest)) ≤ 255) × (size (labels (r .dns)) ≤ 255) × (size (labels (r .host)) ≤ 255) × (size (labels (r .netbios)) ≤ 17) × (size (labels (r .server)) ≤ 17)
-      × (size (labels (r .user)) ≤ 65) × (size (labels (r .ownSite)) ≤ 65) × (size (labels (r .clientSite)) ≤ 65)
+  ex-texts : (size (labels r.forest) ≤ 255) × (size (labels r.dns) ≤ 255) × (size (labels r.host) ≤ 255) × (size (labels r.netbios) ≤ 17) × (size (labels r.server) ≤ 17)
+      × (size (labels r.user) ≤ 65) × (size (labels r.own_site_lem) ≤ 65) × (size (labels r.client_site_lem) ≤ 65)
   ex-texts = (
-    size-most 253 (r .forest) (k .forest),
-    size-most 253 (r .dns) (k .dns),
-    size-most 253 (r .host) (k .host),
-    size-most 15 (r .netbios) (k .netbios),
-    size-most 15 (r .server) (k .server),
-    size-most 63 (r .user) (k .user refl),
-    size-most 63 (r .ownSite) (k .ownSite),
-    size-most 63 (r .clientSite) (k .clientSite),
+    size-most 253 r.forest k.forest,
+    size-most 253 r.dns k.dns,
+    size-most 253 r.host k.host,
+    size-most 15 r.netbios k.netbios,
+    size-most 15 r.server k.server,
+    size-most 63 r.user (k.user refl),
+    size-most 63 r.own_site_lem k.own_site_lem,
+    size-most 63 r.client_site_lem k.client_site_lem,
   )
 
-  pub ex-short : Every (λ text. size (labels text) ≤ 255) (exNames r)
+  pub ex-short : Every (λ text. size (labels text) ≤ 255) (ex_names r)
   ex-short = let t = ex-texts in omega arith
 
-  pub ex-sizes : sizes (exNames r) ≤ 994
-  ex-sizes = let t = ex-texts in omega arith
+  pub ex_sizes : sizes (ex_names r) ≤ 994
+  ex_sizes = let t = ex-texts in omega arith
 
-  pub ex-head : length (exHead r) ≡ 24
-  unfolding exHead
-  ex-head = simp length-append (omega (arith, length-little 2 (r .opcode), length-little 2 Sbz, length-little 4 (r .flags), k .guid))
+  pub ex_head_lem : length (ex_head r) ≡ 24
+  unfolding ex_head
+  ex_head_lem = simp length-append (omega (arith, length-little 2 r.opcode, length-little 2 Sbz, length-little 4 r.flags, k.guid))
 
-  pub ex-room : length (exHead r) + sizes (exNames r) ≤ 0x4000
-  ex-room = omega (arith, ex-head, ex-sizes)
+  pub ex_room : length (ex_head r) + sizes (ex_names r) ≤ 0x4000
+  ex_room = omega (arith, ex_head_lem, ex_sizes)
 
-  abbrev exNamed : Writing
-  exNamed = writeNames [] (length (exHead r)) (exNames r)
+  abbrev ex_named : Writing
+  ex_named = write_names [] (length (ex_head r)) (ex_names r)
 
-  abbrev pub exFront : List ℕ
-  exFront = exHead r ++ exNamed .octets ++ addressIf (r .withAddress) (r .ipv4)
+  abbrev pub ex_front : List ℕ
+  ex_front = ex_head r ++ ex_named.octets ++ address_if r.with_address_lem r.ipv4
 
-  abbrev exEnd : List ℕ
-  exEnd = lastName (r .nextSite) (exNamed .tails) (length exFront)
+  abbrev ex_end : List ℕ
+  ex_end = last_name r.next_site_lem ex_named.tails (length ex_front)
 
-  pub ex-split : exOctets r ≡ exFront ++ reading.last (r .nextSite) exEnd
-  unfolding exOctets
-  ex-split = ap (λ (x : List ℕ). exFront ++ x) (last-same (r .nextSite) exNamed (length exFront))
+  pub ex_split : ex_octets r ≡ ex_front ++ reading.last r.next_site_lem ex_end
+  unfolding ex_octets
+  ex_split = ap (λ (x : List ℕ). ex_front ++ x) (last-same r.next_site_lem ex_named (length ex_front))
 
-  abbrev exRest : List ℕ
-  exRest = reading.address (has v NETLOGON-NT-VERSION-5EX-WITH-IP) (r .ipv4) ++ reading.last (r .nextSite) exEnd
+  abbrev ex_rest : List ℕ
+  ex_rest = reading.address (has v netlogon_nt_version_5ex_with_ip) r.ipv4 ++ reading.last r.next_site_lem ex_end
 
-  address-is : addressIf (r .withAddress) (r .ipv4) ≡ reading.address (has v NETLOGON-NT-VERSION-5EX-WITH-IP) (r .ipv4)
-  address-is = address-same (r .withAddress) (r .ipv4) ∙ ap (λ (b : Bool). reading.address b (r .ipv4)) (k .address)
+  address_is : address_if r.with_address_lem r.ipv4 ≡ reading.address (has v netlogon_nt_version_5ex_with_ip) r.ipv4
+  address_is = address_same r.with_address_lem r.ipv4 ∙ ap (λ (b : Bool). reading.address b r.ipv4) k.address
 
-  ex-names : exOctets r ≡ exHead r ++ exNamed .octets ++ exRest
+  ex-names : ex_octets r ≡ ex_head r ++ ex_named.octets ++ ex_rest
   ex-names =
-      ex-split ∙ append-assoc (exHead r ++ exNamed .octets) (addressIf (r .withAddress) (r .ipv4)) (reading.last (r .nextSite) exEnd)
-      ∙ ap (λ (x : List ℕ). exHead r ++ exNamed .octets ++ (x ++ reading.last (r .nextSite) exEnd)) address-is
+      ex_split ∙ append_assoc (ex_head r ++ ex_named.octets) (address_if r.with_address_lem r.ipv4) (reading.last r.next_site_lem ex_end)
+      ∙ ap (λ (x : List ℕ). ex_head r ++ ex_named.octets ++ (x ++ reading.last r.next_site_lem ex_end)) address_is
 
-  pub ex-row : NamesRow (exOctets r) (length (exHead r)) (exNames r) (exNamed .octets)
-  ex-row = named-row (exHead r) (exNames r) ex-plain ex-short ex-room exRest (exOctets r) ex-names
+  pub ex-row : NamesRow (ex_octets r) (length (ex_head r)) (ex_names r) ex_named.octets
+  ex-row = named-row (ex_head r) (ex_names r) ex_plain ex-short ex_room ex_rest (ex_octets r) ex-names
 
-  front-length : length exFront ≡ length (exHead r) + length (exNamed .octets) + length (reading.address (has v NETLOGON-NT-VERSION-5EX-WITH-IP) (r .ipv4))
-  front-length = rw address-is (simp length-append)
+  front_length : length ex_front ≡ length (ex_head r) + length ex_named.octets + length (reading.address (has v netlogon_nt_version_5ex_with_ip) r.ipv4)
+  front_length = rw address_is (simp length-append)
 
-  address-length : (b : Bool) → length (reading.address b (r .ipv4)) ≡ cond b (1 + DcSockAddrSize) 0
-  address-length true = simp length-append (omega (arith, length-little 4 sin-family, k .ipv4))
+  address-length : (b : Bool) → length (reading.address b r.ipv4) ≡ cond b (1 + DcSockAddrSize) 0
+  address-length true = simp length-append (omega (arith, length-little 4 sin_family, k.ipv4))
   address-length false = refl
 
-  address-short : (b : Bool) → length (reading.address b (r .ipv4)) ≤ 17
+  address-short : (b : Bool) → length (reading.address b r.ipv4) ≤ 17
   address-short true = omega (arith, address-length true)
   address-short false = omega arith
 
   -- the names start where the layout says, and so does name 8
-  pub ex-start : namesStart Ex (exOctets r) ≡ length (exHead r)
-  ex-start = sym ex-head
+  pub ex-start : names_start Ex (ex_octets r) ≡ length (ex_head r)
+  ex-start = sym ex_head_lem
 
-  pub ex-last-start : lastStart v (exOctets r) ≡ length exFront
-  ex-last-start = omega (arith, names-end Ex ex-row ex-start, address-length (has v NETLOGON-NT-VERSION-5EX-WITH-IP), front-length)
+  pub ex-last-start : last_start v (ex_octets r) ≡ length ex_front
+  ex-last-start = omega (arith, names-end Ex ex-row ex-start, address-length (has v netlogon_nt_version_5ex_with_ip), front_length)
 
-  pub front-short : length exFront ≤ 1035
-  front-short = omega (arith, front-length, ex-head, ex-sizes, names-short (exNames r) [] (length (exHead r)), address-short (has v NETLOGON-NT-VERSION-5EX-WITH-IP))
+  pub front_short : length ex_front ≤ 1035
+  front_short = omega (arith, front_length, ex_head_lem, ex_sizes, names-short (ex_names r) [] (length (ex_head r)), address-short (has v netlogon_nt_version_5ex_with_ip))
 
   -- name 8 after the address, at place 8
-  pub last-written : (text : List ℕ) → Writable 63 text
-      → Written 8 (length exFront) (length exFront) (labels text) (exFront ++ writeName (exNamed .tails) (length exFront) text .octets) (writeName (exNamed .tails) (length exFront) text .tails)
-  unfolding writeName
-  last-written text w =
-      let c = chain (exHead r) (exNames r) ex-plain ex-short ex-room in
-      let before : List ℕ = exHead r ++ exNamed .octets in
-      let h : length before ≤ length exFront = simp length-append (omega arith) in
-      let ready : Every (Ready 8 (length exFront) exFront) (exNamed .tails) =
-      ready-later (0 + 8) 8 (length before) (length exFront) before (addressIf (r .withAddress) (r .ipv4)) (omega arith) h (exNamed .tails) (c .ready) in
-      labels-written (exNamed .tails) 8 (length exFront) (labels text) exFront (length exFront) refl (omega arith) (omega (arith, front-short, size-most 63 text w)) ready (w .plain)
+  pub last_written : (text : List ℕ) → Writable 63 text
+      → Written 8 (length ex_front) (length ex_front) (labels text) (ex_front ++ (write_name ex_named.tails (length ex_front) text).octets) (write_name ex_named.tails (length ex_front) text).tails
+  unfolding write_name
+  last_written text w =
+      let c = chain (ex_head r) (ex_names r) ex_plain ex-short ex_room in
+      let before : List ℕ = ex_head r ++ ex_named.octets in
+      let h : length before ≤ length ex_front = simp length-append (omega arith) in
+      let ready : Every (Ready 8 (length ex_front) ex_front) ex_named.tails =
+      ready_later (0 + 8) 8 (length before) (length ex_front) before (address_if r.with_address_lem r.ipv4) (omega arith) h ex_named.tails c.ready in
+      labels-written ex_named.tails 8 (length ex_front) (labels text) ex_front (length ex_front) refl (omega arith) (omega (arith, front_short, size-most 63 text w)) ready w.plain
 
   -- name 8 where it is written: read there, and walked with at most 8 pointers and no more than its labels
   abbrev pub LastSpot : Option (List ℕ) → ℕ → Type 0
   LastSpot none count = Unit {0}
-  LastSpot (some text) count = Spot (exOctets r) (length exFront) 8 text count
+  LastSpot (some text) count = Spot (ex_octets r) (length ex_front) 8 text count
 
-  pub last-there : (site : Option (List ℕ)) → r .nextSite ≡ site
-      → (count : ℕ) × LastAt (exOctets r) v (length exFront) site (lastName site (exNamed .tails) (length exFront)) count × LastSpot site count
-  last-there none q = (0, tt, tt)
-  last-there (some text) q =
-      let s : List ℕ = exOctets r in
-      let at : ℕ = length exFront in
-      let octets : List ℕ = writeName (exNamed .tails) (length exFront) text .octets in
-      let given : Writable 63 text × (has v NETLOGON-NT-VERSION-WITH-CLOSEST-SITE ≡ true) = k .nextSite text q in
-      let w = last-written text (given .0) in
-      let whole : s ≡ exFront ++ (octets ++ reading.ending exVersionWithNextSite) =
-      subst (λ (x : Option (List ℕ)). s ≡ exFront ++ reading.last x (lastName x (exNamed .tails) (length exFront))) q ex-split in
-      let e : length (exFront ++ octets) ≡ at + length octets = length-append exFront octets in
-      let walks : Walks (exFront ++ octets) at at (labels text) (w .count) (at + length octets) = rw e at (w .walks) in
-      let there : Walks s at at (labels text) (w .count) (at + length octets) =
-      subst (λ (x : List ℕ). Walks x at at (labels text) (w .count) (at + length octets)) (append-assoc exFront octets (reading.ending exVersionWithNextSite) ∙ sym whole) (longer (reading.ending exVersionWithNextSite) walks) in (
-        w .count,
-        (there, omega (arith, size-most 63 text (given .0)), omega (arith, w .byPlace), given .1),
-        record { next = at + length octets; byPlace = w .byPlace; byLabels = w .byLabels; walks = there },
+  pub last_there : (site : Option (List ℕ)) → r.next_site_lem ≡ site
+      → (count : ℕ) × LastAt (ex_octets r) v (length ex_front) site (last_name site ex_named.tails (length ex_front)) count × LastSpot site count
+  last_there none q = (0, tt, tt)
+  last_there (some text) q =
+      let s : List ℕ = ex_octets r in
+      let at : ℕ = length ex_front in
+      let octets : List ℕ = (write_name ex_named.tails (length ex_front) text).octets in
+      let given : Writable 63 text × (has v netlogon_nt_version_with_closest_site ≡ true) = k.next_site_lem text q in
+      let w = last_written text given.0 in
+      let whole : s ≡ ex_front ++ (octets ++ reading.ending ex_version_with_next_site) =
+      subst (λ (x : Option (List ℕ)). s ≡ ex_front ++ reading.last x (last_name x ex_named.tails (length ex_front))) q ex_split in
+      let e : length (ex_front ++ octets) ≡ at + length octets = length-append ex_front octets in
+      let walks : Walks (ex_front ++ octets) at at (labels text) w.count (at + length octets) = rw e at w.walks in
+      let there : Walks s at at (labels text) w.count (at + length octets) =
+      subst (λ (x : List ℕ). Walks x at at (labels text) w.count (at + length octets)) (append_assoc ex_front octets (reading.ending ex_version_with_next_site) ∙ sym whole) (longer (reading.ending ex_version_with_next_site) walks) in (
+        w.count,
+        (there, omega (arith, size-most 63 text given.0), omega (arith, w.by_place), given.1),
+        record { next = at + length octets; by_place = w.by_place; by_labels = w.by_labels; walks = there },
       )
 
-  abbrev lastCount : ℕ
-  lastCount = last-there (r .nextSite) refl .0
+  abbrev last_count : ℕ
+  last_count = (last_there r.next_site_lem refl).0
 
-  ex-shape : exOctets r ≡ littleOctets 2 (r .opcode) ++ (littleOctets 2 Sbz ++ (littleOctets 4 (r .flags) ++ (r .guid ++ (exNamed .octets ++ exRest))))
-  ex-shape = ex-names ∙ head
+  ex_shape : ex_octets r ≡ little_octets 2 r.opcode ++ (little_octets 2 Sbz ++ (little_octets 4 r.flags ++ (r.guid ++ (ex_named.octets ++ ex_rest))))
+  ex_shape = ex-names ∙ head
     where
-      head : exHead r ++ exNamed .octets ++ exRest ≡ littleOctets 2 (r .opcode) ++ (littleOctets 2 Sbz ++ (littleOctets 4 (r .flags) ++ (r .guid ++ (exNamed .octets ++ exRest))))
-      head = unfold exHead in simp append-assoc
+      head : ex_head r ++ ex_named.octets ++ ex_rest ≡ little_octets 2 r.opcode ++ (little_octets 2 Sbz ++ (little_octets 4 r.flags ++ (r.guid ++ (ex_named.octets ++ ex_rest))))
+      head = unfold ex_head in simp append_assoc
 
-  ex-left : Left (exOctets r) (length (exHead r)) (exNamed .octets ++ exRest)
-  ex-left = record { front = exHead r; whole = ex-names ∙ append-assoc (exHead r) (exNamed .octets) exRest; offset = refl }
+  ex-left : Left (ex_octets r) (length (ex_head r)) (ex_named.octets ++ ex_rest)
+  ex-left = record { front = ex_head r; whole = ex-names ∙ append_assoc (ex_head r) ex_named.octets ex_rest; offset = refl }
 
   -- the address and what follows stand after the names
-  pub ex-rest : Left (exOctets r) (length (exHead r) + length (exNamed .octets)) exRest
-  ex-rest = left-after (exNamed .octets) exRest ex-left
+  pub ex_rest_lem : Left (ex_octets r) (length (ex_head r) + length ex_named.octets) ex_rest
+  ex_rest_lem = left_after ex_named.octets ex_rest ex-left
 
-  pub ex-guid : cut (exOctets r) (2 + 2 + 4) guidSize ≡ r .guid
+  pub ex-guid : cut (ex_octets r) (2 + 2 + 4) guid_size ≡ r.guid
   ex-guid =
-      let numbers : List ℕ = littleOctets 2 (r .opcode) ++ (littleOctets 2 Sbz ++ littleOctets 4 (r .flags)) in
-      let n : length numbers ≡ 2 + 2 + 4 = simp length-append (omega (arith, length-little 2 (r .opcode), length-little 2 Sbz, length-little 4 (r .flags))) in
-      let whole : Left (exOctets r) 0 (numbers ++ (r .guid ++ (exNamed .octets ++ exRest))) = subst (Left (exOctets r) 0) (ex-shape ∙ simp append-assoc) (left-start (exOctets r)) in
-      stretch-is (r .guid) (exNamed .octets ++ exRest) guidSize (k .guid) (left-next numbers (r .guid ++ (exNamed .octets ++ exRest)) (2 + 2 + 4) n whole)
+      let numbers : List ℕ = little_octets 2 r.opcode ++ (little_octets 2 Sbz ++ little_octets 4 r.flags) in
+      let n : length numbers ≡ 2 + 2 + 4 = simp length-append (omega (arith, length-little 2 r.opcode, length-little 2 Sbz, length-little 4 r.flags)) in
+      let whole : Left (ex_octets r) 0 (numbers ++ (r.guid ++ (ex_named.octets ++ ex_rest))) = subst (Left (ex_octets r) 0) (ex_shape ∙ simp append_assoc) (left-start (ex_octets r)) in
+      stretch_is r.guid (ex_named.octets ++ ex_rest) guid_size k.guid (left-next numbers (r.guid ++ (ex_named.octets ++ ex_rest)) (2 + 2 + 4) n whole)
 
-  pub ex-read : reader.readEx v (exOctets r)
+  pub ex-read : reader.read_ex v (ex_octets r)
       ≡ good
       (reader.ex
-      (reading.exGiven v (r .opcode) (r .flags) (givenBack (ex-row .starts) (exNames r) (ex-row .counts)) (length (exHead r) + length (exNamed .octets))
-      (reading.lastGiven (r .nextSite) (length exFront) lastCount)))
+      (reading.ex_given v r.opcode r.flags (given_back_lem ex-row.starts (ex_names r) ex-row.counts) (length (ex_head r) + length ex_named.octets)
+      (reading.last_given r.next_site_lem (length ex_front) last_count)))
   ex-read =
-      let last : LastAt (exOctets r) v (length (exHead r) + length (exNamed .octets) + length (reading.address (has v NETLOGON-NT-VERSION-5EX-WITH-IP) (r .ipv4))) (r .nextSite) exEnd lastCount =
-      subst (λ (x : ℕ). LastAt (exOctets r) v x (r .nextSite) exEnd lastCount) front-length (last-there (r .nextSite) refl .1) in
+      let last : LastAt (ex_octets r) v (length (ex_head r) + length ex_named.octets + length (reading.address (has v netlogon_nt_version_5ex_with_ip) r.ipv4)) r.next_site_lem ex_end last_count =
+      subst (λ (x : ℕ). LastAt (ex_octets r) v x r.next_site_lem ex_end last_count) front_length (last_there r.next_site_lem refl).1 in
       subst (λ (x : ℕ).
-      reader.readEx v (exOctets r)
+      reader.read_ex v (ex_octets r)
       ≡ good
       (reader.ex
-      (reading.exGiven v (r .opcode) (r .flags) (givenBack (ex-row .starts) (exNames r) (ex-row .counts)) (length (exHead r) + length (exNamed .octets))
-      (reading.lastGiven (r .nextSite) x lastCount))))
-      (sym front-length)
-      (reading.read-ex (exOctets r) v (r .opcode) (r .flags) (r .guid) (exNames r) (exNamed .octets) (r .ipv4) (r .nextSite) exEnd lastCount
-      (length (exHead r)) ex-shape (k .opcode) (k .flags) (k .guid) (k .ipv4) refl
+      (reading.ex_given v r.opcode r.flags (given_back_lem ex-row.starts (ex_names r) ex-row.counts) (length (ex_head r) + length ex_named.octets)
+      (reading.last_given r.next_site_lem x last_count))))
+      (sym front_length)
+      (reading.read-ex (ex_octets r) v r.opcode r.flags r.guid (ex_names r) ex_named.octets r.ipv4 r.next_site_lem ex_end last_count
+      (length (ex_head r)) ex_shape k.opcode k.flags k.guid k.ipv4 refl
       ex-left ex-row last)
 
-  last-length : (site : Option (List ℕ)) → r .nextSite ≡ site → length (reading.last site (lastName site (exNamed .tails) (length exFront))) ≤ 73
-  unfolding writeName
-  last-length none q = omega (arith, ending-length exVersion)
+  last-length : (site : Option (List ℕ)) → r.next_site_lem ≡ site → length (reading.last site (last_name site ex_named.tails (length ex_front))) ≤ 73
+  unfolding write_name
+  last-length none q = omega (arith, ending-length ex_version)
   last-length (some text) q =
-      let w : Writable 63 text = k .nextSite text q .0 in
-      let octets : List ℕ = writeName (exNamed .tails) (length exFront) text .octets in
-      let e : length (octets ++ reading.ending exVersionWithNextSite) ≡ length octets + length (reading.ending exVersionWithNextSite) = length-append octets (reading.ending exVersionWithNextSite) in
-      omega (arith, ending-length exVersionWithNextSite, labels-short (exNamed .tails) (length exFront) (labels text), size-most 63 text w)
+      let w : Writable 63 text = (k.next_site_lem text q).0 in
+      let octets : List ℕ = (write_name ex_named.tails (length ex_front) text).octets in
+      let e : length (octets ++ reading.ending ex_version_with_next_site) ≡ length octets + length (reading.ending ex_version_with_next_site) = length-append octets (reading.ending ex_version_with_next_site) in
+      omega (arith, ending-length ex_version_with_next_site, labels-short ex_named.tails (length ex_front) (labels text), size-most 63 text w)
 
-  pub ex-length : length (exOctets r) ≤ 1108
+  pub ex-length : length (ex_octets r) ≤ 1108
   ex-length =
-      let last : List ℕ = reading.last (r .nextSite) exEnd in
-      let n : length (exOctets r) ≡ length exFront + length last = ap length ex-split ∙ length-append exFront last in
-      omega (arith, front-short, last-length (r .nextSite) refl)
+      let last : List ℕ = reading.last r.next_site_lem ex_end in
+      let n : length (ex_octets r) ≡ length ex_front + length last = ap length ex_split ∙ length-append ex_front last in
+      omega (arith, front_short, last-length r.next_site_lem refl)

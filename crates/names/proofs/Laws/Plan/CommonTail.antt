@@ -1,65 +1,65 @@
 -- What two texts have in common at their ends decides for every tail of the one whether the other ends with it.
-use mathlib.Core.Path.{_≡_, refl, sym, ap, _∙_}
-use mathlib.Core.Bool.{Bool, true, false, _&&_}
-use mathlib.Core.List.{List, _∷_}
-use Prim.Native.Nat.{ℕ, suc, _+_, _-_, _≤_, _<_}
+use mathlib.Core.Path.{◌≡◌, refl, sym, ap, ◌∙◌}
+use mathlib.Core.Bool.{Bool, true, false, ◌&&◌}
+use mathlib.Core.List.{List, ◌∷◌}
+use Prim.Native.Nat.{ℕ, suc, ◌+◌, ◌-◌, ◌≤◌, ◌<◌}
 use native.Mathlib.Omega.{arith}
-use borrow.Author.Tests.{le-leb, lt-leb, leb-true, leb-false}
+use borrow.Author.Tests.{lt-leb, leb-true, leb-false}
 use lib.Dec.{leb, ltb}
-use lib.ListN.{length, getD, drop, length-drop}
-use lib.Seq.{drop-cons, drop-drop, getD-drop}
-use Rattle·octets.specs.Text.{same}
-use Rattle·octets.proofs.Laws.Text.{same-equal, same-self}
-use Rattle·names·specs.specs.Internal.Plan.{startsLabel, offersTail, offersSize, CommonTail}
+use lib.ListN.{length, get_or, drop, length-drop}
+use lib.Seq.{drop-cons, drop-drop, get_or-drop}
+use Rattle.octets.specs.Text.{same}
+use Rattle.octets.proofs.Laws.Text.{same_equal, same_self}
+use Rattle.names.specs.Internal.Plan.{starts_label, offers_tail, offers_size, CommonTail}
 
 -- a tail of one octet more
-pub tail-more : (a : List ℕ) (n : ℕ) → n < length a → drop (length a - (n + 1)) a ≡ getD a (length a - 1 - n) 0 ∷ drop (length a - n) a
-tail-more a n h =
+pub tail_more : (a : List ℕ) (n : ℕ) → n < length a → drop (length a - (n + 1)) a ≡ get_or a (length a - 1 - n) 0 ∷ drop (length a - n) a
+tail_more a n h =
     let i : length a - (n + 1) ≡ length a - 1 - n = omega arith in
     let j : suc (length a - 1 - n) ≡ length a - n = omega arith in
-    ap (λ (k : ℕ). drop k a) i ∙ drop-cons a (length a - 1 - n) 0 (omega arith) ∙ ap (λ (k : ℕ). getD a (length a - 1 - n) 0 ∷ drop k a) j
+    ap (λ (k : ℕ). drop k a) i ∙ drop-cons a (length a - 1 - n) 0 (omega arith) ∙ ap (λ (k : ℕ). get_or a (length a - 1 - n) 0 ∷ drop k a) j
 
 below : (n k m : ℕ) → n < k → k ≤ m → n < m
 below n k m h l = omega arith
 
 -- where the last octet that differs stands in a longer tail
-in-tail : (m k n : ℕ) → n < k → k ≤ m → m - k + (k - 1 - n) ≡ m - 1 - n
-in-tail m k n h l = omega arith
+in_tail : (m k n : ℕ) → n < k → k ≤ m → m - k + (k - 1 - n) ≡ m - 1 - n
+in_tail m k n h l = omega arith
 
 module _ (a b : List ℕ) (n : ℕ) (h : CommonTail a b n) where
   -- a shorter tail of what is common
   within : (k : ℕ) → k ≤ n → drop (length a - k) a ≡ drop (length b - k) b
   within k l =
-      let s : length a - n + (n - k) ≡ length a - k = omega (arith, h .first) in
-      let t : length b - n + (n - k) ≡ length b - k = omega (arith, h .second) in
-      ap (λ (i : ℕ). drop i a) (sym s) ∙ sym (drop-drop (n - k) (length a - n) a) ∙ ap (drop (n - k)) (h .common)
+      let s : length a - n + (n - k) ≡ length a - k = omega (arith, h.first) in
+      let t : length b - n + (n - k) ≡ length b - k = omega (arith, h.second) in
+      ap (λ (i : ℕ). drop i a) (sym s) ∙ sym (drop-drop (n - k) (length a - n) a) ∙ ap (drop (n - k)) h.common
       ∙ drop-drop (n - k) (length b - n) b ∙ ap (λ (i : ℕ). drop i b) t
 
   -- a longer one has the octets that differ
   beyond : (k : ℕ) → n < k → k ≤ length a → k ≤ length b → drop (length a - k) a ≡ drop (length b - k) b → ⊥
   beyond k l p q e =
-      let s = in-tail (length a) k n l p in
-      let t = in-tail (length b) k n l q in
-      h .most (below n k (length a) l p) (below n k (length b) l q)
-      (ap (λ (i : ℕ). getD a i 0) (sym s) ∙ sym (getD-drop (length a - k) a (k - 1 - n) 0) ∙ ap (λ (x : List ℕ). getD x (k - 1 - n) 0) e
-      ∙ getD-drop (length b - k) b (k - 1 - n) 0 ∙ ap (λ (i : ℕ). getD b i 0) t)
+      let s = in_tail (length a) k n l p in
+      let t = in_tail (length b) k n l q in
+      h.most (below n k (length a) l p) (below n k (length b) l q)
+      (ap (λ (i : ℕ). get_or a i 0) (sym s) ∙ sym (get_or-drop (length a - k) a (k - 1 - n) 0) ∙ ap (λ (x : List ℕ). get_or x (k - 1 - n) 0) e
+      ∙ get_or-drop (length b - k) b (k - 1 - n) 0 ∙ ap (λ (i : ℕ). get_or b i 0) t)
 
-  tail-same : (k : ℕ) → k ≤ length a → k ≤ length b → same (drop (length a - k) a) (drop (length b - k) b) ≡ leb k n
-  tail-same k p q = go (leb k n) refl
+  tail_same : (k : ℕ) → k ≤ length a → k ≤ length b → same (drop (length a - k) a) (drop (length b - k) b) ≡ leb k n
+  tail_same k p q = go (leb k n) refl
     where
       differ : (t : Bool) → same (drop (length a - k) a) (drop (length b - k) b) ≡ t → n < k → t ≡ false
-      differ true e l = absurd (beyond k l p q (same-equal _ _ e))
+      differ true e l = absurd (beyond k l p q (same_equal _ _ e))
       differ false e l = refl
 
       go : (t : Bool) → leb k n ≡ t → same (drop (length a - k) a) (drop (length b - k) b) ≡ t
-      go true e = ap (λ (x : List ℕ). same x (drop (length b - k) b)) (within k (leb-true k n e)) ∙ same-self (drop (length b - k) b)
+      go true e = ap (λ (x : List ℕ). same x (drop (length b - k) b)) (within k (leb-true k n e)) ∙ same_self (drop (length b - k) b)
       go false e = differ _ refl (leb-false k n e)
 
 -- so a tail's size is all that is tested of it
-pub offers-common : (earlier text : List ℕ) (literal common before : ℕ) → CommonTail earlier text common → before ≤ length text
-    → offersSize earlier literal (length text - before) common ≡ offersTail earlier literal (drop before text)
-unfolding offersTail
-offers-common earlier text literal common before h l =
+pub offers_common : (earlier text : List ℕ) (literal common before : ℕ) → CommonTail earlier text common → before ≤ length text
+    → offers_size earlier literal (length text - before) common ≡ offers_tail earlier literal (drop before text)
+unfolding offers_tail
+offers_common earlier text literal common before h l =
     let size : ℕ = length text - before in
     let b : length text - size ≡ before = omega arith in
     rw (length-drop before text) (go (leb size (length earlier)) refl b)
@@ -73,12 +73,12 @@ offers-common earlier text literal common before h l =
     turned false false z = refl
 
     go : (t : Bool) → leb (length text - before) (length earlier) ≡ t → length text - (length text - before) ≡ before
-        → offersSize earlier literal (length text - before) common
-        ≡ (leb (length text - before) (length earlier) && ltb (length earlier - (length text - before)) literal && startsLabel earlier (length earlier - (length text - before)) && same (drop (length earlier - (length text - before)) earlier) (drop before text))
+        → offers_size earlier literal (length text - before) common
+        ≡ (leb (length text - before) (length earlier) && ltb (length earlier - (length text - before)) literal && starts_label earlier (length earlier - (length text - before)) && same (drop (length earlier - (length text - before)) earlier) (drop before text))
     go true e b =
-        let s = tail-same earlier text common h (length text - before) (leb-true (length text - before) (length earlier) e) (omega arith) in
+        let s = tail_same earlier text common h (length text - before) (leb-true (length text - before) (length earlier) e) (omega arith) in
         let s2 : same (drop (length earlier - (length text - before)) earlier) (drop before text) ≡ leb (length text - before) common = ap (λ (i : ℕ). same (drop (length earlier - (length text - before)) earlier) (drop i text)) (sym b) ∙ s in
-        rw (e, s2) (turned (leb (length text - before) common) (ltb (length earlier - (length text - before)) literal) (startsLabel earlier (length earlier - (length text - before))))
+        rw (e, s2) (turned (leb (length text - before) common) (ltb (length earlier - (length text - before)) literal) (starts_label earlier (length earlier - (length text - before))))
     go false e b =
         let l : length earlier < length text - before = leb-false (length text - before) (length earlier) e in
-        rw (e, lt-leb (length text - before) common (omega (arith, h .first, l)))
+        rw (e, lt-leb (length text - before) common (omega (arith, h.first, l)))

@@ -1,88 +1,88 @@
 -- The search for a tail: it says what a name writes, goes name by name, and label by label.
-use mathlib.Core.Path.{_≡_, refl, sym, ap, ap₂, _∙_}
+use mathlib.Core.Path.{◌≡◌, refl, sym, ap, ap₂, ◌∙◌}
 use mathlib.Core.Bool.{Bool, true, false, cond}
-use mathlib.Core.List.{List, [], _∷_, _++_, flatMap, append-assoc}
+use mathlib.Core.List.{List, [], ◌∷◌, ◌++◌, flat_map, append_assoc}
 use mathlib.Core.Option.{Option, none, some}
-use Prim.Native.Nat.{ℕ, suc, _+_, _-_, _≤_, _<_}
+use Prim.Native.Nat.{ℕ, suc, ◌+◌, ◌-◌, ◌≤◌, ◌<◌}
 use native.Mathlib.Omega.{arith}
 use lib.Dec.{ltb}
 use lib.ListN.{length, take, drop, length-append}
 use lib.Seq.{take-append-add}
 use borrow.Author.Tests.{lt-ltb, le-ltb, ltb-true, ltb-false}
-use Rattle·octets.specs.Label.{parts, labels, joined}
-use Rattle·octets.specs.Lists.{first}
-use Rattle·octets.proofs.Laws.Lists.{orElse, first-append}
-use Rattle·octets.specs.Text.{same}
-use Rattle·names·specs.specs.Name.{Tail, Writing, literalLabel, literally, pointerOr, writeLabels}
-use Rattle·names·specs.specs.declared.plan.Aim.{Aim}
-use Rattle·names·specs.specs.declared.plan.Aim.the-variants.{At, Nothing}
-use Rattle·names·specs.specs.declared.plan.Ending.{Ending}
-use Rattle·names·specs.specs.declared.plan.Ending.the-variants.{Zero, Pointer}
-use Rattle·names·specs.specs.Internal.Plan.{tailsFrom, offersTail, firstAim, shift, aimOr, betterAim, AimWithin, endingOctets, toDot, literalOctets}
-use Rattle·names·proofs.proofs.Laws.Plan.Labels.{restFrom, rest-step, rest-text, rest-past, first-length, some-labels}
-use Rattle·names·proofs.proofs.Laws.Plan.Tails.{aim-found}
+use Rattle.octets.specs.Label.{parts, labels, joined}
+use Rattle.octets.specs.Lists.{first}
+use Rattle.octets.proofs.Laws.Lists.{or_else, first-append}
+use Rattle.octets.specs.Text.{same}
+use Rattle.names.specs.Name.{Tail, Writing, literal_label, literally, pointer_or, write_labels}
+use Rattle.names.specs.declared.plan.Aim.{Aim}
+use Rattle.names.specs.declared.plan.Aim.TheVariants.{At, Nothing}
+use Rattle.names.specs.declared.plan.Ending.{Ending}
+use Rattle.names.specs.declared.plan.Ending.TheVariants.{Zero, Pointer}
+use Rattle.names.specs.Internal.Plan.{tails_from, offers_tail, first_aim, shift, aim_or, better_aim, AimWithin, ending_octets, to_dot, literal_octets}
+use Rattle.names.proofs.Laws.Plan.Labels.{rest_from, rest_step, rest_text, rest_past, first-length, some-labels}
+use Rattle.names.proofs.Laws.Plan.Tails.{aim-found}
 
 -- ---- what a name writes by its aim
 
-abbrev pub literalOf : Aim → List (List ℕ) → ℕ
-literalOf (At before offset) ls = before
-literalOf Nothing ls = length (flatMap literalLabel ls)
+abbrev pub literal_of : Aim → List (List ℕ) → ℕ
+literal_of (At before offset) ls = before
+literal_of Nothing ls = length (flat_map literal_label ls)
 
-abbrev pub endingOf : Aim → Ending
-endingOf (At before offset) = Pointer offset
-endingOf Nothing = Zero
+abbrev pub ending_of : Aim → Ending
+ending_of (At before offset) = Pointer offset
+ending_of Nothing = Zero
 
-abbrev pub writtenOut : ℕ → ℕ → Ending → List (List ℕ) → Writing
-writtenOut at literal ending ls = record { octets = take literal (flatMap literalLabel ls) ++ endingOctets ending; tails = tailsFrom at literal ls }
+abbrev pub written_out : ℕ → ℕ → Ending → List (List ℕ) → Writing
+written_out at literal ending ls = record { octets = take literal (flat_map literal_label ls) ++ ending_octets ending; tails = tails_from at literal ls }
 
 abbrev pub written : ℕ → Aim → List (List ℕ) → Writing
-written at aim ls = writtenOut at (literalOf aim ls) (endingOf aim) ls
+written at aim ls = written_out at (literal_of aim ls) (ending_of aim) ls
 
 -- one label more before it
 label-more : (at literal : ℕ) (ending : Ending) (l : List ℕ) (ls : List (List ℕ))
-    → literally at (joined (l ∷ ls)) l (writtenOut (at + (1 + length l)) literal ending ls) ≡ writtenOut at (1 + length l + literal) ending (l ∷ ls)
-unfolding flatMap literalLabel tailsFrom
+    → literally at (joined (l ∷ ls)) l (written_out (at + (1 + length l)) literal ending ls) ≡ written_out at (1 + length l + literal) ending (l ∷ ls)
+unfolding flat_map literal_label tails_from
 label-more at literal ending l ls =
-    let f : List ℕ = flatMap literalLabel ls in
+    let f : List ℕ = flat_map literal_label ls in
     let a : suc (length l) + literal ≡ 1 + length l + literal = omega arith in
     let b : suc (length l + literal) ≡ 1 + length l + literal = omega arith in
     let k : literal ≡ length l + literal - length l = omega arith in
-    let o : literalLabel l ++ (take literal f ++ endingOctets ending) ≡ take (1 + length l + literal) (literalLabel l ++ f) ++ endingOctets ending =
-    sym (append-assoc (literalLabel l) (take literal f) (endingOctets ending))
-    ∙ ap (λ (x : List ℕ). x ++ endingOctets ending) (sym (take-append-add (literalLabel l) f literal) ∙ ap (λ (n : ℕ). take n (literalLabel l ++ f)) a) in
-    let t : record { offset = at; text = joined (l ∷ ls) } ∷ tailsFrom (at + (1 + length l)) literal ls ≡ tailsFrom at (1 + length l + literal) (l ∷ ls) =
-    ap (λ (n : ℕ). record { offset = at; text = joined (l ∷ ls) } ∷ tailsFrom (at + (1 + length l)) n ls) k
-    ∙ ap (λ (n : ℕ). tailsFrom at n (l ∷ ls)) b in
+    let o : literal_label l ++ (take literal f ++ ending_octets ending) ≡ take (1 + length l + literal) (literal_label l ++ f) ++ ending_octets ending =
+    sym (append_assoc (literal_label l) (take literal f) (ending_octets ending))
+    ∙ ap (λ (x : List ℕ). x ++ ending_octets ending) (sym (take-append-add (literal_label l) f literal) ∙ ap (λ (n : ℕ). take n (literal_label l ++ f)) a) in
+    let t : record { offset = at; text = joined (l ∷ ls) } ∷ tails_from (at + (1 + length l)) literal ls ≡ tails_from at (1 + length l + literal) (l ∷ ls) =
+    ap (λ (n : ℕ). record { offset = at; text = joined (l ∷ ls) } ∷ tails_from (at + (1 + length l)) n ls) k
+    ∙ ap (λ (n : ℕ). tails_from at n (l ∷ ls)) b in
     ap₂ (λ (x : List ℕ) (y : List Tail). record { octets = x; tails = y }) o t
 
 aim-more : (at : ℕ) (aim : Aim) (l : List ℕ) (ls : List (List ℕ))
     → literally at (joined (l ∷ ls)) l (written (at + (1 + length l)) aim ls) ≡ written at (shift (1 + length l) aim) (l ∷ ls)
-unfolding flatMap literalLabel
+unfolding flat_map literal_label
 aim-more at (At before offset) l ls = label-more at before (Pointer offset) l ls
 aim-more at Nothing l ls =
-    let e : 1 + length l + length (flatMap literalLabel ls) ≡ length (literalLabel l ++ flatMap literalLabel ls) = simp length-append (omega arith) in
-    label-more at (length (flatMap literalLabel ls)) Zero l ls ∙ ap (λ (n : ℕ). writtenOut at n Zero (l ∷ ls)) e
+    let e : 1 + length l + length (flat_map literal_label ls) ≡ length (literal_label l ++ flat_map literal_label ls) = simp length-append (omega arith) in
+    label-more at (length (flat_map literal_label ls)) Zero l ls ∙ ap (λ (n : ℕ). written_out at n Zero (l ∷ ls)) e
 
 -- a name is written as the search says
-pub written-by-search : (earlier : List Tail) (at : ℕ) (ls : List (List ℕ)) → writeLabels earlier at ls ≡ written at (firstAim earlier ls) ls
-unfolding writeLabels firstAim flatMap tailsFrom
-written-by-search earlier at [] = refl
-written-by-search earlier at (l ∷ ls) = go (first (λ t. same (t .text) (joined (l ∷ ls))) earlier) (written-by-search earlier (at + (1 + length l)) ls)
+pub written_by_search : (earlier : List Tail) (at : ℕ) (ls : List (List ℕ)) → write_labels earlier at ls ≡ written at (first_aim earlier ls) ls
+unfolding write_labels first_aim flat_map tails_from
+written_by_search earlier at [] = refl
+written_by_search earlier at (l ∷ ls) = go (first (λ t. same t.text (joined (l ∷ ls))) earlier) (written_by_search earlier (at + (1 + length l)) ls)
   where
     rest : Writing
-    rest = writeLabels earlier (at + (1 + length l)) ls
+    rest = write_labels earlier (at + (1 + length l)) ls
 
-    go : (f : Option Tail) → rest ≡ written (at + (1 + length l)) (firstAim earlier ls) ls
-        → pointerOr f (literally at (joined (l ∷ ls)) l rest) ≡ written at (aimOr f (shift (1 + length l) (firstAim earlier ls))) (l ∷ ls)
-    go none e = ap (literally at (joined (l ∷ ls)) l) e ∙ aim-more at (firstAim earlier ls) l ls
+    go : (f : Option Tail) → rest ≡ written (at + (1 + length l)) (first_aim earlier ls) ls
+        → pointer_or f (literally at (joined (l ∷ ls)) l rest) ≡ written at (aim_or f (shift (1 + length l) (first_aim earlier ls))) (l ∷ ls)
+    go none e = ap (literally at (joined (l ∷ ls)) l) e ∙ aim-more at (first_aim earlier ls) l ls
     go (some t) e = refl
 
 -- ---- name by name
 
-better-shift : (n : ℕ) (a b : Aim) → betterAim (shift n a) (shift n b) ≡ shift n (betterAim a b)
-better-shift n Nothing b = refl
-better-shift n (At before offset) Nothing = refl
-better-shift n (At before offset) (At other lower) = go (ltb other before) refl
+better_shift : (n : ℕ) (a b : Aim) → better_aim (shift n a) (shift n b) ≡ shift n (better_aim a b)
+better_shift n Nothing b = refl
+better_shift n (At before offset) Nothing = refl
+better_shift n (At before offset) (At other lower) = go (ltb other before) refl
   where
     go : (t : Bool) → ltb other before ≡ t
         → cond (ltb (n + other) (n + before)) (At (n + other) lower) (At (n + before) offset) ≡ shift n (cond t (At other lower) (At before offset))
@@ -90,37 +90,37 @@ better-shift n (At before offset) (At other lower) = go (ltb other before) refl
     go false e = let h : before ≤ other = ltb-false other before e in rw (le-ltb (n + other) (n + before) (omega arith))
 
 -- nothing is better than no octets before it, nor as good where it comes later
-better-none : (offset : ℕ) (b : Aim) → betterAim (At 0 offset) b ≡ At 0 offset
-better-none offset Nothing = refl
-better-none offset (At other lower) = rw (le-ltb other 0 (omega arith))
+better_none : (offset : ℕ) (b : Aim) → better_aim (At 0 offset) b ≡ At 0 offset
+better_none offset Nothing = refl
+better_none offset (At other lower) = rw (le-ltb other 0 (omega arith))
 
-better-later : (n offset : ℕ) (a : Aim) → betterAim (shift (1 + n) a) (At 0 offset) ≡ At 0 offset
-better-later n offset Nothing = refl
-better-later n offset (At before other) = rw (lt-ltb 0 (1 + n + before) (omega arith))
+better_later : (n offset : ℕ) (a : Aim) → better_aim (shift (1 + n) a) (At 0 offset) ≡ At 0 offset
+better_later n offset Nothing = refl
+better_later n offset (At before other) = rw (lt-ltb 0 (1 + n + before) (omega arith))
 
-pub search-append : (ts us : List Tail) (ls : List (List ℕ)) → firstAim (ts ++ us) ls ≡ betterAim (firstAim ts ls) (firstAim us ls)
-unfolding firstAim
-search-append ts us [] = refl
-search-append ts us (l ∷ ls) =
-    ap (λ (o : Option Tail). aimOr o (shift (1 + length l) (firstAim (ts ++ us) ls))) (first-append (λ t. same (t .text) (joined (l ∷ ls))) ts us)
-    ∙ go (first (λ t. same (t .text) (joined (l ∷ ls))) ts) (first (λ t. same (t .text) (joined (l ∷ ls))) us) (search-append ts us ls)
+pub search_append : (ts us : List Tail) (ls : List (List ℕ)) → first_aim (ts ++ us) ls ≡ better_aim (first_aim ts ls) (first_aim us ls)
+unfolding first_aim
+search_append ts us [] = refl
+search_append ts us (l ∷ ls) =
+    ap (λ (o : Option Tail). aim_or o (shift (1 + length l) (first_aim (ts ++ us) ls))) (first-append (λ t. same t.text (joined (l ∷ ls))) ts us)
+    ∙ go (first (λ t. same t.text (joined (l ∷ ls))) ts) (first (λ t. same t.text (joined (l ∷ ls))) us) (search_append ts us ls)
   where
-    go : (f g : Option Tail) → firstAim (ts ++ us) ls ≡ betterAim (firstAim ts ls) (firstAim us ls)
-        → aimOr (orElse f g) (shift (1 + length l) (firstAim (ts ++ us) ls))
-        ≡ betterAim (aimOr f (shift (1 + length l) (firstAim ts ls))) (aimOr g (shift (1 + length l) (firstAim us ls)))
-    go (some t) g e = sym (better-none (t .offset) (aimOr g (shift (1 + length l) (firstAim us ls))))
-    go none (some u) e = sym (better-later (length l) (u .offset) (firstAim ts ls))
-    go none none e = ap (shift (1 + length l)) e ∙ sym (better-shift (1 + length l) (firstAim ts ls) (firstAim us ls))
+    go : (f g : Option Tail) → first_aim (ts ++ us) ls ≡ better_aim (first_aim ts ls) (first_aim us ls)
+        → aim_or (or_else f g) (shift (1 + length l) (first_aim (ts ++ us) ls))
+        ≡ better_aim (aim_or f (shift (1 + length l) (first_aim ts ls))) (aim_or g (shift (1 + length l) (first_aim us ls)))
+    go (some t) g e = sym (better_none t.offset (aim_or g (shift (1 + length l) (first_aim us ls))))
+    go none (some u) e = sym (better_later (length l) u.offset (first_aim ts ls))
+    go none none e = ap (shift (1 + length l)) e ∙ sym (better_shift (1 + length l) (first_aim ts ls) (first_aim us ls))
 
-pub search-none : (ls : List (List ℕ)) → firstAim [] ls ≡ Nothing
-unfolding firstAim first
-search-none [] = refl
-search-none (l ∷ ls) = ap (shift (1 + length l)) (search-none ls)
+pub search_none : (ls : List (List ℕ)) → first_aim [] ls ≡ Nothing
+unfolding first_aim first
+search_none [] = refl
+search_none (l ∷ ls) = ap (shift (1 + length l)) (search_none ls)
 
-pub better-within : (n : ℕ) (a b : Aim) → AimWithin n a → AimWithin n b → AimWithin n (betterAim a b)
-better-within n Nothing b h k = k
-better-within n (At before offset) Nothing h k = h
-better-within n (At before offset) (At other lower) h k = go (ltb other before)
+pub better_within : (n : ℕ) (a b : Aim) → AimWithin n a → AimWithin n b → AimWithin n (better_aim a b)
+better_within n Nothing b h k = k
+better_within n (At before offset) Nothing h k = h
+better_within n (At before offset) (At other lower) h k = go (ltb other before)
   where
     go : (t : Bool) → AimWithin n (cond t (At other lower) (At before offset))
     go true = k
@@ -132,29 +132,29 @@ shift-shift : (m n : ℕ) (a : Aim) → shift m (shift n a) ≡ shift (m + n) a
 shift-shift m n (At before offset) = let e : m + (n + before) ≡ m + n + before = omega arith in ap (λ (k : ℕ). At k offset) e
 shift-shift m n Nothing = refl
 
-shift-none : (a : Aim) → shift 0 a ≡ a
-shift-none (At before offset) = let e : 0 + before ≡ before = omega arith in ap (λ (k : ℕ). At k offset) e
-shift-none Nothing = refl
+shift_none : (a : Aim) → shift 0 a ≡ a
+shift_none (At before offset) = let e : 0 + before ≡ before = omega arith in ap (λ (k : ℕ). At k offset) e
+shift_none Nothing = refl
 
 -- what the labels from an offset of a text on give
-abbrev pub searchFrom : List Tail → List ℕ → ℕ → Aim
-searchFrom ts text n = shift n (firstAim ts (restFrom n text))
+abbrev pub search_from : List Tail → List ℕ → ℕ → Aim
+search_from ts text n = shift n (first_aim ts (rest_from n text))
 
-pub search-empty : (ts : List Tail) (text : List ℕ) → length text ≡ 0 → Nothing ≡ firstAim ts (labels text)
-unfolding firstAim labels
-search-empty ts [] h = refl
-search-empty ts (x ∷ xs) h = absurd (omega arith)
+pub search_empty : (ts : List Tail) (text : List ℕ) → length text ≡ 0 → Nothing ≡ first_aim ts (labels text)
+unfolding first_aim labels
+search_empty ts [] h = refl
+search_empty ts (x ∷ xs) h = absurd (omega arith)
 
-pub search-start : (ts : List Tail) (text : List ℕ) → (length text ≡ 0 → ⊥) → searchFrom ts text 0 ≡ firstAim ts (labels text)
-search-start ts text h = shift-none (firstAim ts (parts text)) ∙ ap (firstAim ts) (sym (some-labels text (omega arith)))
+pub search_start : (ts : List Tail) (text : List ℕ) → (length text ≡ 0 → ⊥) → search_from ts text 0 ≡ first_aim ts (labels text)
+search_start ts text h = shift_none (first_aim ts (parts text)) ∙ ap (first_aim ts) (sym (some-labels text (omega arith)))
 
-pub search-end : (ts : List Tail) (text : List ℕ) (n : ℕ) → length text < n → Nothing ≡ searchFrom ts text n
-unfolding firstAim
-search-end ts text n h = rw (rest-past n text h)
+pub search_end : (ts : List Tail) (text : List ℕ) (n : ℕ) → length text < n → Nothing ≡ search_from ts text n
+unfolding first_aim
+search_end ts text n h = rw (rest_past n text h)
 
-module _ (at literal : ℕ) (earlier : List ℕ) (fit : literal ≤ length (literalOctets earlier)) (text : List ℕ) (n : ℕ) (h : n ≤ length text) where
+module _ (at literal : ℕ) (earlier : List ℕ) (fit : literal ≤ length (literal_octets earlier)) (text : List ℕ) (n : ℕ) (h : n ≤ length text) where
   abbrev ts : List Tail
-  ts = tailsFrom at literal (labels earlier)
+  ts = tails_from at literal (labels earlier)
 
   abbrev x : List ℕ
   x = drop n text
@@ -163,31 +163,31 @@ module _ (at literal : ℕ) (earlier : List ℕ) (fit : literal ≤ length (lite
   here = At n (at + (length earlier - length x))
 
   abbrev next : Aim
-  next = searchFrom ts text (n + toDot x + 1)
+  next = search_from ts text (n + to_dot x + 1)
 
-  search-step : searchFrom ts text n ≡ cond (offersTail earlier literal x) here next
-  unfolding firstAim
-  search-step =
-      let e : restFrom n text ≡ l ∷ ls = rest-step n text h in
-      ap (λ (r : List (List ℕ)). shift n (firstAim ts r)) e
-      ∙ ap (λ (y : List ℕ). shift n (aimOr (first (λ t. same (t .text) y) ts) (shift (1 + length l) (firstAim ts ls)))) (ap joined (sym e) ∙ rest-text n text h)
-      ∙ ap (shift n) (aim-found x at literal earlier (shift (1 + length l) (firstAim ts ls)) fit)
-      ∙ go (offersTail earlier literal x)
+  search_step : search_from ts text n ≡ cond (offers_tail earlier literal x) here next
+  unfolding first_aim
+  search_step =
+      let e : rest_from n text ≡ l ∷ ls = rest_step n text h in
+      ap (λ (r : List (List ℕ)). shift n (first_aim ts r)) e
+      ∙ ap (λ (y : List ℕ). shift n (aim_or (first (λ t. same t.text y) ts) (shift (1 + length l) (first_aim ts ls)))) (ap joined (sym e) ∙ rest_text n text h)
+      ∙ ap (shift n) (aim-found x at literal earlier (shift (1 + length l) (first_aim ts ls)) fit)
+      ∙ go (offers_tail earlier literal x)
     where
       l : List ℕ
-      l = take (toDot x) x
+      l = take (to_dot x) x
 
       ls : List (List ℕ)
-      ls = restFrom (n + toDot x + 1) text
+      ls = rest_from (n + to_dot x + 1) text
 
-      go : (b : Bool) → shift n (cond b (At 0 (at + (length earlier - length x))) (shift (1 + length l) (firstAim ts ls))) ≡ cond b here next
+      go : (b : Bool) → shift n (cond b (At 0 (at + (length earlier - length x))) (shift (1 + length l) (first_aim ts ls))) ≡ cond b here next
       go true = let k : n + 0 ≡ n = omega arith in ap (λ (m : ℕ). At m (at + (length earlier - length x))) k
       go false =
-          let k : n + (1 + length l) ≡ n + toDot x + 1 = omega (arith, first-length x) in
-          shift-shift n (1 + length l) (firstAim ts ls) ∙ ap (λ (m : ℕ). shift m (firstAim ts ls)) k
+          let k : n + (1 + length l) ≡ n + to_dot x + 1 = omega (arith, first-length x) in
+          shift-shift n (1 + length l) (first_aim ts ls) ∙ ap (λ (m : ℕ). shift m (first_aim ts ls)) k
 
-  pub search-here : offersTail earlier literal x ≡ true → here ≡ searchFrom ts text n
-  search-here e = sym (search-step ∙ ap (λ (b : Bool). cond b here next) e)
+  pub search_here : offers_tail earlier literal x ≡ true → here ≡ search_from ts text n
+  search_here e = sym (search_step ∙ ap (λ (b : Bool). cond b here next) e)
 
-  pub search-next : offersTail earlier literal x ≡ false → next ≡ searchFrom ts text n
-  search-next e = sym (search-step ∙ ap (λ (b : Bool). cond b here next) e)
+  pub search_next : offers_tail earlier literal x ≡ false → next ≡ search_from ts text n
+  search_next e = sym (search_step ∙ ap (λ (b : Bool). cond b here next) e)

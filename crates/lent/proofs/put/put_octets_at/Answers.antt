@@ -1,0 +1,16 @@
+use borrow.Author.Rules.{rules}
+use mathlib.Core.Path.{ap}
+use Prim.Native.Nat.{ℕ, ◌+◌}
+use Rattle.octets.proofs.Laws.Buffer.{lent_back}
+use Rattle.lent.specs.Internal.OverAt.{over_at}
+use Rattle.lent.proofs.put.put_octets_at.Goals as goal
+
+pub returns : goal.returns
+unfolding over_at
+returns c =
+    let a = c.args in
+    let w = c.put_octets in
+    record {
+      value = ap (λ (k : ℕ). a.at + k) w.ensures.value;
+      out_after = lent_back a.s.now w.new.out a.out.now a.at w.ensures.out_after;
+    }

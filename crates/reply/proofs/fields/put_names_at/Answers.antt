@@ -1,0 +1,17 @@
+use mathlib.Core.Path.{ap}
+use Prim.Native.Nat.{ℕ, ◌+◌}
+use Rattle.octets.proofs.Laws.Buffer.{lent_back}
+use Rattle.lent.specs.Internal.OverAt.{over_at}
+use Rattle.names.specs.Internal.Plan.{names_octets}
+use lib.ListN.{take}
+use Rattle.reply.proofs.fields.put_names_at.Goals as goal
+
+pub returns : goal.returns
+unfolding over_at
+returns c =
+    let a = c.args in
+    let w = c.put_names in
+    record {
+      value = ap (λ (k : ℕ). a.at + k) w.ensures.value;
+      out_after = lent_back (names_octets a.table.now a.request.now (take a.count a.plan.«names»)) w.new.out a.out.now a.at w.ensures.out_after;
+    }

@@ -1,0 +1,16 @@
+use mathlib.Core.Path.{ap, ◌∙◌}
+use Prim.Native.Nat.{ℕ, ◌/◌, ◌%◌, ◌^◌}
+use native.Mathlib.Nat.{one-mul}
+use native.Mathlib.Omega.{arith}
+use lib.Bits.{bit_or}
+use lib.ListN.{get_or, set}
+use lib.Pow.{shl_exact}
+use Rattle.table_refer.specs.Internal.Mark.{with_mark}
+use Rattle.table_refer.proofs.mark.mark.Goals as goal
+
+pub returns : goal.returns
+unfolding with_mark
+returns c =
+    let a = c.args in
+    let n = a.number.0 in
+    ap (λ (y : ℕ). set a.marks.now (n / 8) (bit_or (get_or a.marks.now (n / 8) 0) y)) (shl_exact 1 (n % 8) 8 (omega arith) (omega arith) ∙ one-mul (2 ^ (n % 8)))

@@ -1,4 +1,0 @@
-// Texts in UTF-8 and UTF-16, and the names of users and accounts, which are UTF-8.
-pub mod user_name;
-pub mod utf16;
-pub mod utf8;
