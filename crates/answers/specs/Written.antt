@@ -1,18 +1,18 @@
 -- What a call that writes gives: a filter, document 01, or a mailslot message, document 02, #105.
-use Rattle.std.specs.Prelude.{◌≡◌, List, [], ℕ, length}
+use Rattle.std.specs.Prelude.{◌≡◌, List, [], ℕ, length, Ok, Err}
 use Rattle.answers.specs.{declared.written.Written.Written, Refusal.number}
 use Rattle.answers.specs.declared.written.Written.TheVariants as written
-use Rattle.answers.specs.Try.{Try, refused, good, number_of}
+use Rattle.answers.specs.Try.{Try, number_of}
 
 -- the answer of the writer, as the enum that the call returns
 abbrev pub written_as : Try (List ℕ) → Written
-written_as (refused r) = written.Refused r
-written_as (good octets) = written.Length (length octets)
+written_as (Err r) = written.Refused r
+written_as (Ok octets) = written.Length (length octets)
 
 -- the octets that it writes: none where it refuses
 abbrev pub written_octets : Try (List ℕ) → List ℕ
-written_octets (refused r) = []
-written_octets (good octets) = octets
+written_octets (Err r) = []
+written_octets (Ok octets) = octets
 
 -- its number, and the length, 0 with a refusal
 abbrev pub written_number : Written → ℕ

@@ -1,6 +1,5 @@
 // A public call each: its number is returned, the rest stands in the members of a struct, 0 with a refusal.
-ghost use Rattle.std.specs.Prelude.{◌≡◌};
-ghost use Rattle.std.proofs.Math.Option.{get_or};
+ghost use Rattle.std.specs.Prelude.{◌≡◌, unwrap_or};
 ghost use Rattle.filter_read.specs.Taken.{request_in, taken_as, taken_number};
 ghost use Rattle.filter_read.specs.Value.{judged_number, judged_version};
 ghost use Rattle.answers.specs.Written.{written_number, written_length};
@@ -50,7 +49,7 @@ pub fn put_request(filter: &[u8], request: &mut [usize; REQUEST_MEMBERS]) -> u8
 
 pub fn put_version(filter: &[u8], request: &[usize; REQUEST_MEMBERS], version: &mut u32) -> u8
     ensures value { result ≡ judged_number (values_judged filter.now request.now) }
-    ensures version_after { version.new ≡ get_or (judged_version (values_judged filter.now request.now)) 0 }
+    ensures version_after { version.new ≡ unwrap_or (judged_version (values_judged filter.now request.now)) 0 }
 {
     let judged = judge_values(filter, request_of(request));
     *version = judged_version(judged);

@@ -1,7 +1,6 @@
 -- What the exported calls promise, in the definitions that the public calls promise: the number returned, and what is left in every struct and buffer lent. A struct is the
 -- list of its members, and C's client is four octets.
-use Rattle.std.specs.Prelude.{◌≡◌, List, ℕ, length}
-use Rattle.std.proofs.Math.Option.{get_or}
+use Rattle.std.specs.Prelude.{◌≡◌, List, ℕ, length, unwrap_or}
 use Rattle.answers.specs.declared.Form.{Form}
 use Rattle.answers.specs.Try.{Try}
 use Rattle.filter_read.specs.{declared.read.Taken.Taken, Value.Ping, Value.ping_from, Value.judged_number, Value.judged_version}
@@ -51,7 +50,7 @@ ExportedTakeApart filter request r = (r ≡ taken_number (filter_taken filter)) 
 
 abbrev pub ExportedJudgeValues : (filter request : List ℕ) (version r : ℕ) → Type 0
 ExportedJudgeValues filter request version r =
-    (r ≡ judged_number (values_judged filter request)) × (version ≡ get_or (judged_version (values_judged filter request)) 0)
+    (r ≡ judged_number (values_judged filter request)) × (version ≡ unwrap_or (judged_version (values_judged filter request)) 0)
 
 abbrev pub ExportedWriteFilter : (source request before after : List ℕ) (len r : ℕ) → Type 0
 ExportedWriteFilter source request before after len r =

@@ -1,6 +1,5 @@
 // The reply to a ping in the context used. The client's site is looked up once.
-ghost use Rattle.std.specs.Prelude.{◌≡◌, false, not, ◌+◌, ◌≤◌, length};
-ghost use Rattle.std.proofs.Math.Option.{map};
+ghost use Rattle.std.specs.Prelude.{◌≡◌, false, not, ◌+◌, ◌≤◌, length, option_map};
 ghost use Rattle.octets.specs.Lists.{cut, holds};
 ghost use Rattle.unicode_text.specs.UserName.{is_user_name};
 ghost use Rattle.filter_read.specs.Internal.RawPing.{ping_at};
@@ -77,7 +76,7 @@ fn slots_for(
 ) -> [Stretch; SLOTS]
     requires accepted { Accepted image.now × (context + context_format.width ≤ length image.now) × (holds (λ x. not (is_user_name x)) (ping_at source.now ping).user ≡ false) }
     requires lies_in { LiesIn image.now kind.Site client × LiesIn image.now kind.Site next }
-    ensures { LendsEach image.now source.now result (texts (table_from image.now) (ping_at source.now ping) (context_of (cut image.now context context_format.width)) (site_at image.now client) (map (λ s. s.name) (site_at image.now next))) }
+    ensures { LendsEach image.now source.now result (texts (table_from image.now) (ping_at source.now ping) (context_of (cut image.now context context_format.width)) (site_at image.now client) (option_map (λ s. s.name) (site_at image.now next))) }
 {
     let user = ping.user;
     let own = site_by_number(image, server::own_site(server::server_of(image)));

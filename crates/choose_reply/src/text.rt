@@ -1,6 +1,5 @@
 // The texts of a reply, as stretches of the table image or of the ping's source.
-ghost use Rattle.std.specs.Prelude.{◌≡◌, false, not, [], ◌+◌, ◌≤◌, ◌<◌, length};
-ghost use Rattle.std.proofs.Math.Option.{map, get_or};
+ghost use Rattle.std.specs.Prelude.{◌≡◌, false, not, [], ◌+◌, ◌≤◌, ◌<◌, length, option_map, unwrap_or};
 ghost use Rattle.octets.specs.Lists.{cut, holds};
 ghost use Rattle.unicode_text.specs.UserName.{is_user_name};
 ghost use Rattle.filter.specs.Request.{octets_of};
@@ -42,7 +41,7 @@ pub fn text_stretch(image: &[u8], offset: usize, width: usize, field: TextField)
 // The name of a site, if any.
 pub fn site_name(image: &[u8], found: Found) -> Stretch
     requires { LiesIn image.now kind.Site found }
-    ensures { InTable image.now result (get_or (map (λ s. s.name) (site_at image.now found)) []) }
+    ensures { InTable image.now result (unwrap_or (option_map (λ s. s.name) (site_at image.now found)) []) }
 {
     match found {
         Found::At(offset) => text_stretch(image, offset, site::FORMAT.width, site::NAME),
@@ -53,7 +52,7 @@ pub fn site_name(image: &[u8], found: Found) -> Stretch
 // The user asked for, if any.
 pub fn user_text(source: &[u8], clause: Clause) -> Stretch
     requires { holds (λ x. not (is_user_name x)) (octets_of source.now clause) ≡ false }
-    ensures { InRequest source.now result (get_or (octets_of source.now clause) []) }
+    ensures { InRequest source.now result (unwrap_or (octets_of source.now clause) []) }
 {
     let Clause::Present { start, len } = clause else {
         return NO_TEXT;

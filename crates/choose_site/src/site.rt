@@ -1,6 +1,5 @@
 // The client's site and the one next closest to it.
-ghost use Rattle.std.specs.Prelude.{◌≡◌};
-ghost use Rattle.std.proofs.Math.Option.{map};
+ghost use Rattle.std.specs.Prelude.{◌≡◌, option_map};
 ghost use Rattle.octets.specs.Lists.{holds};
 ghost use Rattle.table.specs.declared.record.RecordKind.TheVariants as kind;
 ghost use Rattle.table.specs.Countings.{same_site_lem};
@@ -31,7 +30,7 @@ pub fn is_numbered(image: &[u8], found: Found, number: SiteNumber) -> bool
 // The site next closest to the client's, where it is asked for and the level is there.
 pub fn next_site(image: &[u8], version: u32, client: Found) -> Found
     requires { Accepted image.now }
-    ensures result_value { map (λ s. s.name) (site_at image.now result) ≡ next_site_lem (table_from image.now) version (site_at image.now client) }
+    ensures result_value { option_map (λ s. s.name) (site_at image.now result) ≡ next_site_lem (table_from image.now) version (site_at image.now client) }
     ensures lies_in { LiesIn image.now kind.Site result }
 {
     let roles = server::roles(server::server_of(image));

@@ -4,8 +4,7 @@ use Rattle.filter_read.specs.{Value.judged_number, Value.JudgeValuesPromise, Tak
 use Rattle.filter_read.specs.declared.value.Judged.{Judged}
 use Rattle.table_whole.specs.{Judgement.judgement_number, Judgement.JudgePromise, declared.judge.Judgement.Judgement}
 use Rattle.table_check.specs.{Check.check_of_lem, Check.CheckOfPromise, declared.check.Check.Check}
-use Rattle.std.specs.Prelude.{◌≡◌, true, ◌||◌, List, [], ◌∷◌, ℕ, ◌<◌, eqb}
-use Rattle.std.proofs.Math.Option.{none}
+use Rattle.std.specs.Prelude.{◌≡◌, true, ◌||◌, List, [], ◌∷◌, ℕ, ◌<◌, eqb, None}
 use Rattle.answers.specs.{declared.Form.Form, declared.Refusal.Refusal, declared.written.Written.Written, Refusal.NumberOfPromise, Written.written_number, Written.written_length}
 use Rattle.filter.specs.declared.request.Request.{Request}
 use Rattle.filter_read.specs.declared.read.Taken.TheVariants as taken
@@ -78,16 +77,16 @@ pub record Demand1 : Type 0 where
   pub write_filter : (source : List ℕ) (request : Request) (before after : List ℕ) (w : Written) (r : Refusal) → WriteFilterPromise source request before after w → w ≡ written.Refused r
       → ForWriting (written_number w) × (written_length w ≡ 0) × (after ≡ before)
   pub answer_ping : (image : List ℕ) (caller : Caller) (filter before after : List ℕ) (a : Answer) (r : Refusal) → AnswerPingPromise image caller filter before after a → a ≡ answer.Refused r
-      → ForPing (answer_number a) × (answer_length a ≡ 0) × (answer_context a ≡ 0) × (answer_form a ≡ none) × (after ≡ before)
+      → ForPing (answer_number a) × (answer_length a ≡ 0) × (answer_context a ≡ 0) × (answer_form a ≡ None) × (after ≡ before)
   pub read_reply : (reply : List ℕ) (form : Form) (v : ℕ) (x : Reading) (r : Refusal) → ReadReplyPromise reply form v x → x ≡ reading.Refused r
-      → ForReply (reading_number x) × (reading_length x ≡ 0) × (reading_fields x ≡ none)
+      → ForReply (reading_number x) × (reading_length x ≡ 0) × (reading_fields x ≡ None)
   pub name_text : (reply : List ℕ) (start : ℕ) (t : NameText) (r : Refusal) → NameTextPromise reply start t → t.len ≡ text.Refused r
       → ForName (text_number t.len) × (text_length t.len ≡ 0) × (text_given t ≡ [])
-  pub read_message : (message : List ℕ) (m : MessageRead) (r : Refusal) → ReadMessagePromise message m → m ≡ message_read.Refused r → ForMessage (message_number m) × (message_given m ≡ none)
+  pub read_message : (message : List ℕ) (m : MessageRead) (r : Refusal) → ReadMessagePromise message m → m ≡ message_read.Refused r → ForMessage (message_number m) × (message_given m ≡ None)
   pub write_message : (source : List ℕ) (message : Message) (before after : List ℕ) (w : Written) (r : Refusal) → WriteMessagePromise source message before after w → w ≡ written.Refused r
       → ForMessageWriting (written_number w) × (written_length w ≡ 0) × (after ≡ before)
   pub answer_mailslot : (image : List ℕ) (caller : Caller) (message before after : List ℕ) (a : Answer) (r : Refusal) → AnswerMailslotPromise image caller message before after a
       → a ≡ answer.Refused r
-      → ForMailslot (answer_number a) × (answer_length a ≡ 0) × (answer_context a ≡ 0) × (answer_form a ≡ none) × (after ≡ before)
+      → ForMailslot (answer_number a) × (answer_length a ≡ 0) × (answer_context a ≡ 0) × (answer_form a ≡ None) × (after ≡ before)
   -- it refuses nothing either, and gives each refusal a number of the documents
   pub number_of : (r : Refusal) (n : ℕ) → NumberOfPromise r n → ForAny n

@@ -1,7 +1,6 @@
 -- Demand 3: of every answer, each name of the reply, walked from where the layout places it, is read back as exactly its labels, with few pointers;
 -- and `read_reply` accepts the reply, and has each name from that octet, with its length, and counts as the walk does. By what the calls ensure, and the definitions.
-use Rattle.std.specs.Prelude.{◌≡◌, List, [], ℕ, ◌<◌, ◌≤◌, min, length, get_or}
-use Rattle.std.proofs.Math.Option.{Option, none, some}
+use Rattle.std.specs.Prelude.{◌≡◌, List, [], ℕ, ◌<◌, ◌≤◌, min, length, get_or, Option, None, Some}
 use Rattle.answers.specs.declared.Form.{Form}
 use Rattle.answers.specs.declared.Form.TheVariants.{Nt40, Response, Ex}
 use Rattle.names.specs.{Walk.WalkedName, Walk.walk, WalkRelation.Walks}
@@ -25,14 +24,14 @@ names_of Ex r = ex_names r
 
 -- name 8, of the EX form alone, where it is written
 abbrev pub last_of : Form → Reply → Option (List ℕ)
-last_of Nt40 r = none
-last_of Response r = none
+last_of Nt40 r = None
+last_of Response r = None
 last_of Ex r = r.next_site_lem
 
 -- one name, at place k, with its first octet at `start` and its own octets `text`: the walk from there
 pub record NameWalked (s : List ℕ) (start k : ℕ) (text : List ℕ) : Type 0 where
   pub name : WalkedName
-  pub found : walk s start ≡ some name
+  pub found : walk s start ≡ Some name
   pub reads : name.labels ≡ label.labels text
   pub joins : label.joined name.labels ≡ text
   pub few : name.pointers ≤ min k (length (label.labels text))
@@ -47,10 +46,10 @@ pub record NameReported (s : List ℕ) (start k : ℕ) (text : List ℕ) (given 
 
 -- this holds of a name and of what is given for it, which is there exactly where the name is written
 abbrev pub WhereWritten : {A : Type 0} → (List ℕ → A → Type 0) → Option (List ℕ) → Option A → Type 0
-WhereWritten P none none = Unit {0}
-WhereWritten P none (some n) = ⊥
-WhereWritten P (some text) none = ⊥
-WhereWritten P (some text) (some n) = P text n
+WhereWritten P None None = Unit {0}
+WhereWritten P None (Some n) = ⊥
+WhereWritten P (Some text) None = ⊥
+WhereWritten P (Some text) (Some n) = P text n
 
 -- a reading of a reply r in its form, whose octets are s: it accepts the reply with its length, and every name is walked
 pub record ReadingWalked (form : Form) (v : ℕ) (r : Reply) (s : List ℕ) (len : ℕ) (given : Reading) : Type 0 where
@@ -75,7 +74,7 @@ Demand3Calls = EveryReply ReadsWalked
 -- reading is the walk's from its first offset: the length of its labels joined by dots, its count, and the octets that `name_text` gives from there.
 pub record NameIsWalk (s : List ℕ) (n : NameAt) : Type 0 where
   pub name : WalkedName
-  pub found : walk s n.start ≡ some name
+  pub found : walk s n.start ≡ Some name
   pub sized : n.len ≡ length (label.joined name.labels)
   pub counted : n.pointers ≡ name.pointers
   pub told : (t : NameText) → NameTextPromise s n.start t → (t.len ≡ Octets n.len) × (text_given t ≡ label.joined name.labels)
@@ -84,7 +83,7 @@ abbrev pub ReadingWalks : Type 0
 ReadingWalks =
     (s : List ℕ) (form : Form) (v len : ℕ) (read : Fields)
     → ReadReplyPromise s form v (reading.Read len read)
-    → ((k : ℕ) → k < length (names_read read) → NameIsWalk s (get_or (names_read read) k (name_as no_name))) × ((n : NameAt) → last_read read ≡ some n → NameIsWalk s n)
+    → ((k : ℕ) → k < length (names_read read) → NameIsWalk s (get_or (names_read read) k (name_as no_name))) × ((n : NameAt) → last_read read ≡ Some n → NameIsWalk s n)
 
 -- and the other half: every name of the walk that keeps to the reader's two limits `name_text` gives
 abbrev pub WalkTold : Type 0

@@ -1,6 +1,5 @@
 -- Document 01, "The filter": the eight clause names, and a request's clause for each.
-use Rattle.std.specs.Prelude.{Bool, true, false, List, [], ◌∷◌, ℕ}
-use Rattle.std.proofs.Math.Option.{Option, none, some}
+use Rattle.std.specs.Prelude.{Bool, true, false, List, [], ◌∷◌, ℕ, Option, None, Some}
 use Rattle.octets.specs.Lists.{cut}
 use Rattle.filter.specs.{declared.request.Clause.Clause, declared.request.ClauseName.ClauseName, declared.request.Request.Request}
 use Rattle.filter.specs.declared.request.Clause.TheVariants.{Absent, Present}
@@ -51,5 +50,5 @@ is_present (Present start len) = true
 
 -- the octets of a clause: those of its stretch that lie in the source
 abbrev pub octets_of : List ℕ → Clause → Option (List ℕ)
-octets_of s Absent = none
-octets_of s (Present start len) = some (cut s start len)
+octets_of s Absent = None
+octets_of s (Present start len) = Some (cut s start len)

@@ -1,6 +1,5 @@
 // Writes the parts of a filter into a buffer that has the room.
-ghost use Rattle.std.specs.Prelude.{◌≡◌, ◌∷◌, ◌+◌, ◌≤◌, ◌<◌, length};
-ghost use Rattle.std.proofs.Math.Option.{some};
+ghost use Rattle.std.specs.Prelude.{◌≡◌, ◌∷◌, ◌+◌, ◌≤◌, ◌<◌, length, Some};
 ghost use Rattle.octets.specs.Buffer.{over};
 ghost use Rattle.filter_position.specs.Filter.{filter_limit, string_tag};
 ghost use Rattle.filter.specs.Request.{clause_names, spelling, octets_of};
@@ -62,7 +61,7 @@ fn put_pair(out: &mut [u8], name: ClauseName, value: &[u8], size: usize) -> usiz
     requires size_value { size ≡ element_size (length (spelling name)) + element_size (length value.now) }
     requires size_in_bounds { (element_size size ≤ length out.old) × (element_size size ≤ filter_limit) }
     ensures value { result ≡ element_size size }
-    ensures out_after { out.new ≡ over (equality_for name (some value.now)) out.old }
+    ensures out_after { out.new ≡ over (equality_for name (Some value.now)) out.old }
 {
     let name_at = put_head(out, EQUALITY_TAG, size);
     let value_at = name_at + put_name(&mut out[name_at..], name);

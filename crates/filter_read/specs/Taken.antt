@@ -1,9 +1,8 @@
 -- Document 01, "The filter" and "Answer numbers": taking a filter apart, with 5 to 8, each judged over the whole filter.
-use Rattle.std.specs.Prelude.{◌≡◌, Bool, not, List, ℕ, ltb, length}
-use Rattle.std.proofs.Math.Option.{Option, none, some}
+use Rattle.std.specs.Prelude.{◌≡◌, Bool, not, List, ℕ, ltb, length, Ok, Err, Option, None, Some}
 use Rattle.answers.specs.declared.Refusal.TheVariants.{FilterLength, FilterShape, UnknownClause, DuplicateClause}
 use Rattle.answers.specs.Refusal.{number}
-use Rattle.answers.specs.Try.{Try, refused, good, refused_if, number_of, value_of}
+use Rattle.answers.specs.Try.{Try, refused_if, number_of, value_of}
 use Rattle.octets.specs.Lists.{any, first, unique, cut}
 use Rattle.octets.specs.Text.{same_folded}
 use Rattle.filter_position.specs.{declared.position.RawClause.RawClause, Filter.filter_limit, Filter.clauses_of}
@@ -38,16 +37,16 @@ unfoldable pub request_of : List ℕ → List RawClause → Request
 request_of s fs = request_by (λ name. as_clause (first (is_named s name) fs))
 
 abbrev pub judged_clauses : List ℕ → Option (List RawClause) → Try Request
-judged_clauses s none = refused FilterShape
-judged_clauses s (some fs) = refused_if (has_unknown s fs) UnknownClause (refused_if (has_duplicate s fs) DuplicateClause (good (request_of s fs)))
+judged_clauses s None = Err FilterShape
+judged_clauses s (Some fs) = refused_if (has_unknown s fs) UnknownClause (refused_if (has_duplicate s fs) DuplicateClause (Ok (request_of s fs)))
 
 unfoldable pub request_in : List ℕ → Try Request
 request_in s = refused_if (ltb filter_limit (length s)) FilterLength (judged_clauses s (clauses_of s))
 
 -- the answer of taking a filter apart, as the enum that the call returns
 abbrev pub taken_as : Try Request → Taken
-taken_as (refused r) = taken.Refused r
-taken_as (good q) = taken.Request q
+taken_as (Err r) = taken.Refused r
+taken_as (Ok q) = taken.Request q
 
 -- document 01's number of it, and the request, none with a refusal
 abbrev pub taken_number : Taken → ℕ
@@ -55,8 +54,8 @@ taken_number (taken.Request q) = 0
 taken_number (taken.Refused r) = number r
 
 abbrev pub taken_request : Taken → Option Request
-taken_request (taken.Request q) = some q
-taken_request (taken.Refused r) = none
+taken_request (taken.Request q) = Some q
+taken_request (taken.Refused r) = None
 
 -- what `take_apart` promises
 pub record TakeApartPromise (filter : List ℕ) (r : Taken) : Type 0 where

@@ -1,6 +1,5 @@
 // The ping of a filter, as it stands in the octets it came in.
-ghost use Rattle.std.specs.Prelude.{◌≡◌, false};
-ghost use Rattle.std.proofs.Math.Option.{map, get_or};
+ghost use Rattle.std.specs.Prelude.{◌≡◌, false, option_map, unwrap_or};
 ghost use Rattle.octets.specs.Number.{little};
 ghost use Rattle.filter.specs.Request.{octets_of};
 ghost use Rattle.filter_gather.specs.Internal.Seen.{decoded};
@@ -39,7 +38,7 @@ pub enum PingRead {
 // The number of a clause, once 9 was judged.
 fn number_in(s: &[u8], clause: Clause, absent: u32) -> u32
     requires { wrong_number s.now clause ≡ false }
-    ensures { result ≡ get_or (map little (octets_of s.now clause)) absent }
+    ensures { result ≡ unwrap_or (option_map little (octets_of s.now clause)) absent }
 {
     let Clause::Present { start, len } = clause else {
         return absent;

@@ -1,6 +1,5 @@
 // The values of a request's clauses, judged.
-ghost use Rattle.std.specs.Prelude.{◌≡◌, true};
-ghost use Rattle.std.proofs.Math.Option.{get_or};
+ghost use Rattle.std.specs.Prelude.{◌≡◌, true, unwrap_or};
 ghost use Rattle.octets.specs.Lists.{cut};
 ghost use Rattle.octets.specs.Number.{little};
 ghost use Rattle.filter_read.specs.Value.{is_number, judged_number, judged_version, JudgeValuesPromise};
@@ -31,7 +30,7 @@ pub fn judged_number(judged: Judged) -> u8
 
 // The version asked, 0 with a refusal.
 pub fn judged_version(judged: Judged) -> u32
-    ensures { result ≡ get_or (judged_version judged) 0 }
+    ensures { result ≡ unwrap_or (judged_version judged) 0 }
 {
     match judged {
         Judged::Version(version) => version,

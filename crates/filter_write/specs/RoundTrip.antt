@@ -1,6 +1,5 @@
 -- Document 01, "The filter": "Taking apart what it wrote gives the same clauses." The statements.
-use Rattle.std.specs.Prelude.{◌≡◌, List, ℕ, take}
-use Rattle.answers.specs.Try.{good}
+use Rattle.std.specs.Prelude.{◌≡◌, List, ℕ, take, Ok}
 use Rattle.filter.specs.{declared.request.ClauseName.ClauseName, declared.request.Request.Request, Request.clause, Request.octets_of}
 use Rattle.filter_read.specs.{declared.read.Taken.Taken, Taken.request_in, Taken.TakeApartPromise}
 use Rattle.filter_read.specs.declared.read.Taken.TheVariants as taken
@@ -15,8 +14,8 @@ SameClauses s q source r = (name : ClauseName) → octets_of s (clause q name) �
 -- of the definitions: for all clauses and rooms where the writer refuses nothing, its octets are taken apart to the same clauses
 abbrev pub RoundTrip : Type 0
 RoundTrip =
-    (source : List ℕ) (r : Request) (room : ℕ) (octets : List ℕ) → filter_for source r room ≡ good octets
-    → (q : Request) × (request_in octets ≡ good q) × SameClauses octets q source r
+    (source : List ℕ) (r : Request) (room : ℕ) (octets : List ℕ) → filter_for source r room ≡ Ok octets
+    → (q : Request) × (request_in octets ≡ Ok q) × SameClauses octets q source r
 
 -- of the two calls, by what their contracts ensure: where `write_filter` answers with a length, `take_apart` of that many octets of the buffer answers with the same clauses
 abbrev pub CallsRoundTrip : Type 0

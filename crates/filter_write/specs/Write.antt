@@ -1,8 +1,8 @@
 -- Document 01, "The filter": the writer, with 6, 5 and 19.
 use Rattle.octets.specs.{Buffer.over, Lists.any}
-use Rattle.std.specs.Prelude.{◌≡◌, not, List, ℕ, ltb, length}
+use Rattle.std.specs.Prelude.{◌≡◌, not, List, ℕ, ltb, length, Ok}
 use Rattle.answers.specs.declared.Refusal.TheVariants.{FilterShape, FilterLength, NoRoom}
-use Rattle.answers.specs.Try.{Try, good, refused_if}
+use Rattle.answers.specs.Try.{Try, refused_if}
 use Rattle.answers.specs.{declared.written.Written.Written, Written.written_octets, Written.WrittenOf}
 use Rattle.filter.specs.declared.request.Request.{Request}
 use Rattle.filter_position.specs.Filter.{filter_limit}
@@ -14,7 +14,7 @@ filter_for source r room =
     let octets = filter_octets source r in
     refused_if (not (any (λ name. is_present (clause r name)) clause_names)) FilterShape
     (refused_if (ltb filter_limit (length octets)) FilterLength
-    (refused_if (ltb room (length octets)) NoRoom (good octets)))
+    (refused_if (ltb room (length octets)) NoRoom (Ok octets)))
 
 -- what `write_filter` promises to return, and to leave in the buffer
 abbrev pub WriteFilterReturns : List ℕ → Request → List ℕ → Written → Type 0

@@ -1,12 +1,11 @@
 -- Document 01, "Answer numbers": the answer in three layers, and the whole as one function of table image, caller, what was received and room. The first layer,
 -- the table of an image (1 to 4), is `table_in`; the second, the way in, makes a ping of what was received: of a filter (5 to 9) it is `ping_from`.
 use Rattle.octets.specs.{Buffer.over, Label.labels, Lists.any, Lists.holds}
-use Rattle.std.specs.Prelude.{◌≡◌, Bool, true, false, ◌&&◌, List, [], ℕ, eqb, ltb, length}
-use Rattle.std.proofs.Math.Option.{Option, none, some, map, get_or}
+use Rattle.std.specs.Prelude.{◌≡◌, Bool, true, false, ◌&&◌, List, [], ℕ, eqb, ltb, length, Ok, Err, Option, None, Some, option_map, unwrap_or}
 use Rattle.answers.specs.{declared.Form.Form, Refusal.number}
 use Rattle.answers.specs.declared.Form.TheVariants.{Nt40, Response, Ex}
 use Rattle.answers.specs.declared.Refusal.TheVariants.{UserLabelEmpty, NoRoom}
-use Rattle.answers.specs.Try.{Try, refused, good, refused_if, ◌>>=◌, number_of, value_of}
+use Rattle.answers.specs.Try.{Try, refused_if, ◌>>=◌, number_of, value_of}
 use Rattle.filter_read.specs.Value.{Ping, ping_from}
 use Rattle.reply.specs.Reply.{octets_in}
 use Rattle.table.specs.{declared.Caller.Caller, declared.ContextNumber.ContextNumber, Context.Context, Table.Table}
@@ -35,7 +34,7 @@ reply_to t caller p room c =
     let form = form_of t.server p.version in
     let octets = octets_in form (reply_for t caller p c form) in
     refused_if (wrong_user form p) UserLabelEmpty
-    (refused_if (ltb room (length octets)) NoRoom (good (record { context = c.number; form = form; octets = octets })))
+    (refused_if (ltb room (length octets)) NoRoom (Ok (record { context = c.number; form = form; octets = octets })))
 
 -- 11 to 19: the answer to a ping over a table, however either was come by
 unfoldable pub answer_over : Table → Caller → Ping → ℕ → Try Outcome
@@ -56,13 +55,13 @@ answer_to = answer_by ping_from
 
 -- the answer as the enum that the call returns
 abbrev pub answer_as : Try Outcome → Answer
-answer_as (refused r) = answer.Refused r
-answer_as (good a) = answer.Answered (length a.octets) a.context a.form
+answer_as (Err r) = answer.Refused r
+answer_as (Ok a) = answer.Answered (length a.octets) a.context a.form
 
 -- the octets that it writes: none where it refuses
 abbrev pub octets_written : Try Outcome → List ℕ
-octets_written (refused r) = []
-octets_written (good a) = a.octets
+octets_written (Err r) = []
+octets_written (Ok a) = a.octets
 
 -- document 01's values of an answer: its number; with a refusal length 0, context 0 and no form
 abbrev pub answer_number : Answer → ℕ
@@ -78,16 +77,16 @@ answer_context (answer.Answered len context form) = context.0
 answer_context (answer.Refused r) = 0
 
 abbrev pub answer_form : Answer → Option Form
-answer_form (answer.Answered len context form) = some form
-answer_form (answer.Refused r) = none
+answer_form (answer.Answered len context form) = Some form
+answer_form (answer.Refused r) = None
 
 -- an answer with the number and the values of an outcome
 pub record AnswerOf (o : Try Outcome) (r : Answer) : Type 0 where
   pub same : r ≡ answer_as o
   pub numbered : answer_number r ≡ number_of o
   pub sized : answer_length r ≡ length (octets_written o)
-  pub used : answer_context r ≡ get_or (map (λ a. a.context.0) (value_of o)) 0
-  pub formed : answer_form r ≡ map (λ a. a.form) (value_of o)
+  pub used : answer_context r ≡ unwrap_or (option_map (λ a. a.context.0) (value_of o)) 0
+  pub formed : answer_form r ≡ option_map (λ a. a.form) (value_of o)
 
 -- what a call that answers promises, by its way in, to return and to leave in the buffer
 abbrev pub AnswerReturns : (List ℕ → Try Ping) → List ℕ → Caller → List ℕ → List ℕ → Answer → Type 0

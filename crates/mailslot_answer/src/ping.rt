@@ -1,6 +1,5 @@
 // The ping that a mailslot message is.
-ghost use Rattle.std.specs.Prelude.{◌≡◌, length};
-ghost use Rattle.answers.specs.Try.{good};
+ghost use Rattle.std.specs.Prelude.{◌≡◌, length, Ok};
 ghost use Rattle.filter_read.specs.Internal.RawPing.{ping_at};
 ghost use Rattle.mailslot.specs.Message.{message_in};
 ghost use Rattle.mailslot_answer.specs.Ping.{message_ping};
@@ -28,7 +27,7 @@ fn clause_at(start: usize, len: usize) -> Clause
 
 // Puts the user as UTF-8 and the SID into the source, of which the clauses are stretches: so the answer has no third lender.
 pub fn put_ping(source: &mut [u8], message: &[u8], read: Message) -> RawPing
-    requires { (message_in message.now ≡ good read) × (length source.old ≡ source_size) }
+    requires { (message_in message.now ≡ Ok read) × (length source.old ≡ source_size) }
     ensures { ping_at source.new result ≡ message_ping message.now read }
 {
     let user = read.user;

@@ -1,8 +1,7 @@
 -- Document 02, #105: a reader and a writer, "reading back what was written". The statements.
-use Rattle.std.specs.Prelude.{◌≡◌, List, ℕ, take}
+use Rattle.std.specs.Prelude.{◌≡◌, List, ℕ, take, Ok}
 use Rattle.answers.specs.declared.written.Written.{Written}
 use Rattle.answers.specs.declared.written.Written.TheVariants as written
-use Rattle.answers.specs.Try.{good}
 use Rattle.mailslot.specs.{declared.message.Message.Message, declared.message.MessageRead.MessageRead, Message.message_in, Message.message_for, Read.ReadMessagePromise}
 use Rattle.mailslot.specs.declared.message.MessageRead.TheVariants as read
 use Rattle.mailslot_write.specs.Write.{WriteMessageReturns, WriteMessageLeaves}
@@ -21,8 +20,8 @@ pub record SameMessage (s : List ℕ) (q : Message) (source : List ℕ) (m : Mes
 -- of the definitions: for all messages and rooms where the writer refuses nothing, its octets read back to the same message
 abbrev pub RoundTrip : Type 0
 RoundTrip =
-    (source : List ℕ) (m : Message) (room : ℕ) (octets : List ℕ) → message_for source m room ≡ good octets
-    → (q : Message) × (message_in octets ≡ good q) × SameMessage octets q source m
+    (source : List ℕ) (m : Message) (room : ℕ) (octets : List ℕ) → message_for source m room ≡ Ok octets
+    → (q : Message) × (message_in octets ≡ Ok q) × SameMessage octets q source m
 
 -- of the two calls, by what their contracts ensure: where `write_message` answers with a length, `read_message` of that many octets of the buffer gives the same message
 abbrev pub CallsRoundTrip : Type 0

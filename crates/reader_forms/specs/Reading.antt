@@ -1,9 +1,7 @@
 -- Document 01, "Reading a reply": what the reader gives, as the call returns it. A name is its first offset, the length of its text and its pointer count.
 use Rattle.answers.specs.{declared.Form.Form, Refusal.number}
-use Rattle.std.specs.Prelude.{◌≡◌, List, [], map, ℕ, length, get_or}
-use Rattle.std.proofs.Math.Option
-use Rattle.std.proofs.Math.Option.{Option, none, some}
-use Rattle.answers.specs.Try.{Try, refused, good, number_of, value_of}
+use Rattle.std.specs.Prelude.{◌≡◌, List, [], map, ℕ, length, get_or, Ok, Err, Option, None, Some}
+use Rattle.answers.specs.Try.{Try, number_of, value_of}
 use Rattle.reader.specs.declared.field.Stretch.{Stretch}
 use Rattle.reader.specs.Reader as reader
 use Rattle.reader_names.specs.{declared.NameAt.NameAt, Name.name_as}
@@ -43,12 +41,12 @@ response_as f =
     }
 
 abbrev pub address_as : Option Stretch → Address
-address_as none = address.Absent
-address_as (some t) = address.At t
+address_as None = address.Absent
+address_as (Some t) = address.At t
 
 abbrev pub next_site_as : Option reader.NameRead → NextSite
-next_site_as none = next_site_lem.Absent
-next_site_as (some n) = next_site_lem.Name (name_as n)
+next_site_as None = next_site_lem.Absent
+next_site_as (Some n) = next_site_lem.Name (name_as n)
 
 -- the names at places 0 to 7, and name 8 where it is present
 abbrev pub ex_as : reader.ExFields → ExFields
@@ -77,8 +75,8 @@ fields_as (reader.ex f) = fields.Ex (ex_as f)
 
 -- the reading of a reply's octets, as the enum that the call returns
 abbrev pub reading_as : List ℕ → Try reader.Fields → Reading
-reading_as s (refused r) = reading.Refused r
-reading_as s (good f) = reading.Read (length s) (fields_as f)
+reading_as s (Err r) = reading.Refused r
+reading_as s (Ok f) = reading.Read (length s) (fields_as f)
 
 -- document 01's values of a reading: its number; with a refusal length 0 and no fields
 abbrev pub reading_number : Reading → ℕ
@@ -90,12 +88,12 @@ reading_length (reading.Read len f) = len
 reading_length (reading.Refused r) = 0
 
 abbrev pub reading_fields : Reading → Option Fields
-reading_fields (reading.Read len f) = some f
-reading_fields (reading.Refused r) = none
+reading_fields (reading.Read len f) = Some f
+reading_fields (reading.Refused r) = None
 
 -- what `read_reply` promises
 pub record ReadReplyPromise (reply : List ℕ) (form : Form) (v : ℕ) (r : Reading) : Type 0 where
   pub same : r ≡ reading_as reply (reader.read_in form v reply)
   pub numbered : reading_number r ≡ number_of (reader.read_in form v reply)
   pub sized : reading_length r ≡ reader.read_length (reader.read_in form v reply) reply
-  pub given : reading_fields r ≡ Option.map fields_as (value_of (reader.read_in form v reply))
+  pub given : reading_fields r ≡ option_map fields_as (value_of (reader.read_in form v reply))

@@ -1,10 +1,8 @@
 -- The two calls of the reader together give what document 01 says that reading gives: the reading has everything but the texts of names, and the second
 -- call gives those, from a name's first offset.
-use Rattle.std.specs.Prelude.{◌≡◌, List, [], ◌∷◌, map, ℕ, ◌<◌, length}
-use Rattle.std.proofs.Math.Option
-use Rattle.std.proofs.Math.Option.{Option, none, some}
+use Rattle.std.specs.Prelude.{◌≡◌, List, [], ◌∷◌, map, ℕ, ◌<◌, length, Ok, Err, Option, None, Some}
 use Rattle.answers.specs.declared.Form.{Form}
-use Rattle.answers.specs.Try.{Try, refused, good}
+use Rattle.answers.specs.Try.{Try}
 use Rattle.reader.specs.{declared.field.Stretch.Stretch, Reader.read_in, Reader.read_length}
 use Rattle.reader.specs.Reader as reader
 use Rattle.reader_names.specs.declared.NameAt.{NameAt}
@@ -26,12 +24,12 @@ names_read (fields.Ex f) =
 
 -- and name 8
 abbrev pub site_read : NextSite → Option NameAt
-site_read next_site_lem.Absent = none
-site_read (next_site_lem.Name n) = some n
+site_read next_site_lem.Absent = None
+site_read (next_site_lem.Name n) = Some n
 
 abbrev pub last_read : Fields → Option NameAt
-last_read (fields.Nt40 f) = none
-last_read (fields.Response f) = none
+last_read (fields.Nt40 f) = None
+last_read (fields.Response f) = None
 last_read (fields.Ex f) = site_read f.next_site
 
 -- a name with its text, by what the second call gives at each offset
@@ -56,8 +54,8 @@ response_from text f =
     }
 
 abbrev pub address_from : Address → Option Stretch
-address_from address.Absent = none
-address_from (address.At t) = some t
+address_from address.Absent = None
+address_from (address.At t) = Some t
 
 abbrev pub ex_from : (ℕ → List ℕ) → ExFields → reader.ExFields
 ex_from text f =
@@ -67,7 +65,7 @@ ex_from text f =
       guid = f.guid;
       names = map (name_from text) (names_read (fields.Ex f));
       ipv4 = address_from f.ipv4;
-      next_site_lem = Option.map (name_from text) (last_read (fields.Ex f));
+      next_site_lem = option_map (name_from text) (last_read (fields.Ex f));
       version = f.version;
     }
 
@@ -77,8 +75,8 @@ fields_from text (fields.Response f) = reader.response (response_from text f)
 fields_from text (fields.Ex f) = reader.ex (ex_from text f)
 
 abbrev pub read_from : (ℕ → List ℕ) → Reading → Try reader.Fields
-read_from text (reading.Read len f) = good (fields_from text f)
-read_from text (reading.Refused r) = refused r
+read_from text (reading.Read len f) = Ok (fields_from text f)
+read_from text (reading.Refused r) = Err r
 
 -- whatever octets, form and version: from what both calls promise, the second at offsets within the reply, what document 01 says follows
 abbrev pub ReadingSettled : Type 0

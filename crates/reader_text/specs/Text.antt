@@ -1,7 +1,7 @@
 -- Document 01, "Reading a reply": "a name comes as its labels joined by dots". The octets of the name that starts at an offset, as the call returns them.
-use Rattle.std.specs.Prelude.{◌≡◌, List, [], ℕ, length, take, replicate}
+use Rattle.std.specs.Prelude.{◌≡◌, List, [], ℕ, length, take, replicate, Ok, Err}
 use Rattle.answers.specs.Refusal.{number}
-use Rattle.answers.specs.Try.{Try, refused, good, ◌>>=◌, number_of}
+use Rattle.answers.specs.Try.{Try, ◌>>=◌, number_of}
 use Rattle.octets.specs.{Buffer.over, Label.joined}
 use Rattle.reader.specs.Name.{text_most, read_name}
 use Rattle.reader_text.specs.{declared.NameText.NameText, declared.TextLength.TextLength}
@@ -11,15 +11,15 @@ use Rattle.reader_text.specs.declared.TextLength.TheVariants.{Octets, Refused}
 unfoldable pub name_text_lem : List ℕ → ℕ → Try (List ℕ)
 name_text_lem s at = do
   f ← read_name s at
-  good (joined f.value.labels)
+  Ok (joined f.value.labels)
 
 abbrev pub text_length_as : Try (List ℕ) → TextLength
-text_length_as (refused r) = Refused r
-text_length_as (good text) = Octets (length text)
+text_length_as (Err r) = Refused r
+text_length_as (Ok text) = Octets (length text)
 
 abbrev pub text_octets : Try (List ℕ) → List ℕ
-text_octets (refused r) = []
-text_octets (good text) = text
+text_octets (Err r) = []
+text_octets (Ok text) = text
 
 -- as the call returns it: the octets at the front of room for the longest name, zeros after them
 abbrev pub name_text_as : Try (List ℕ) → NameText

@@ -1,6 +1,5 @@
 // The nearest subnet that holds an address: one pass over the subnets, in which a later one takes the place of one with a shorter prefix.
-ghost use Rattle.std.specs.Prelude.{◌≡◌, ◌+◌, ◌≤◌, length};
-ghost use Rattle.std.proofs.Math.Option.{none};
+ghost use Rattle.std.specs.Prelude.{◌≡◌, ◌+◌, ◌≤◌, length, None};
 ghost use Rattle.octets.specs.Lists.{cut};
 ghost use Rattle.table.specs.declared.record.RecordKind.TheVariants as kind;
 ghost use Rattle.table.specs.Block.{blocks_of, body_size};
@@ -58,7 +57,7 @@ fn nearest_in_body(image: &[u8], start: Found, body: usize, address: u32) -> Fou
 // The nearest of an image.
 pub fn nearest_subnet(image: &[u8], address: u32) -> Found
     requires { Accepted image.now }
-    ensures result_value { subnet_at image.now result ≡ nearest_in_lem address none (blocks_of image.now) }
+    ensures result_value { subnet_at image.now result ≡ nearest_in_lem address None (blocks_of image.now) }
     ensures lies_in { LiesIn image.now kind.Subnet result }
 {
     let blocks = image.len() / BLOCK_SIZE;

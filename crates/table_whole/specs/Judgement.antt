@@ -1,8 +1,8 @@
 -- Document 01, "Answer numbers" 1 to 4: an image judged, each number over the whole image once the earlier ones passed.
-use Rattle.std.specs.Prelude.{◌≡◌, Bool, not, ◌&&◌, List, ℕ, ◌%◌, eqb, length}
+use Rattle.std.specs.Prelude.{◌≡◌, Bool, not, ◌&&◌, List, ℕ, ◌%◌, eqb, length, Ok, Err}
 use Rattle.answers.specs.declared.Refusal.TheVariants.{ImageLength, BlockCheck, BlockLayout, TableWhole}
 use Rattle.answers.specs.Refusal.{number}
-use Rattle.answers.specs.Try.{Try, refused, good, refused_if, number_of}
+use Rattle.answers.specs.Try.{Try, refused_if, number_of}
 use Rattle.octets.specs.{Lists.all, Text.within}
 use Rattle.table_whole.specs.{declared.judge.Judgement.Judgement, Whole.good_whole}
 use Rattle.table_whole.specs.declared.judge.Judgement.TheVariants.{Passed, Refused}
@@ -23,16 +23,16 @@ table_in image =
     refused_if (not (good_length image)) ImageLength
     (refused_if (not (all good_check blocks)) BlockCheck
     (refused_if (not (layouts_from server_place blocks)) BlockLayout
-    (refused_if (not (good_whole (table_of blocks))) TableWhole (good (table_of blocks)))))
+    (refused_if (not (good_whole (table_of blocks))) TableWhole (Ok (table_of blocks)))))
 
 -- an image that passes 1 to 4
 abbrev pub Accepted : List ℕ → Type 0
-Accepted image = table_in image ≡ good (table_from image)
+Accepted image = table_in image ≡ Ok (table_from image)
 
 -- the answer of judging an image, as the enum that the call returns
 abbrev pub judged_as : Try Table → Judgement
-judged_as (refused r) = Refused r
-judged_as (good t) = Passed
+judged_as (Err r) = Refused r
+judged_as (Ok t) = Passed
 
 -- document 01's number of a judgement
 abbrev pub judgement_number : Judgement → ℕ

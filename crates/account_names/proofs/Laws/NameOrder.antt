@@ -1,8 +1,8 @@
 -- Laws of the order of account names: which are the same, which come before, how a pair is read from its ranks on, and what of both is alike.
+use Rattle.std.proofs.Common.{Option, None, Some, is_some}
 use mathlib.Core.Path.{◌≡◌, refl, sym, ap, ap₂, ◌∙◌, subst}
 use mathlib.Core.Bool.{Bool, true, false, ◌&&◌, and-false}
 use mathlib.Core.List.{List, [], ◌∷◌}
-use mathlib.Core.Option.{Option, none, some}
 use Prim.Native.Nat.{ℕ, zero, suc, ◌+◌, ◌≤◌, ◌<◌}
 use native.Mathlib.Nat.{not-suc-le-zero, le_of_suc-le-suc}
 use native.Mathlib.Numerals.{add-one}
@@ -11,7 +11,7 @@ use lib.ListN.{length, get_or, drop, drop_of_length-le}
 use lib.Dec.{eqb, leb, ltb}
 use borrow.Author.Tests.{le-leb, lt-leb, leb-true, lt-ltb, ltb-true, ltb-false, eqb-false}
 use Rattle.octets.specs.Fold.{fold_point, fold_points}
-use Rattle.octets.specs.Lists.{is_some, holds}
+use Rattle.octets.specs.Lists.{holds}
 use Rattle.octets.specs.Text.{same, lower}
 use Rattle.octets.proofs.Laws.Lists.{none_not_some, true_not_false}
 use Rattle.octets.proofs.Laws.Text.{same_sym, same_equal}
@@ -51,9 +51,9 @@ module _ (a b : List ℕ) where
     where
       go : (p : Option (List ℕ)) → points a ≡ p → (q : Option (List ℕ)) → points b ≡ q
           → is_equal (compare_names a b) ≡ same_account_name a b
-      go none e q f = rw e (equal_if_not (compare (name_key a) (name_key b)))
-      go (some cs) e none f = rw (e, f) (equal_if_not (compare (name_key a) (name_key b)))
-      go (some cs) e (some ds) f =
+      go None e q f = rw e (equal_if_not (compare (name_key a) (name_key b)))
+      go (Some cs) e None f = rw (e, f) (equal_if_not (compare (name_key a) (name_key b)))
+      go (Some cs) e (Some ds) f =
           rw (e, f, readable-points a cs e, readable-points b ds f) (ap is_equal (equal_if_so (compare (fold_points cs) (fold_points ds))) ∙ compare_equal (fold_points cs) (fold_points ds))
 
   names_less : compare_names a b ≡ Less → compare (name_key a) (name_key b) ≡ Less
@@ -220,16 +220,16 @@ module _ (a b : List ℕ) where
   same-name_sym = go (folded_text a) (folded_text b)
     where
       go : (p q : Option (List ℕ)) → holds (λ s. holds (same s) q) p ≡ holds (λ s. holds (same s) p) q
-      go none none = refl
-      go none (some t) = refl
-      go (some s) none = refl
-      go (some s) (some t) = same_sym s t
+      go None None = refl
+      go None (Some t) = refl
+      go (Some s) None = refl
+      go (Some s) (Some t) = same_sym s t
 
   pub same-name-left : (c : List ℕ) → same_account_name a b ≡ true → same_account_name a c ≡ same_account_name b c
   unfolding same_account_name
   same-name-left c e = go (folded_text a) (folded_text b) e
     where
       go : (p q : Option (List ℕ)) → holds (λ s. holds (same s) q) p ≡ true → holds (λ s. holds (same s) (folded_text c)) p ≡ holds (λ s. holds (same s) (folded_text c)) q
-      go none q f = absurd (true_not_false (sym f))
-      go (some s) none f = absurd (true_not_false (sym f))
-      go (some s) (some t) f = ap (λ (u : List ℕ). holds (same u) (folded_text c)) (same_equal s t f)
+      go None q f = absurd (true_not_false (sym f))
+      go (Some s) None f = absurd (true_not_false (sym f))
+      go (Some s) (Some t) f = ap (λ (u : List ℕ). holds (same u) (folded_text c)) (same_equal s t f)

@@ -1,8 +1,8 @@
 -- Demand 1 of the exported calls follows from that of the public calls: what is returned is done, or a refusal that demand 1 speaks of.
+use Rattle.std.proofs.Common.{Ok, Err, None, unwrap_or}
 use mathlib.Core.Path.{◌≡◌, refl, sym, ap, ◌∙◌, subst}
 use mathlib.Core.Bool.{true}
 use mathlib.Core.List.{List}
-use mathlib.Core.Option.{none, get_or}
 use mathlib.Core.Logic.{◌⊎◌, inl, inr}
 use Prim.Native.Nat.{ℕ}
 use lib.Dec.{ltb}
@@ -11,7 +11,7 @@ use borrow.Author.Tests.{lt-ltb}
 use Rattle.answers.specs.declared.Form.{Form}
 use Rattle.answers.specs.declared.Form.TheVariants.{Nt40, Response, Ex}
 use Rattle.answers.specs.declared.Refusal.{Refusal}
-use Rattle.answers.specs.Try.{Try, refused, good}
+use Rattle.answers.specs.Try.{Try}
 use Rattle.c_answer.specs.Answer.{answer_members}
 use Rattle.c_calls.specs.Calls.{values_judged, filter_written, reply_read, message_read, message_written}
 use Rattle.c_mailslot.specs.Message.{message_of, message_members}
@@ -70,7 +70,7 @@ taken_apart : (filter request : List ℕ) (t : Taken) (r : ℕ) → TakeApartPro
 taken_apart filter request (taken.Request q) r p e f = inl e
 taken_apart filter request (taken.Refused x) r p e f = inr (subst ForFilter (sym e) (demand_1.take_apart filter (taken.Refused x) x p refl), f)
 
-judged_values_lem : (filter members : List ℕ) (j : Judged) (version r : ℕ) → JudgeValuesPromise filter (request_given members) j → r ≡ judged_number j → version ≡ get_or (judged_version j) 0 → DoneOr ForValues r (version ≡ 0)
+judged_values_lem : (filter members : List ℕ) (j : Judged) (version r : ℕ) → JudgeValuesPromise filter (request_given members) j → r ≡ judged_number j → version ≡ unwrap_or (judged_version j) 0 → DoneOr ForValues r (version ≡ 0)
 judged_values_lem filter members (judged.Version v) version r p e f = inl e
 judged_values_lem filter members (judged.Refused x) version r p e f =
     inr (subst ForValues (sym e) (demand_1.judge_values filter (request_given members) (judged.Refused x) x p refl), f)
@@ -88,7 +88,7 @@ written-octets Number Promise before after demand (written.Refused x) len r p e 
 module _ (way : List ℕ → Try Ping) (image client octets before after : List ℕ) where
   answered : (Number : ℕ → Type 0)
       → ((a : Answer) (x : Refusal) → AnswerPromise way image (caller_at client) octets before after a → a ≡ answer.Refused x
-      → Number (answer_number a) × (answer_length a ≡ 0) × (answer_context a ≡ 0) × (answer_form a ≡ none) × (after ≡ before))
+      → Number (answer_number a) × (answer_length a ≡ 0) × (answer_context a ≡ 0) × (answer_form a ≡ None) × (after ≡ before))
       → (members : List ℕ) (r : ℕ) → ExportedAnswer way image client octets before after members r → DoneOr Number r ((members ≡ zeros 3) × (after ≡ before))
   answered Number demand members r p = go (answered_by way image client octets before) kept p.0 p.1
     where
@@ -110,8 +110,8 @@ read reply members form version (reading.Read len fields) r p e f = inl e
 read reply members form version (reading.Refused x) r p e f = inr (subst ForReply (sym e) (demand_1.read_reply reply form version (reading.Refused x) x p refl).0, f)
 
 named : (reply text : List ℕ) (start len r : ℕ) (t : Try (List ℕ)) → name_text_lem reply start ≡ t → ExportedNameText reply start text len r → DoneOr ForName r ((text ≡ zeros 253) × (len ≡ 0))
-named reply text start len r (good octets) q p = inl (p.0 ∙ ap (λ t. text_number (text_length_as t)) q)
-named reply text start len r (refused x) q p =
+named reply text start len r (Ok octets) q p = inl (p.0 ∙ ap (λ t. text_number (text_length_as t)) q)
+named reply text start len r (Err x) q p =
     let d = demand_1.name_text reply start (text_at reply start) x (name-text_promised reply start _ refl) (ap text_length_as q) in
     inr (subst ForName (sym p.0) d.0, (p.1 ∙ ap (λ t. over (text_octets t) (zeros 253)) q ∙ over_none (zeros 253), p.2 ∙ d.1))
 

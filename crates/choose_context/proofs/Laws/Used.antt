@@ -1,17 +1,17 @@
 -- 11 to 17 step by step are the judgement of the definitions.
+use Rattle.std.proofs.Common.{Ok, Option, None, Some, is_some}
 use mathlib.Core.Path.{◌≡◌, refl, sym, ap, subst, ◌∙◌}
 use mathlib.Core.Bool.{Bool, true, false, not}
 use mathlib.Core.List.{List}
-use mathlib.Core.Option.{Option, none, some}
 use Prim.Native.Nat.{ℕ}
 use lib.Dec.{eqb}
 use lib.ListN.{length}
 use Rattle.answers.specs.declared.Refusal.{Refusal}
 use Rattle.answers.specs.declared.Refusal.TheVariants.{GuidLength, GuidNotHeld, DnsNameEmpty, DnsNameNotHeld}
-use Rattle.answers.specs.Try.{Try, good, refused_if, ◌>>=◌}
+use Rattle.answers.specs.Try.{Try, refused_if, ◌>>=◌}
 use Rattle.answers.proofs.Laws.Try.{refused_not_good}
 use Rattle.filter_read.specs.Value.{Ping}
-use Rattle.octets.specs.Lists.{is_some, holds}
+use Rattle.octets.specs.Lists.{holds}
 use Rattle.octets.specs.Sid.{guid_size}
 use Rattle.table.specs.Context.{Context}
 use Rattle.table.specs.Table.{Table}
@@ -36,7 +36,7 @@ module _ (image : List ℕ) (r : Refusal) (a : Asked) where
 
 -- a clause judged: its value is wrong, or nothing is found by it, or what was found goes on
 one-clause : (wrong : Bool) (r s : Refusal) (found : Option Context) (rest : Try Context) (after : Option Context → Try Context)
-    → ((c : Context) → found ≡ some c → rest ≡ after (some c)) → refused_if wrong r (refused_if (not (is_some found)) s rest) ≡ (refused_if wrong r (held_if s found) >>= after)
+    → ((c : Context) → found ≡ Some c → rest ≡ after (Some c)) → refused_if wrong r (refused_if (not (is_some found)) s rest) ≡ (refused_if wrong r (held_if s found) >>= after)
 one-clause true r s found rest after h = refl
 one-clause false r s none rest after h = refl
 one-clause false r s (some c) rest after h = h c refl
@@ -54,17 +54,17 @@ judged_in_steps t p = go p.domain_guid_lem p.dns_domain_lem
         (refused_if (holds (λ n. eqb (length n) 0) dns) DnsNameEmpty
         (refused_if (holds (λ n. not (is_some (context_by_dns_name t n))) dns) DnsNameNotHeld (or_whole (context_for t guid dns) >>= sid))))
         ≡ (guid_asked t guid >>= λ g. dns_name_asked t dns >>= λ name. or_whole (preferred t g name) >>= sid)
-    go none none = refl
-    go none (some n) =
-        one-clause (eqb (length n) 0) DnsNameEmpty DnsNameNotHeld (context_by_dns_name t n) (or_whole (context_by_dns_name t n) >>= sid) (λ name. or_whole (preferred t none name) >>= sid)
+    go None None = refl
+    go None (Some n) =
+        one-clause (eqb (length n) 0) DnsNameEmpty DnsNameNotHeld (context_by_dns_name t n) (or_whole (context_by_dns_name t n) >>= sid) (λ name. or_whole (preferred t None name) >>= sid)
         (λ c e. ap (λ o. or_whole o >>= sid) e)
-    go (some g) none =
-        one-clause (not (eqb (length g) guid_size)) GuidLength GuidNotHeld (context_by_guid t g) (or_whole (context_by_guid t g) >>= sid) (λ guid. or_whole (preferred t guid none) >>= sid)
+    go (Some g) None =
+        one-clause (not (eqb (length g) guid_size)) GuidLength GuidNotHeld (context_by_guid t g) (or_whole (context_by_guid t g) >>= sid) (λ guid. or_whole (preferred t guid None) >>= sid)
         (λ c e. ap (λ o. or_whole o >>= sid) e)
-    go (some g) (some n) =
-        one-clause (not (eqb (length g) guid_size)) GuidLength GuidNotHeld (context_by_guid t g) _ (λ guid. dns_name_asked t (some n) >>= λ name. or_whole (preferred t guid name) >>= sid)
+    go (Some g) (Some n) =
+        one-clause (not (eqb (length g) guid_size)) GuidLength GuidNotHeld (context_by_guid t g) _ (λ guid. dns_name_asked t (Some n) >>= λ name. or_whole (preferred t guid name) >>= sid)
         (λ c e.
-        one-clause (eqb (length n) 0) DnsNameEmpty DnsNameNotHeld (context_by_dns_name t n) (or_whole (context_by_guid t g) >>= sid) (λ name. or_whole (some c) >>= sid)
+        one-clause (eqb (length n) 0) DnsNameEmpty DnsNameNotHeld (context_by_dns_name t n) (or_whole (context_by_guid t g) >>= sid) (λ name. or_whole (Some c) >>= sid)
         (λ d q. ap (λ o. or_whole o >>= sid) e))
 
 -- the same once the GUID's answer is known
@@ -72,17 +72,17 @@ pub once-guid : (image : List ℕ) (t : Table) (p : Ping) (a x : Asked) → aske
 once-guid image t p a x e told = ap (λ (y : Try (Option Context)). y >>= after_guid t p) (ap (asked_as image) (sym told) ∙ e) ∙ sym (judged_in_steps t p)
 
 -- the context that DnsDomain asks for tells whether it names an application context
-pub asked_application : (t : Table) (dns : Option (List ℕ)) (o : Option Context) → dns_name_asked t dns ≡ good o
+pub asked_application : (t : Table) (dns : Option (List ℕ)) (o : Option Context) → dns_name_asked t dns ≡ Ok o
     → holds (λ name. holds (λ c. c.application) (context_by_dns_name t name)) dns ≡ holds (λ c. c.application) o
-asked_application t none o e =
-    let f : none ≡ o = cc in
+asked_application t None o e =
+    let f : None ≡ o = cc in
     ap (λ (x : Option Context). holds (λ c. c.application) x) f
-asked_application t (some name) o e = go (eqb (length name) 0) (context_by_dns_name t name) e
+asked_application t (Some name) o e = go (eqb (length name) 0) (context_by_dns_name t name) e
   where
-    go : (wrong : Bool) (found : Option Context) → refused_if wrong DnsNameEmpty (held_if DnsNameNotHeld found) ≡ good o
+    go : (wrong : Bool) (found : Option Context) → refused_if wrong DnsNameEmpty (held_if DnsNameNotHeld found) ≡ Ok o
         → holds (λ c. c.application) found ≡ holds (λ c. c.application) o
     go true found q = absurd (refused_not_good DnsNameEmpty o q)
-    go false none q = absurd (refused_not_good DnsNameNotHeld o q)
-    go false (some c) q =
-        let f : some c ≡ o = cc in
+    go false None q = absurd (refused_not_good DnsNameNotHeld o q)
+    go false (Some c) q =
+        let f : Some c ≡ o = cc in
         ap (λ (x : Option Context). holds (λ d. d.application) x) f

@@ -1,7 +1,7 @@
 -- Laws of texts that stretches lend.
+use Rattle.std.proofs.Common.{option_map}
 use mathlib.Core.Path.{◌≡◌, refl, sym, ap, ◌∙◌}
 use mathlib.Core.List.{List, [], ◌∷◌}
-use mathlib.Core.Option.{map}
 use Prim.Native.Nat.{ℕ, zero, suc, ◌+◌, ◌/◌, ◌≤◌, ◌<◌}
 use native.Mathlib.Omega.{arith}
 use lib.ListN.{length, take, drop, get_or, length-take, length-drop}
@@ -52,7 +52,7 @@ module _ (table request : List ℕ) where
       short (suc k) = ls.short k
 
 -- the next site's name is there where the site is
-pub next_there : (image : List ℕ) (found : Found) → text_if (is_found found) (name_of (site_at image found)) ≡ map (λ s. s.name) (site_at image found)
+pub next_there : (image : List ℕ) (found : Found) → text_if (is_found found) (name_of (site_at image found)) ≡ option_map (λ s. s.name) (site_at image found)
 next_there image (At offset) = refl
 next_there image Nothing = refl
 

@@ -1,7 +1,5 @@
 -- Texts that stretches lend, and the texts of a reply in the order of their slots.
-use Rattle.std.specs.Prelude.{◌≡◌, Bool, true, false, List, [], ◌∷◌, ℕ, ◌≤◌, get_or}
-use Rattle.std.proofs.Math.Option
-use Rattle.std.proofs.Math.Option.{Option, map}
+use Rattle.std.specs.Prelude.{◌≡◌, Bool, true, false, List, [], ◌∷◌, ℕ, ◌≤◌, get_or, Option, option_map}
 use Rattle.filter_read.specs.Value.{Ping}
 use Rattle.lent.specs.declared.stretch.Stretch.{Stretch}
 use Rattle.lent.specs.Internal.Stretch.{octets_at}
@@ -37,7 +35,7 @@ is_found Nothing = false
 
 -- a name that may be absent
 abbrev pub name_of : Option Site → List ℕ
-name_of site = Option.get_or (map (λ s. s.name) site) []
+name_of site = unwrap_or (option_map (λ s. s.name) site) []
 
 abbrev pub texts : Table → Ping → Context → Option Site → Option (List ℕ) → List (List ℕ)
 texts t p c client next =
@@ -46,8 +44,8 @@ texts t p c client next =
     ∷ t.server.host
     ∷ c.netbios
     ∷ t.server.netbios
-    ∷ Option.get_or p.user []
+    ∷ unwrap_or p.user []
     ∷ name_of (site_by_number t t.server.site)
     ∷ name_of client
-    ∷ Option.get_or next []
+    ∷ unwrap_or next []
     ∷ []

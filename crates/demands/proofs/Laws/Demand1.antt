@@ -1,8 +1,8 @@
 -- Demand 1 is proved: each definition names the reasons for which it refuses, and what follows it names its own.
+use Rattle.std.proofs.Common.{Ok, Err, Option, None, Some}
 use mathlib.Core.Path.{◌≡◌, refl, sym, ap, ◌∙◌, subst}
 use mathlib.Core.Bool.{not}
 use mathlib.Core.List.{List, [], ◌∷◌}
-use mathlib.Core.Option.{Option, none, some}
 use Prim.Native.Nat.{ℕ, ◌<◌}
 use native.Mathlib.Omega.{arith}
 use lib.ListN.{length, take}
@@ -13,7 +13,7 @@ use Rattle.answers.specs.declared.Refusal.TheVariants.{GuidLength, GuidNotHeld, 
 use Rattle.answers.specs.declared.Refusal.TheVariants.{SidShape, SidNotHeld, SidOfAnother, UserLabelEmpty, NoRoom}
 use Rattle.answers.specs.declared.Refusal.TheVariants.{ReplyCut, ReplyOpcode, ReplyText, ReplyFixed, ReplyLeftOver, MailslotShape}
 use Rattle.answers.specs.Refusal.{number}
-use Rattle.answers.specs.Try.{Try, refused, good, ◌>>=◌}
+use Rattle.answers.specs.Try.{Try, ◌>>=◌}
 use Rattle.choose.specs.Judge.{context_used, or_whole, context_in}
 use Rattle.filter_position.specs.declared.position.RawClause.{RawClause}
 use Rattle.filter.specs.declared.request.Request.{Request}
@@ -77,8 +77,8 @@ module _ (P : Refusal → Type 0) where
   request-only a b c d s = search (only_if P, clauses (clauses_of s))
     where
       clauses : (o : Option (List RawClause)) → Only P Any (judged_clauses s o)
-      clauses none = b
-      clauses (some fs) = search (only_if P)
+      clauses None = b
+      clauses (Some fs) = search (only_if P)
 
   ping-only : P ClauseValue → (s : List ℕ) (r : Request) → Only P Any (ping_in s r)
   unfolding ping_in
@@ -89,20 +89,20 @@ module _ (P : Refusal → Type 0) where
   filter-only a b c source r room = search (only_if P)
 
   shape_only : {A : Type 0} → P MailslotShape → (t : Try A) → Only P Any (as_shape t)
-  shape_only a (refused r) = a
-  shape_only a (good m) = tt
+  shape_only a (Err r) = a
+  shape_only a (Ok m) = tt
 
   message_only : P MailslotShape → (s : List ℕ) → Only P Any (message_in s)
   unfolding message_in
-  message_only a s = only_then P Any (as_shape (read_fields s)) _ (shape_only a (read_fields s)) (λ m. only_if P Any (not (good_message s m)) MailslotShape (good m) a tt)
+  message_only a s = only_then P Any (as_shape (read_fields s)) _ (shape_only a (read_fields s)) (λ m. only_if P Any (not (good_message s m)) MailslotShape (Ok m) a tt)
 
   message_written-only : P MailslotShape → P NoRoom → (source : List ℕ) (m : Message) (room : ℕ) → Only P Any (message_for source m room)
   unfolding message_for
   message_written-only a b source m room = search (only_if P)
 
   found-only : P TableWhole → (o : Option Context) → Only P Any (or_whole o)
-  found-only e none = e
-  found-only e (some c) = tt
+  found-only e None = e
+  found-only e (Some c) = tt
 
   -- 15 to 17: a message names no context
   message_context-only : P TableWhole → P SidShape → P SidNotHeld → P SidOfAnother → (t : Table) (s : List ℕ) (m : Message) → Only P Any (context_in t (message_ping s m))
@@ -131,9 +131,9 @@ unfolding answer_by mailslot_ping answer_over
 mailslot-only image caller message room =
     only_then (By ForMailslot) Any (table_in image) _ (table-only (By ForMailslot) refl refl refl refl image) (λ t. by (message_in message) t (message_only (By ForMailslot) refl message))
   where
-    by : (o : Try Message) (t : Table) → Only (By ForMailslot) Any o → Only (By ForMailslot) Any (o >>= (λ m. good (message_ping message m)) >>= λ p. context_in t p >>= reply_to t caller p room)
-    by (refused r) t h = h
-    by (good m) t h =
+    by : (o : Try Message) (t : Table) → Only (By ForMailslot) Any o → Only (By ForMailslot) Any (o >>= (λ m. Ok (message_ping message m)) >>= λ p. context_in t p >>= reply_to t caller p room)
+    by (Err r) t h = h
+    by (Ok m) t h =
         let p : Ping = message_ping message m in
         only_then (By ForMailslot) Any (context_in t p) _ (message_context-only (By ForMailslot) refl refl refl refl t message m) (reply_only (By ForMailslot) refl refl t caller p room)
 

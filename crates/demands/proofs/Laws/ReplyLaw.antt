@@ -1,8 +1,8 @@
 -- The reply law is proved: each form's octets stand in the order of the reader's fields.
+use Rattle.std.proofs.Common.{Option, None, Some, option_map}
 use mathlib.Core.Path.{◌≡◌, refl, sym, ap, ◌∙◌}
 use mathlib.Core.Bool.{Bool, true, false}
 use mathlib.Core.List.{List, [], ◌∷◌, ◌++◌, append_assoc}
-use mathlib.Core.Option.{Option, none, some, map}
 use Prim.Native.Nat.{ℕ, ◌+◌}
 use lib.ListN.{length}
 use Rattle.answers.specs.declared.Form.{Form}
@@ -68,21 +68,21 @@ response-back v r k =
 
 -- the address and name 8 are given back where they were written
 address-back : {s : List ℕ} {at : ℕ} (r : Reply) (b : Bool) (rest : List ℕ) → length r.ipv4 ≡ ipv4_size → Left s at (reading.address b r.ipv4 ++ rest)
-    → map (stretch_of s) (address_given b at) ≡ address_written r b
+    → option_map (stretch_of s) (address_given b at) ≡ address_written r b
 address-back {s} {at} r true rest i l =
     let after : List ℕ = r.ipv4 ++ (sin_zero ++ rest) in
     let sized : Left s at ((DcSockAddrSize ∷ []) ++ (little_octets 4 sin_family ++ after)) = simp append_assoc at l in
     let family : Left s (at + 1) (little_octets 4 sin_family ++ after) = left-next (DcSockAddrSize ∷ []) (little_octets 4 sin_family ++ after) 1 refl sized in
-    ap some (stretch_is r.ipv4 (sin_zero ++ rest) ipv4_size i (left-next (little_octets 4 sin_family) after 4 (length-little 4 sin_family) family))
+    ap Some (stretch_is r.ipv4 (sin_zero ++ rest) ipv4_size i (left-next (little_octets 4 sin_family) after 4 (length-little 4 sin_family) family))
 address-back r false rest i l = refl
 
-last-back : (site : Option (List ℕ)) (at count : ℕ) → map text_of (last_given site at count).next_site_lem ≡ site
-last-back none at count = refl
-last-back (some text) at count = refl
+last-back : (site : Option (List ℕ)) (at count : ℕ) → option_map text_of (last_given site at count).next_site_lem ≡ site
+last-back None at count = refl
+last-back (Some text) at count = refl
 
 version-back : (site : Option (List ℕ)) (at count : ℕ) → (last_given site at count).version ≡ version_written site
-version-back none at count = refl
-version-back (some text) at count = refl
+version-back None at count = refl
+version-back (Some text) at count = refl
 
 ex-back : (v : ℕ) (r : Reply) → Sound Ex v r → GivenBack Ex r (ex_octets r) (read_in Ex v (ex_octets r))
 ex-back v r k =

@@ -1,7 +1,7 @@
 -- Laws of the clause names: each has its number, no two are spelled alike, and a request has a clause for each.
+use Rattle.std.proofs.Common.{Some}
 use mathlib.Core.Path.{◌≡◌, refl, sym, ap, fun_ext, ◌∙◌}
 use mathlib.Core.Bool.{Bool, true, false}
-use mathlib.Core.Option.{some}
 use Prim.Native.Nat.{ℕ, ◌<◌}
 use native.Mathlib.Omega.{arith}
 use lib.ListN.{length}
@@ -44,7 +44,7 @@ names-any p n e = by (any p clause_names) refl
         absurd (omega arith)
 
 -- a name is the first, and so the only one, that is spelled like itself
-spelled : (n : ClauseName) → first (is_same_name n) clause_names ≡ some n
+spelled : (n : ClauseName) → first (is_same_name n) clause_names ≡ Some n
 unfolding first same lower
 spelled DnsDomain = refl
 spelled Host = refl
@@ -61,7 +61,7 @@ same_self n = first_holds (is_same_name n) clause_names n (spelled n)
 pub same-name : (m n : ClauseName) → is_same_name m n ≡ true → m ≡ n
 same-name m n e =
     let alike : is_same_name m ≡ is_same_name n = fun_ext (λ k. folded_left (spelling m) (spelling n) (spelling k) e) in
-    let q : some m ≡ some n = sym (spelled m) ∙ ap (λ (p : ClauseName → Bool). first p clause_names) alike ∙ spelled n in
+    let q : Some m ≡ Some n = sym (spelled m) ∙ ap (λ (p : ClauseName → Bool). first p clause_names) alike ∙ spelled n in
     cc
 
 pub clause_by : (f : ClauseName → Clause) (n : ClauseName) → clause (request_by f) n ≡ f n

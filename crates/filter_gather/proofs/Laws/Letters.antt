@@ -1,8 +1,8 @@
 -- Laws of names told by their length, and then letter by letter.
+use Rattle.std.proofs.Common.{Option, None}
 use mathlib.Core.Path.{◌≡◌, refl, sym, ap, ap₂, fun_ext, ◌∙◌}
 use mathlib.Core.Bool.{Bool, true, false, cond, ◌&&◌, and_assoc}
 use mathlib.Core.List.{List, [], ◌∷◌, ◌++◌, map}
-use mathlib.Core.Option.{Option, none}
 use Prim.Native.Nat.{ℕ, ◌+◌, ◌≤◌, ◌<◌}
 use native.Mathlib.Omega.{arith}
 use borrow.Author.Tests.{eqb-false, ne_eqb}
@@ -72,18 +72,18 @@ module _ (s : List ℕ) (at len : ℕ) (h : at + len ≤ length s) where
   spells name = letters_at s at (small_letters name)
 
   -- one name of its length, or two
-  only : (name : ClauseName) → len ≡ length (small_letters name) → name_spelled (cut s at len) ≡ first_or (same_folded (cut s at (length (small_letters name))) (spelling name)) name none → placed ≡ cond (spells name) (place_of name) 8
+  only : (name : ClauseName) → len ≡ length (small_letters name) → name_spelled (cut s at len) ≡ first_or (same_folded (cut s at (length (small_letters name))) (spelling name)) name None → placed ≡ cond (spells name) (place_of name) 8
   only name e q =
-      ap place_as (q ∙ ap (λ (b : Bool). first_or b name none) (letters-cut s (small_letters name) at (omega arith)))
-      ∙ place_first (spells name) name none
+      ap place_as (q ∙ ap (λ (b : Bool). first_or b name None) (letters-cut s (small_letters name) at (omega arith)))
+      ∙ place_first (spells name) name None
 
   either : (m n : ClauseName) → len ≡ length (small_letters m) → len ≡ length (small_letters n)
-      → name_spelled (cut s at len) ≡ first_or (same_folded (cut s at (length (small_letters m))) (spelling m)) m (first_or (same_folded (cut s at (length (small_letters n))) (spelling n)) n none)
+      → name_spelled (cut s at len) ≡ first_or (same_folded (cut s at (length (small_letters m))) (spelling m)) m (first_or (same_folded (cut s at (length (small_letters n))) (spelling n)) n None)
       → placed ≡ cond (spells m) (place_of m) (cond (spells n) (place_of n) 8)
   either m n e l q =
-      ap place_as (q ∙ ap₂ (λ (a b : Bool). first_or a m (first_or b n none)) (letters-cut s (small_letters m) at (omega arith)) (letters-cut s (small_letters n) at (omega arith)))
-      ∙ place_first (spells m) m (first_or (spells n) n none)
-      ∙ ap (cond (spells m) (place_of m)) (place_first (spells n) n none)
+      ap place_as (q ∙ ap₂ (λ (a b : Bool). first_or a m (first_or b n None)) (letters-cut s (small_letters m) at (omega arith)) (letters-cut s (small_letters n) at (omega arith)))
+      ∙ place_first (spells m) m (first_or (spells n) n None)
+      ∙ ap (cond (spells m) (place_of m)) (place_first (spells n) n None)
 
   pub placed_3 : len ≡ 3 → placed ≡ cond (spells Aac) 4 8
   unfolding first

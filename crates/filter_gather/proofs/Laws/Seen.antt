@@ -1,8 +1,8 @@
 -- Laws of what is gathered as ten numbers: a clause packed and unpacked, and one number stored.
+use Rattle.std.proofs.Common.{Option, None, Some}
 use mathlib.Core.Path.{◌≡◌, refl, sym, ap, ap₂, ◌∙◌}
 use mathlib.Core.Bool.{Bool, true, false, cond, not}
 use mathlib.Core.List.{List, [], ◌∷◌}
-use mathlib.Core.Option.{Option, none, some}
 use Prim.Native.Nat.{ℕ, zero, suc, ◌/◌, ◌%◌, ◌<◌, ◌≤◌}
 use native.Mathlib.Omega.{arith}
 use borrow.Author.Tests.{ne_eqb}
@@ -115,13 +115,13 @@ place_below DomainSid = omega arith
 place_below DomainGuid = omega arith
 place_below NtVer = omega arith
 
-pub place_none : (o : Option ClauseName) → 8 ≤ place_as o → o ≡ none
-place_none none h = refl
-place_none (some n) h = absurd (omega (arith, place_below n))
+pub place_none : (o : Option ClauseName) → 8 ≤ place_as o → o ≡ None
+place_none None h = refl
+place_none (Some n) h = absurd (omega (arith, place_below n))
 
-pub place_some : (o : Option ClauseName) → place_as o < 8 → o ≡ some (clause_name_at (place_as o))
-place_some none h = absurd (omega arith)
-place_some (some n) h = ap some (sym (name-at n))
+pub place_some : (o : Option ClauseName) → place_as o < 8 → o ≡ Some (clause_name_at (place_as o))
+place_some None h = absurd (omega arith)
+place_some (Some n) h = ap Some (sym (name-at n))
 
 -- the clause at a place, and one stored there
 module _ (xs : List ℕ) (i : ℕ) (h : i < 8) where

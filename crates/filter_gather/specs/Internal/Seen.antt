@@ -1,7 +1,6 @@
 -- What is gathered, as ten numbers: for each clause name 0 where it is absent, else its start times 65,536 and its length;
 -- then whether one was of another name, and whether one was there before.
-use Rattle.std.specs.Prelude.{Bool, cond, not, List, ℕ, ◌+◌, ◌*◌, ◌/◌, ◌%◌, eqb, get_or}
-use Rattle.std.proofs.Math.Option.{Option, none, some}
+use Rattle.std.specs.Prelude.{Bool, cond, not, List, ℕ, ◌+◌, ◌*◌, ◌/◌, ◌%◌, eqb, get_or, Option, None, Some}
 use Rattle.filter.specs.declared.request.Clause.{Clause}
 use Rattle.filter.specs.declared.request.Clause.TheVariants.{Absent, Present}
 use Rattle.filter.specs.declared.request.ClauseName.{ClauseName}
@@ -33,8 +32,8 @@ place_of DomainGuid = 6
 place_of NtVer = 7
 
 abbrev pub place_as : Option ClauseName → ℕ
-place_as none = 8
-place_as (some name) = place_of name
+place_as None = 8
+place_as (Some name) = place_of name
 
 unfoldable pub decoded : List ℕ → Gathered
 decoded xs =

@@ -1,7 +1,7 @@
 -- Laws of how long the parts of a written filter are.
+use Rattle.std.proofs.Common.{Some}
 use mathlib.Core.Path.{◌≡◌, sym, ap, ◌∙◌}
 use mathlib.Core.List.{List, ◌∷◌, ◌++◌, flat_map, append_assoc, append-nil}
-use mathlib.Core.Option.{some}
 use Prim.Native.Nat.{ℕ, suc, ◌+◌, ◌≤◌, ◌<◌}
 use native.Mathlib.Decide.{dec_lt}
 use native.Mathlib.Numerals.{add-one}
@@ -60,7 +60,7 @@ pub element-length : (tag : ℕ) (xs : List ℕ) → length (element tag xs) ≡
 unfolding element
 element-length tag xs = length-append (tag ∷ length_octets (length xs)) xs ∙ ap (λ (k : ℕ). k + length xs) (head_length tag (length xs))
 
-pub equality-length : (name : ClauseName) (value : List ℕ) → length (equality_for name (some value)) ≡ element_size (element_size (length (spelling name)) + element_size (length value))
+pub equality-length : (name : ClauseName) (value : List ℕ) → length (equality_for name (Some value)) ≡ element_size (element_size (length (spelling name)) + element_size (length value))
 equality-length name value =
     element-length equality_tag (element string_tag (spelling name) ++ element string_tag value)
     ∙ ap element_size (length-append (element string_tag (spelling name)) (element string_tag value) ∙ λ i. element-length string_tag (spelling name) i + element-length string_tag value i)

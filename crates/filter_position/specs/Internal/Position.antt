@@ -1,6 +1,6 @@
 -- What lies at a position, by the definitions of the filter.
-use Rattle.std.specs.Prelude.{◌≡◌, true, false, cond, List, [], ◌∷◌, ℕ, ◌+◌, ◌≤◌, ◌<◌, eqb, ltb, get_or}
-use Rattle.std.proofs.Math.Option.{Option, none, some, map, Option-elim}
+use Rattle.std.specs.Prelude.{◌≡◌, true, false, cond, List, [], ◌∷◌, ℕ, ◌+◌, ◌≤◌, ◌<◌, eqb, ltb, get_or, Option, None, Some, option_map}
+use mathlib.Core.Option.{Option-elim}
 use Rattle.filter_position.specs.declared.position.Equality.{Equality}
 use Rattle.filter_position.specs.declared.position.Equality.TheVariants as equality
 use Rattle.filter_position.specs.declared.position.Filter.{Filter}
@@ -35,8 +35,8 @@ LengthWithin at end (element_length.Of start len) = (at + 2 ≤ start) × (start
 -- an element as the positions of its contents and of what comes after it
 
 abbrev pub tagged_as : ℕ → Option Element → Tagged
-tagged_as end none = tagged.Wrong
-tagged_as end (some e) = tagged.Element e.tag (record { at = e.start; end = e.next }) (record { at = e.next; end = end })
+tagged_as end None = tagged.Wrong
+tagged_as end (Some e) = tagged.Element e.tag (record { at = e.start; end = e.next }) (record { at = e.next; end = end })
 
 abbrev pub TaggedWithin : Position → Tagged → Type 0
 TaggedWithin p tagged.Wrong = Unit {0}
@@ -44,8 +44,8 @@ TaggedWithin p (tagged.Element tag inside rest) = (p.at + 2 ≤ inside.at) × (i
 
 -- a clause, where there is one
 abbrev pub equality_as : Option RawClause → Equality
-equality_as none = equality.Wrong
-equality_as (some f) = equality.Clause f
+equality_as None = equality.Wrong
+equality_as (Some f) = equality.Clause f
 
 -- a clause whose name and value lie in n octets, the value past the first of them
 abbrev pub ClauseInside : ℕ → RawClause → Type 0
@@ -60,13 +60,13 @@ EqualityWithin n (equality.Clause f) = ClauseInside n f
 unfoldable pub filter_in : List ℕ → Element → Option Filter
 filter_in s e =
     elim (eqb e.tag equality_tag) [
-      | true ↦ map filter.Clause (believed.equality s e.start e.next)
-      | false ↦ cond (eqb e.tag and_tag) (some (filter.And (record { at = e.start; end = e.next }))) none
+      | true ↦ option_map filter.Clause (believed.equality s e.start e.next)
+      | false ↦ cond (eqb e.tag and_tag) (Some (filter.And (record { at = e.start; end = e.next }))) None
     ]
 
 abbrev pub read_to : Position → Option Filter → FilterRead
-read_to rest none = read.Wrong
-read_to rest (some f) = read.Good f rest
+read_to rest None = read.Wrong
+read_to rest (Some f) = read.Good f rest
 
 unfoldable pub filter_at : List ℕ → ℕ → ℕ → FilterRead
 filter_at s at end = Option-elim (element_at s at end) read.Wrong (λ e. read_to (record { at = e.next; end = end }) (filter_in s e))
@@ -81,5 +81,5 @@ ReadWithin p (read.Good f rest) = (p.at + 2 ≤ rest.at) × (rest.at ≤ p.end) 
 
 -- the clauses of a filter, where d ANDs may stand one inside the other
 abbrev pub clauses_in : ℕ → List ℕ → Filter → Option (List RawClause)
-clauses_in d s (filter.Clause f) = some (f ∷ [])
+clauses_in d s (filter.Clause f) = Some (f ∷ [])
 clauses_in d s (filter.And p) = and_of d s p.at p.end

@@ -1,14 +1,14 @@
 -- Laws of gathering: what clauses make, one after the other, is what document 01 says of them as a whole.
+use Rattle.std.proofs.Common.{Ok, Option, None, Some, is_some}
 use mathlib.Core.Path.{◌≡◌, refl, sym, ap, fun_ext, ◌∙◌}
 use mathlib.Core.Bool.{Bool, true, false, cond, not, ◌||◌, ◌&&◌, or_assoc, or-true, or-false}
 use mathlib.Core.List.{List, [], ◌∷◌}
-use mathlib.Core.Option.{Option, none, some}
 use Prim.Native.Nat.{ℕ}
 use native.Mathlib.Omega.{arith}
 use borrow.Author.Tests.{not-false}
 use Rattle.answers.specs.declared.Refusal.TheVariants.{UnknownClause, DuplicateClause}
-use Rattle.answers.specs.Try.{Try, good, refused_if}
-use Rattle.octets.specs.Lists.{any, first, first_or, unique, is_some}
+use Rattle.answers.specs.Try.{Try, refused_if}
+use Rattle.octets.specs.Lists.{any, first, first_or, unique}
 use Rattle.octets.proofs.Laws.Lists.{first_any, first_holds, any_ext, any_either, any_never, neither_left, neither_right}
 use Rattle.octets.specs.Text.{same_folded}
 use Rattle.octets.proofs.Laws.Text.{folded_left, folded_sym}
@@ -25,15 +25,15 @@ use Rattle.filter_read.specs.Taken.{name_octets, is_named, has_unknown, has_dupl
 
 -- the answer that gathered clauses make
 abbrev pub answer_of : Gathered → Try Request
-answer_of g = refused_if g.unknown UnknownClause (refused_if g.duplicate DuplicateClause (good g.request))
+answer_of g = refused_if g.unknown UnknownClause (refused_if g.duplicate DuplicateClause (Ok g.request))
 
 -- the name that octets spell is the only one
 module _ (x : List ℕ) where
-  pub named-one : (m n : ClauseName) → name_spelled x ≡ some m → same_folded x (spelling n) ≡ is_same_name m n
+  pub named-one : (m n : ClauseName) → name_spelled x ≡ Some m → same_folded x (spelling n) ≡ is_same_name m n
   unfolding name_spelled
   named-one m n e = folded_left x (spelling m) (spelling n) (first_holds (λ name. same_folded x (spelling name)) clause_names m e)
 
-  pub named_not : (n : ClauseName) → name_spelled x ≡ none → same_folded x (spelling n) ≡ false
+  pub named_not : (n : ClauseName) → name_spelled x ≡ None → same_folded x (spelling n) ≡ false
   unfolding name_spelled
   named_not n e =
       names_none (λ name. same_folded x (spelling name)) n (sym (first_any (λ name. same_folded x (spelling name)) clause_names) ∙ ap is_some e)
@@ -60,8 +60,8 @@ module _ (s : List ℕ) where
       kept n false = sym (or-false g.unknown)
 
       by : (o : Option ClauseName) → (added_as g f o).unknown ≡ (g.unknown || not (is_some o))
-      by none = sym (or-true g.unknown)
-      by (some n) = kept n (is_present (clause g.request n))
+      by None = sym (or-true g.unknown)
+      by (Some n) = kept n (is_present (clause g.request n))
 
   pub all-unknown : (g : Gathered) (fs : List RawClause) → (all_added s g fs).unknown ≡ (g.unknown || has_unknown s fs)
   unfolding all_added has_unknown any
@@ -116,8 +116,8 @@ module _ (s : List ℕ) (n : ClauseName) where
           ∙ fresh m (is_same_name m n) refl i
 
       by : (o : Option ClauseName) → name_spelled (name_octets s f) ≡ o → or_else (clause (added_as g f o).request n) (first_one fs) ≡ or_else (clause g.request n) (rest (same_folded (name_octets s f) (spelling n)))
-      by none e = ap (λ (b : Bool). or_else (clause g.request n) (rest b)) (sym (named_not (name_octets s f) n e))
-      by (some m) e = here m (is_present (clause g.request m)) refl ∙ ap (λ (b : Bool). or_else (clause g.request n) (rest b)) (sym (named-one (name_octets s f) m n e))
+      by None e = ap (λ (b : Bool). or_else (clause g.request n) (rest b)) (sym (named_not (name_octets s f) n e))
+      by (Some m) e = here m (is_present (clause g.request m)) refl ∙ ap (λ (b : Bool). or_else (clause g.request n) (rest b)) (sym (named-one (name_octets s f) m n e))
 
   pub all-request : (g : Gathered) (fs : List RawClause) → clause (all_added s g fs).request n ≡ or_else (clause g.request n) (first_one fs)
   unfolding all_added first
@@ -132,8 +132,8 @@ module _ (s : List ℕ) (n : ClauseName) where
 
 module _ (s : List ℕ) where
   abbrev there_in : Request → Option ClauseName → Bool
-  there_in r none = false
-  there_in r (some n) = is_present (clause r n)
+  there_in r None = false
+  there_in r (Some n) = is_present (clause r n)
 
   abbrev there : Request → RawClause → Bool
   there r f = there_in r (name_spelled (name_octets s f))
@@ -142,7 +142,7 @@ module _ (s : List ℕ) where
   same_name f h = same_folded (name_octets s f) (name_octets s h)
 
   -- after a clause of name m is stored, the names there are those before and m
-  stored_there : (r : Request) (m : ClauseName) (start len : ℕ) (f h : RawClause) → name_spelled (name_octets s f) ≡ some m → there (stored r m (Present start len)) h ≡ (there r h || same_name f h)
+  stored_there : (r : Request) (m : ClauseName) (start len : ℕ) (f h : RawClause) → name_spelled (name_octets s f) ≡ Some m → there (stored r m (Present start len)) h ≡ (there r h || same_name f h)
   unfolding name_spelled
   stored_there r m start len f h e = by (name_spelled (name_octets s h)) refl ∙ ap (λ (b : Bool). there r h || b) (sym like)
     where
@@ -154,8 +154,8 @@ module _ (s : List ℕ) where
       set n false = sym (or-false (is_present (clause r n)))
 
       by : (o : Option ClauseName) → name_spelled (name_octets s h) ≡ o → there_in (stored r m (Present start len)) o ≡ (there_in r o || same_folded (name_octets s h) (spelling m))
-      by none q = sym (named_not (name_octets s h) m q)
-      by (some n) q =
+      by None q = sym (named_not (name_octets s h) m q)
+      by (Some n) q =
           ap is_present (clause_by (λ other. cond (is_same_name m other) (Present start len) (clause r other)) n)
           ∙ set n (is_same_name m n)
           ∙ ap (λ (b : Bool). is_present (clause r n) || b) (folded_sym (spelling m) (spelling n) ∙ sym (named-one (name_octets s h) n m q))
@@ -169,7 +169,7 @@ module _ (s : List ℕ) where
       by false b = refl
 
   -- one clause more, of name m
-  duplicate-one : (g : Gathered) (f : RawClause) (fs : List RawClause) (m : ClauseName) → name_spelled (name_octets s f) ≡ some m → (b : Bool) → is_present (clause g.request m) ≡ b
+  duplicate-one : (g : Gathered) (f : RawClause) (fs : List RawClause) (m : ClauseName) → name_spelled (name_octets s f) ≡ Some m → (b : Bool) → is_present (clause g.request m) ≡ b
       → ((added_to g m f b).duplicate || (any (there (added_to g m f b).request) fs || has_duplicate s fs)) ≡ (g.duplicate || ((b || any (there g.request) fs) || (any (same_name f) fs || has_duplicate s fs)))
   duplicate-one g f fs m q true i = sym (or-true g.duplicate)
   duplicate-one g f fs m q false i =
@@ -189,16 +189,16 @@ module _ (s : List ℕ) where
       by : (o : Option ClauseName) → name_spelled (name_octets s f) ≡ o
           → (all_added s (added s g f) fs).duplicate ≡ ((added s g f).duplicate || (any (there (added s g f).request) fs || has_duplicate s fs))
           → (all_added s (added s g f) fs).duplicate ≡ (g.duplicate || ((there g.request f || any (there g.request) fs) || has_duplicate s (f ∷ fs)))
-      by none q ih = let z : false ≡ true = ap is_some (sym q) ∙ known in let y : ◌≡◌ {A = ℕ} 0 1 = cc in absurd (omega arith)
-      by (some m) q ih =
+      by None q ih = let z : false ≡ true = ap is_some (sym q) ∙ known in let y : ◌≡◌ {A = ℕ} 0 1 = cc in absurd (omega arith)
+      by (Some m) q ih =
           ih
           ∙ ap (λ (o : Option ClauseName). (added_as g f o).duplicate || (any (there (added_as g f o).request) fs || has_duplicate s fs)) q
           ∙ duplicate-one g f fs m q (is_present (clause g.request m)) refl
-          ∙ ap (λ (b : Bool). g.duplicate || ((there_in g.request (some m) || any (there g.request) fs) || b)) (sym (duplicate-more f fs))
+          ∙ ap (λ (b : Bool). g.duplicate || ((there_in g.request (Some m) || any (there g.request) fs) || b)) (sym (duplicate-more f fs))
           ∙ ap (λ (o : Option ClauseName). g.duplicate || ((there_in g.request o || any (there g.request) fs) || has_duplicate s (f ∷ fs))) (sym q)
 
 -- gathered from nothing, clauses make what document 01 says of them
-pub gathers : (s : List ℕ) (fs : List RawClause) → answer_of (all_added s nothing fs) ≡ judged_clauses s (some fs)
+pub gathers : (s : List ℕ) (fs : List RawClause) → answer_of (all_added s nothing fs) ≡ judged_clauses s (Some fs)
 unfolding request_of
 gathers s fs = by_unknown (has_unknown s fs) refl
   where
@@ -206,13 +206,13 @@ gathers s fs = by_unknown (has_unknown s fs) refl
     none_there = any_ext (there s nothing.request) (λ f. false) fs (λ f. absent-all (name_spelled (name_octets s f))) ∙ any_never fs
       where
         absent-all : (o : Option ClauseName) → there_in s nothing.request o ≡ false
-        absent-all none = refl
-        absent-all (some n) = ap is_present (clause_by (λ name. Absent) n)
+        absent-all None = refl
+        absent-all (Some n) = ap is_present (clause_by (λ name. Absent) n)
 
     made : (all_added s nothing fs).request ≡ request_of s fs
     made = ap request_by (fun_ext (λ n. all-request s n nothing fs ∙ ap (λ (c : Clause). or_else c (first_one s n fs)) (clause_by (λ name. Absent) n)))
 
-    by_unknown : (b : Bool) → has_unknown s fs ≡ b → answer_of (all_added s nothing fs) ≡ judged_clauses s (some fs)
+    by_unknown : (b : Bool) → has_unknown s fs ≡ b → answer_of (all_added s nothing fs) ≡ judged_clauses s (Some fs)
     by_unknown true e =
         let h : (all_added s nothing fs).unknown ≡ true = all-unknown s nothing fs ∙ e in
         rw (h, e)
@@ -221,10 +221,10 @@ gathers s fs = by_unknown (has_unknown s fs) refl
         let w : (all_added s nothing fs).duplicate ≡ has_duplicate s fs = all-duplicate s nothing fs e ∙ ap (λ (b : Bool). b || has_duplicate s fs) none_there in
         rw (h, e, w, made)
 
-pub gathered_none : (s : List ℕ) (o : Option (List RawClause)) → gathered_from s nothing o ≡ Wrong → o ≡ none
-gathered_none s none e = refl
-gathered_none s (some fs) e = let z : ◌≡◌ {A = ℕ} 0 1 = cc in absurd (omega arith)
+pub gathered_none : (s : List ℕ) (o : Option (List RawClause)) → gathered_from s nothing o ≡ Wrong → o ≡ None
+gathered_none s None e = refl
+gathered_none s (Some fs) e = let z : ◌≡◌ {A = ℕ} 0 1 = cc in absurd (omega arith)
 
 pub gathered_some : (s : List ℕ) (o : Option (List RawClause)) (g : Gathered) → gathered_from s nothing o ≡ Good g → judged_clauses s o ≡ answer_of g
-gathered_some s none g e = let z : ◌≡◌ {A = ℕ} 0 1 = cc in absurd (omega arith)
-gathered_some s (some fs) g e = let h : all_added s nothing fs ≡ g = cc in sym (gathers s fs) ∙ ap answer_of h
+gathered_some s None g e = let z : ◌≡◌ {A = ℕ} 0 1 = cc in absurd (omega arith)
+gathered_some s (Some fs) g e = let h : all_added s nothing fs ≡ g = cc in sym (gathers s fs) ∙ ap answer_of h

@@ -1,6 +1,6 @@
 -- A ping whose clauses are stretches of a source, and what reading a filter gives.
-use Rattle.std.specs.Prelude.{List, ℕ}
-use Rattle.answers.specs.Try.{Try, refused, good}
+use Rattle.std.specs.Prelude.{List, ℕ, Ok, Err}
+use Rattle.answers.specs.Try.{Try}
 use Rattle.filter.specs.Request.{octets_of}
 use Rattle.filter_read.specs.declared.ping.PingRead.{PingRead}
 use Rattle.filter_read.specs.declared.ping.PingRead.TheVariants as read
@@ -19,5 +19,5 @@ ping_at source p =
     }
 
 abbrev pub tried_ping : List ℕ → PingRead → Try Ping
-tried_ping s (read.Ping p) = good (ping_at s p)
-tried_ping s (read.Refused r) = refused r
+tried_ping s (read.Ping p) = Ok (ping_at s p)
+tried_ping s (read.Refused r) = Err r

@@ -1,17 +1,17 @@
 -- The round trip, proved of the definitions and then of the two calls.
 pub mod Elements
 pub mod Clauses
+use Rattle.std.proofs.Common.{Ok, Err, Option, Some, option_and_then}
 use mathlib.Core.Path.{◌≡◌, refl, sym, ap, subst, ◌∙◌}
 use mathlib.Core.Bool.{Bool, true, false, not, ◌||◌}
 use mathlib.Core.List.{List, [], ◌∷◌, ◌++◌, flat_map, append-nil}
-use mathlib.Core.Option.{Option, some, bind}
 use Prim.Native.Nat.{ℕ, ◌+◌, ◌-◌, ◌≤◌, ◌<◌}
 use native.Mathlib.Omega.{arith}
 use borrow.Author.Tests.{le-ltb, ltb-false, eq-eqb}
 use lib.Dec.{ltb}
 use lib.ListN.{length, take, length-append}
 use Rattle.answers.specs.declared.Refusal.TheVariants.{FilterShape, FilterLength, NoRoom}
-use Rattle.answers.specs.Try.{Try, refused, good, refused_if}
+use Rattle.answers.specs.Try.{Try, refused_if}
 use Rattle.octets.specs.Buffer.{over}
 use Rattle.octets.proofs.Laws.Buffer.{over_front}
 use Rattle.octets.specs.Lists.{any, first, unique, cut}
@@ -83,8 +83,8 @@ module _ (source : List ℕ) (r : Request) where
         (present_length clause_names some-clause)
         (omega arith)
 
-    read : clauses_of s ≡ some again.clauses
-    unfolding clauses_of one and_of start bind
+    read : clauses_of s ≡ Some again.clauses
+    unfolding clauses_of one and_of start option_and_then
     read =
         let z = size in
         let b = head_bounds (length inside) in
@@ -96,7 +96,7 @@ module _ (source : List ℕ) (r : Request) where
     unfolding unique any same lower
     unique-names = refl
 
-    taken_apart : request_in s ≡ good (request_of s again.clauses)
+    taken_apart : request_in s ≡ Ok (request_of s again.clauses)
     unfolding request_in
     taken_apart = rw (request_in, le-ltb filter_limit (length s) short, read, none_unknown s value again.tells, none_duplicate s value again.tells unique-names)
 
@@ -107,7 +107,7 @@ module _ (source : List ℕ) (r : Request) where
         ∙ octets-back s value name again.tells unique-names (names-any (λ n. is_same_name n name) name (same_self name))
 
 -- an answer that refuses nothing: a clause is present, and the octets are those written, 2,048 at most
-answered : (a b c : Bool) (o octets : List ℕ) → refused_if (not a) FilterShape (refused_if b FilterLength (refused_if c NoRoom (good o))) ≡ good octets → (a ≡ true) × (b ≡ false) × (o ≡ octets)
+answered : (a b c : Bool) (o octets : List ℕ) → refused_if (not a) FilterShape (refused_if b FilterLength (refused_if c NoRoom (Ok o))) ≡ Ok octets → (a ≡ true) × (b ≡ false) × (o ≡ octets)
 answered false b c o octets e = let z : ◌≡◌ {A = ℕ} 0 1 = cc in absurd (omega arith)
 answered true true c o octets e = let z : ◌≡◌ {A = ℕ} 0 1 = cc in absurd (omega arith)
 answered true false true o octets e = let z : ◌≡◌ {A = ℕ} 0 1 = cc in absurd (omega arith)
@@ -118,18 +118,18 @@ unfolding filter_for
 round_trip source r room octets e =
     let a = answered (any (λ name. is_present (clause r name)) clause_names) (ltb filter_limit (length (filter_octets source r))) (ltb room (length (filter_octets source r))) (filter_octets source r) octets e in
     let h : length (filter_octets source r) ≤ filter_limit = ltb-false filter_limit (length (filter_octets source r)) a.1 in
-    subst (λ (s : List ℕ). (q : Request) × (request_in s ≡ good q) × SameClauses s q source r) a.2
+    subst (λ (s : List ℕ). (q : Request) × (request_in s ≡ Ok q) × SameClauses s q source r) a.2
     (request_of (filter_octets source r) (again source r a.0 h).clauses, taken_apart source r a.0 h, same_clauses source r a.0 h)
 
 pub calls_round_trip : CallsRoundTrip
 calls_round_trip source r before after w n t wrote laid answer took = by (filter_for source r (length before)) refl
   where
     by : (o : Try (List ℕ)) → filter_for source r (length before) ≡ o → (q : Request) × (t ≡ taken.Request q) × SameClauses (take n after) q source r
-    by (refused x) e =
+    by (Err x) e =
         let f : written.Refused x ≡ written.Length n = sym (ap written_as e) ∙ sym wrote.same ∙ answer in
         let z : ◌≡◌ {A = ℕ} 0 1 = cc in
         absurd (omega arith)
-    by (good octets) e =
+    by (Ok octets) e =
         let f : written.Length (length octets) ≡ written.Length n = sym (ap written_as e) ∙ sym wrote.same ∙ answer in
         let l : length octets ≡ n = cc in
         let s : take n after ≡ octets = ap (take n) (laid ∙ ap (λ (x : Try (List ℕ)). over (written_octets x) before) e) ∙ over_front octets before n l in

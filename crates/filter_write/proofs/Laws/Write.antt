@@ -1,4 +1,5 @@
 -- The writer's answers, by its judgements in their order.
+use Rattle.std.proofs.Common.{Ok, Err}
 use mathlib.Core.Path.{◌≡◌}
 use mathlib.Core.Bool.{true, false}
 use mathlib.Core.List.{List}
@@ -8,7 +9,6 @@ use native.Mathlib.Omega.{arith}
 use borrow.Author.Tests.{lt-ltb, le-ltb}
 use lib.ListN.{length}
 use Rattle.answers.specs.declared.Refusal.TheVariants.{FilterShape, FilterLength, NoRoom}
-use Rattle.answers.specs.Try.{refused, good}
 use Rattle.octets.specs.Lists.{any}
 use Rattle.filter.specs.declared.request.Request.{Request}
 use Rattle.filter_position.specs.Filter.{filter_limit}
@@ -32,20 +32,20 @@ capped_short n m e h =
     omega arith
 
 module _ (source : List ℕ) (r : Request) (room : ℕ) where
-  pub answer_none : any (λ name. is_present (clause r name)) clause_names ≡ false → filter_for source r room ≡ refused FilterShape
+  pub answer_none : any (λ name. is_present (clause r name)) clause_names ≡ false → filter_for source r room ≡ Err FilterShape
   unfolding filter_for
   answer_none e = rw (filter_for, e)
 
   module _ (e : any (λ name. is_present (clause r name)) clause_names ≡ true) where
-    pub answer_long : filter_limit < element_size (length (contents source r clause_names)) → filter_for source r room ≡ refused FilterLength
+    pub answer_long : filter_limit < element_size (length (contents source r clause_names)) → filter_for source r room ≡ Err FilterLength
     unfolding filter_for
     answer_long h = rw (filter_for, e, filter-length source r, lt-ltb filter_limit _ h)
 
     module _ (h : element_size (length (contents source r clause_names)) ≤ filter_limit) where
-      pub answer_room : room < element_size (length (contents source r clause_names)) → filter_for source r room ≡ refused NoRoom
+      pub answer_room : room < element_size (length (contents source r clause_names)) → filter_for source r room ≡ Err NoRoom
       unfolding filter_for
       answer_room k = rw (filter_for, e, filter-length source r, le-ltb filter_limit _ h, lt-ltb room _ k)
 
-      pub answer_good : element_size (length (contents source r clause_names)) ≤ room → filter_for source r room ≡ good (filter_octets source r)
+      pub answer_good : element_size (length (contents source r clause_names)) ≤ room → filter_for source r room ≡ Ok (filter_octets source r)
       unfolding filter_for
       answer_good k = rw (filter_for, e, filter-length source r, le-ltb filter_limit _ h, le-ltb room _ k)

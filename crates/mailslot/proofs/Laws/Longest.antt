@@ -1,8 +1,8 @@
 -- The longest message: limit by limit, in the order of its fields.
+use Rattle.std.proofs.Common.{Option, None, Some}
 use mathlib.Core.Path.{◌≡◌, refl, sym}
 use mathlib.Core.Bool.{Bool, true, false, cond, ◌&&◌, ◌||◌}
 use mathlib.Core.List.{List, [], ◌∷◌}
-use mathlib.Core.Option.{Option, none, some}
 use Prim.Native.Nat.{ℕ, ◌+◌, ◌*◌, ◌-◌, ◌≤◌}
 use native.Mathlib.Omega.{arith}
 use lib.Dec.{eqb, leb}
@@ -34,8 +34,8 @@ module _ (x : List ℕ) where
   user-most e = go (utf8_from16 x) refl e
     where
       go : (o : Option (List ℕ)) → utf8_from16 x ≡ o → holds is_user_name o ≡ true → length x ≤ 126
-      go none q e = absurd (true_not_false (sym e))
-      go (some t) q e =
+      go None q e = absurd (true_not_false (sym e))
+      go (Some t) q e =
           let h : length t ≤ 63 = leb-true (length t) 63 (both_left (leb (length t) 63) (is_utf8 t) (both_left (leb (length t) 63 && is_utf8 t) (without 0 t) e)) in
           omega (arith, one_a_unit x t q)
 

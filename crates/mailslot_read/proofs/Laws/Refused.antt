@@ -1,4 +1,5 @@
 -- A message is refused where no message has its shape: by its texts, or, where these are good, by what stands behind them.
+use Rattle.std.proofs.Common.{Ok, Err}
 use mathlib.Core.Path.{◌≡◌, refl, sym, ap, ap₂, ◌∙◌, subst}
 use mathlib.Core.Bool.{Bool, true, ◌&&◌}
 use mathlib.Core.List.{List}
@@ -8,7 +9,7 @@ use lib.Dec.{eqb}
 use lib.ListN.{length, get_or}
 use borrow.Author.Tests.{eq-eqb, eqb-true}
 use Rattle.answers.specs.declared.Refusal.TheVariants.{MailslotShape}
-use Rattle.answers.specs.Try.{Try, refused, good, number_of, value_of}
+use Rattle.answers.specs.Try.{Try, number_of, value_of}
 use Rattle.answers.specs.Wire.{logon_sam_logon_request, LmNtToken, Lm20Token}
 use Rattle.answers.proofs.Laws.Try.{good-same}
 use Rattle.octets.specs.Number.{u16_at, u32_at}
@@ -30,12 +31,12 @@ pub promised : (s : List ℕ) (r : MessageRead) → r ≡ message_as (message_in
 promised s r e = record { same = e; numbered = ap message_number e ∙ numbers (message_in s); given = ap message_given e ∙ gives (message_in s) }
   where
     numbers : (t : Try Message) → message_number (message_as t) ≡ number_of t
-    numbers (refused r) = refl
-    numbers (good m) = refl
+    numbers (Err r) = refl
+    numbers (Ok m) = refl
 
     gives : (t : Try Message) → message_given (message_as t) ≡ value_of t
-    gives (refused r) = refl
-    gives (good m) = refl
+    gives (Err r) = refl
+    gives (Ok m) = refl
 
 pub shapeless : (s : List ℕ) → (Shape s → ⊥) → read.Refused MailslotShape ≡ message_as (message_in s)
 shapeless s none = sym (ap message_as (shape_refused s none))
@@ -71,10 +72,10 @@ texts-found s computer user mailslot o t =
       mailslot_end_lem = record { to = omega (arith, t.mailslot_ends.to); found = λ h. t.mailslot_ends; only = λ e q. same_octet (sym (name-read s (user + 2) e q) ∙ name-read s (user + 2) mailslot t.mailslot_ends) };
     }
   where
-    same_end : {start e f : ℕ} → good (text_field start e) ≡ good (text_field start f) → e ≡ f
+    same_end : {start e f : ℕ} → Ok (text_field start e) ≡ Ok (text_field start f) → e ≡ f
     same_end {start} {e} {f} q = let n : e + 2 ≡ f + 2 = ap (λ (x : Read Stretch). x.next) (good-same q) in omega arith
 
-    same_octet : {start e f : ℕ} → good (name_field start e) ≡ good (name_field start f) → e ≡ f
+    same_octet : {start e f : ℕ} → Ok (name_field start e) ≡ Ok (name_field start f) → e ≡ f
     same_octet {start} {e} {f} q = let n : e + 1 ≡ f + 1 = ap (λ (x : Read Stretch). x.next) (good-same q) in omega arith
 
 -- found within the message, they are good

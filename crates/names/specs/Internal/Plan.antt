@@ -1,7 +1,6 @@
 -- A name as it is planned: what it writes, what later names may point to, and the search for a tail.
-use Rattle.std.specs.Prelude.{◌≡◌, Bool, cond, ◌&&◌, ℕ, zero, suc, ◌+◌, ◌-◌, ◌*◌, ◌≤◌, ◌<◌, eqb, leb, ltb, length, get_or, take, drop}
+use Rattle.std.specs.Prelude.{◌≡◌, Bool, cond, ◌&&◌, ℕ, zero, suc, ◌+◌, ◌-◌, ◌*◌, ◌≤◌, ◌<◌, eqb, leb, ltb, length, get_or, take, drop, Option, None, Some}
 use mathlib.Core.List.{List, [], ◌∷◌, ◌++◌, flat_map, map}
-use Rattle.std.proofs.Math.Option.{Option, none, some}
 use Rattle.octets.specs.Label.{labels, joined}
 use Rattle.octets.specs.Lists.{first}
 use Rattle.octets.specs.Text.{same}
@@ -70,8 +69,8 @@ shift n Nothing = Nothing
 
 -- a tail to point to at once, or the aim further on
 abbrev pub aim_or : Option Tail → Aim → Aim
-aim_or (some t) rest = At 0 t.offset
-aim_or none rest = rest
+aim_or (Some t) rest = At 0 t.offset
+aim_or None rest = rest
 
 -- where a pointer to an earlier tail may end a name first
 unfoldable pub first_aim : List Tail → List (List ℕ) → Aim

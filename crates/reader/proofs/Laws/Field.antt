@@ -1,11 +1,11 @@
 -- A field that stands where the reader is, is read whole, and what is left stands after it.
+use Rattle.std.proofs.Common.{Ok}
 use mathlib.Core.Path.{◌≡◌, refl, sym, ap, ◌∙◌, subst}
 use mathlib.Core.List.{List, [], ◌++◌, append_assoc}
 use Prim.Native.Nat.{ℕ, ◌+◌, ◌≤◌}
 use native.Mathlib.Omega.{arith}
 use lib.ListN.{length, length-append}
 use borrow.Author.Tests.{le-ltb}
-use Rattle.answers.specs.Try.{good}
 use Rattle.octets.specs.Lists.{cut}
 use Rattle.octets.proofs.Laws.Lists.{cut-after}
 use Rattle.octets.proofs.Laws.Text.{same_self}
@@ -46,7 +46,7 @@ module _ {s : List ℕ} {at : ℕ} where
   left_cut x rest l = rw (l.whole, ← l.offset) (cut-after l.front x rest)
 
   -- n octets that stand here
-  pub octets_here : (x rest : List ℕ) (n : ℕ) → length x ≡ n → Left s at (x ++ rest) → read_octets s at n ≡ good (record { value = x; next = at + n })
+  pub octets_here : (x rest : List ℕ) (n : ℕ) → length x ≡ n → Left s at (x ++ rest) → read_octets s at n ≡ Ok (record { value = x; next = at + n })
   unfolding read_octets
   octets_here x rest n e l =
       let h : length s ≡ at + length (x ++ rest) = left-length (x ++ rest) l in
@@ -54,11 +54,11 @@ module _ {s : List ℕ} {at : ℕ} where
       let c : cut s at n ≡ x = subst (λ (m : ℕ). cut s at m ≡ x) e (left_cut x rest l) in
       rw (le-ltb (length s) (at + n) k, c)
 
-  pub stretch_here : (x rest : List ℕ) (n : ℕ) → length x ≡ n → Left s at (x ++ rest) → read_stretch s at n ≡ good (record { value = record { start = at; len = n }; next = at + n })
+  pub stretch_here : (x rest : List ℕ) (n : ℕ) → length x ≡ n → Left s at (x ++ rest) → read_stretch s at n ≡ Ok (record { value = record { start = at; len = n }; next = at + n })
   unfolding read_stretch
   stretch_here x rest n e l = rw (octets_here x rest n e l)
 
-  pub fixed_here : (x rest : List ℕ) (n : ℕ) → length x ≡ n → Left s at (x ++ rest) → read_fixed s at x ≡ good (record { value = x; next = at + n })
+  pub fixed_here : (x rest : List ℕ) (n : ℕ) → length x ≡ n → Left s at (x ++ rest) → read_fixed s at x ≡ Ok (record { value = x; next = at + n })
   unfolding read_fixed
   fixed_here x rest n e l = rw (e, octets_here x rest n e l, same_self x)
 

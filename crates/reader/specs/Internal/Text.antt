@@ -1,7 +1,7 @@
 -- A text of a received reply, unit by unit, as the code reads it.
-use Rattle.std.specs.Prelude.{◌≡◌, Bool, List, ℕ, ◌+◌, ◌≤◌}
+use Rattle.std.specs.Prelude.{◌≡◌, Bool, List, ℕ, ◌+◌, ◌≤◌, Ok, Err}
 use Rattle.answers.specs.declared.Refusal.TheVariants.{ReplyText}
-use Rattle.answers.specs.Try.{Try, refused, good}
+use Rattle.answers.specs.Try.{Try}
 use Rattle.octets.specs.Number.{little}
 use Rattle.reader.specs.declared.field.Stretch.{Stretch}
 use Rattle.reader.specs.declared.text.TextRead.{TextRead}
@@ -15,8 +15,8 @@ use Rattle.reader.specs.Text.{unit_of, turn}
 
 -- what the enum says that reading a text returns
 abbrev pub text_in : TextRead → Try (Read Stretch)
-text_in (text.Text f) = good (record { value = f.stretch; next = f.next })
-text_in (text.Refused r) = refused r
+text_in (text.Text f) = Ok (record { value = f.stretch; next = f.next })
+text_in (text.Refused r) = Err r
 
 abbrev pub step_to : ℕ → Turn → UnitStep
 step_to next turn.Stop = step.Stop next
@@ -24,8 +24,8 @@ step_to next (turn.Go after_high_lem) = step.Go after_high_lem next
 step_to next turn.Wrong = step.Refused ReplyText
 
 abbrev pub on_unit : Bool → Try (Read (List ℕ)) → UnitStep
-on_unit after_high_lem (refused r) = step.Refused r
-on_unit after_high_lem (good u) = step_to u.next (turn after_high_lem (unit_of (little u.value)))
+on_unit after_high_lem (Err r) = step.Refused r
+on_unit after_high_lem (Ok u) = step_to u.next (turn after_high_lem (unit_of (little u.value)))
 
 -- the unit at an offset, after a high surrogate or not
 unfoldable pub unit_step : List ℕ → ℕ → Bool → UnitStep

@@ -1,13 +1,12 @@
 -- An EX, read part by part.
+use Rattle.std.proofs.Common.{Ok, Err, Option}
 use mathlib.Core.Path.{◌≡◌, sym, ap, ◌∙◌}
 use mathlib.Core.List.{List, map}
-use mathlib.Core.Option.{Option}
 use Prim.Native.Nat.{ℕ}
 use native.Mathlib.Omega.{arith}
 use lib.ListN.{length, take}
 use lib.Seq.{take_all}
 use Rattle.answers.specs.declared.Refusal.{Refusal}
-use Rattle.answers.specs.Try.{refused, good}
 use Rattle.answers.specs.Wire.{netlogon_nt_version_5ex_with_ip}
 use Rattle.octets.specs.Number.{has}
 use Rattle.reader.specs.declared.field.Stretch.{Stretch}
@@ -25,22 +24,22 @@ use Rattle.reader_ex.specs.Internal.Ex.{HeadIs, fields_of}
 
 -- a refusal of each part, once those before it were read
 module _ {s : List ℕ} (v : ℕ) {h : Head} (i : HeadIs s h) where
-  pub names-refused : (r : Refusal) → read_names 8 s h.next ≡ refused r → read_ex v s ≡ refused r
+  pub names-refused : (r : Refusal) → read_names 8 s h.next ≡ Err r → read_ex v s ≡ Err r
   unfolding read_ex
   names-refused r n = rw (i.opcode, i.fixed, i.flags, i.guid, n)
 
-  module _ {given : List reader.NameRead} {next : ℕ} (n : read_names 8 s h.next ≡ good (record { value = given; next = next })) where
-    pub address-refused : (r : Refusal) → read_address (has v netlogon_nt_version_5ex_with_ip) s next ≡ refused r → read_ex v s ≡ refused r
+  module _ {given : List reader.NameRead} {next : ℕ} (n : read_names 8 s h.next ≡ Ok (record { value = given; next = next })) where
+    pub address-refused : (r : Refusal) → read_address (has v netlogon_nt_version_5ex_with_ip) s next ≡ Err r → read_ex v s ≡ Err r
     unfolding read_ex
     address-refused r a = rw (i.opcode, i.fixed, i.flags, i.guid, n, a)
 
-    module _ {ipv4 : Option Stretch} {after : ℕ} (a : read_address (has v netlogon_nt_version_5ex_with_ip) s next ≡ good (record { value = ipv4; next = after })) where
-      pub last-refused : (r : Refusal) → read_last (has_next_site s) v s after ≡ refused r → read_ex v s ≡ refused r
+    module _ {ipv4 : Option Stretch} {after : ℕ} (a : read_address (has v netlogon_nt_version_5ex_with_ip) s next ≡ Ok (record { value = ipv4; next = after })) where
+      pub last-refused : (r : Refusal) → read_last (has_next_site s) v s after ≡ Err r → read_ex v s ≡ Err r
       unfolding read_ex
       last-refused r l = rw (i.opcode, i.fixed, i.flags, i.guid, n, a, l)
 
       -- what the parts say
-      module _ {last : reader.Last} {end : ℕ} (l : read_last (has_next_site s) v s after ≡ good (record { value = last; next = end })) where
+      module _ {last : reader.Last} {end : ℕ} (l : read_last (has_next_site s) v s after ≡ Ok (record { value = last; next = end })) where
         abbrev pub said : reader.ExFields
         said = record { opcode = h.opcode; flags = h.flags; guid = h.guid; names = given; ipv4 = ipv4; next_site_lem = last.next_site_lem; version = last.version }
 

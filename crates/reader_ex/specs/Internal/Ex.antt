@@ -1,6 +1,5 @@
 -- What the enum says that reading the front of an EX returns, and the fields that its parts make.
-use Rattle.std.specs.Prelude.{◌≡◌, List, ℕ, get_or}
-use Rattle.answers.specs.Try.{refused, good}
+use Rattle.std.specs.Prelude.{◌≡◌, List, ℕ, get_or, Ok, Err}
 use Rattle.answers.specs.Wire.{ex_opcodes, Sbz}
 use Rattle.octets.specs.Lists.{cut}
 use Rattle.octets.specs.Sid.{guid_size}
@@ -20,15 +19,15 @@ use Rattle.reader_forms.specs.Reading.{no_name}
 pub record HeadIs (s : List ℕ) (h : Head) : Type 0 where
   pub second : ℕ
   pub third : ℕ
-  pub opcode : read_opcode ex_opcodes s ≡ good (record { value = h.«opcode»; next = second })
-  pub fixed : read_constant 2 Sbz s second ≡ good (record { value = cut s second 2; next = third })
+  pub opcode : read_opcode ex_opcodes s ≡ Ok (record { value = h.«opcode»; next = second })
+  pub fixed : read_constant 2 Sbz s second ≡ Ok (record { value = cut s second 2; next = third })
   pub fourth : ℕ
-  pub flags : read_number s third ≡ good (record { value = h.«flags»; next = fourth })
-  pub guid : read_stretch s fourth guid_size ≡ good (record { value = h.«guid»; next = h.next })
+  pub flags : read_number s third ≡ Ok (record { value = h.«flags»; next = fourth })
+  pub guid : read_stretch s fourth guid_size ≡ Ok (record { value = h.«guid»; next = h.next })
 
 abbrev pub HeadOf : List ℕ → HeadRead → Type 0
 HeadOf s (head.Head h) = HeadIs s h
-HeadOf s (head.Refused r) = (v : ℕ) → read_ex v s ≡ refused r
+HeadOf s (head.Refused r) = (v : ℕ) → read_ex v s ≡ Err r
 
 -- what an array of names has at a place
 abbrev pub name_of : List NameAt → ℕ → NameAt

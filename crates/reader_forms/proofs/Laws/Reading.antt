@@ -1,12 +1,12 @@
 -- What reading promises, by the enum that it returns; and the names of an array are those that were read, place by place.
+use Rattle.std.proofs.Common.{Ok, Err}
 use mathlib.Core.Path.{◌≡◌, refl, sym, ap, ◌∙◌}
 use mathlib.Core.List.{List, map}
-use mathlib.Core.Option
 use Prim.Native.Nat.{ℕ, ◌<◌}
 use lib.ListN.{take, get_or}
 use lib.Seq.{get_or-take}
 use Rattle.answers.specs.declared.Form.{Form}
-use Rattle.answers.specs.Try.{Try, refused, good, number_of, value_of}
+use Rattle.answers.specs.Try.{Try, number_of, value_of}
 use Rattle.reader.specs.Reader as reader
 use Rattle.reader.specs.Reader.{NameRead, read_in, read_length}
 use Rattle.reader_names.specs.declared.NameAt.{NameAt}
@@ -20,16 +20,16 @@ read_reply_promised reply form v r e =
     record { same = e; numbered = ap reading_number e ∙ numbers t; sized = ap reading_length e ∙ sizes t; given = ap reading_fields e ∙ gives t }
   where
     numbers : (t : Try reader.Fields) → reading_number (reading_as reply t) ≡ number_of t
-    numbers (refused x) = refl
-    numbers (good f) = refl
+    numbers (Err x) = refl
+    numbers (Ok f) = refl
 
     sizes : (t : Try reader.Fields) → reading_length (reading_as reply t) ≡ read_length t reply
-    sizes (refused x) = refl
-    sizes (good f) = refl
+    sizes (Err x) = refl
+    sizes (Ok f) = refl
 
-    gives : (t : Try reader.Fields) → reading_fields (reading_as reply t) ≡ Option.map fields_as (value_of t)
-    gives (refused x) = refl
-    gives (good f) = refl
+    gives : (t : Try reader.Fields) → reading_fields (reading_as reply t) ≡ option_map fields_as (value_of t)
+    gives (Err x) = refl
+    gives (Ok f) = refl
 
 pub name-at : (names : List NameAt) (given : List NameRead) (count k : ℕ) → k < count → take count names ≡ map name_as given → get_or names k (name_as no_name) ≡ name_in given k
 name-at names given count k h e = sym (get_or-take count names k (name_as no_name) h) ∙ ap (λ (x : List NameAt). get_or x k (name_as no_name)) e

@@ -1,4 +1,5 @@
 -- A name read step by step: what was read so far, and what is left, make the name that the reader defines.
+use Rattle.std.proofs.Common.{Ok, Err}
 use mathlib.Core.Path.{◌≡◌, refl, sym, ap, ◌∙◌}
 use mathlib.Core.Bool.{cond}
 use mathlib.Core.List.{List, [], ◌∷◌, ◌++◌, append-nil}
@@ -9,7 +10,7 @@ use lib.ListN.{length}
 use lib.Seq.{append_snoc}
 use borrow.Author.Tests.{ne_eqb}
 use Rattle.answers.specs.declared.Refusal.{Refusal}
-use Rattle.answers.specs.Try.{Try, refused, good, ◌>>=◌}
+use Rattle.answers.specs.Try.{Try, ◌>>=◌}
 use Rattle.names.specs.Walk.{label_at, WalkedName, steps}
 use Rattle.names.proofs.Laws.Walk.{bound, bound_read, bound_jump, bound_steps}
 use Rattle.octets.proofs.Laws.Label.{size}
@@ -24,19 +25,19 @@ use Rattle.reader_names.proofs.Laws.Step.{after_step, one-step}
 
 -- a name whose first labels were read before, and whose field a pointer may have ended
 abbrev pub resumed : List (List ℕ) → ℕ → ℕ → Try (Read WalkedName) → Try (Read WalkedName)
-resumed read pointers next (refused r) = refused r
-resumed read pointers next (good f) = good (record { value = record { labels = read ++ f.value.labels; pointers = f.value.pointers }; next = cond (eqb pointers 0) f.next next })
+resumed read pointers next (Err r) = Err r
+resumed read pointers next (Ok f) = Ok (record { value = record { labels = read ++ f.value.labels; pointers = f.value.pointers }; next = cond (eqb pointers 0) f.next next })
 
 resumed_label : (read : List (List ℕ)) (pointers next : ℕ) (l : List ℕ) (t : Try (Read WalkedName))
-    → resumed read pointers next (t >>= λ f. good (label_before l f)) ≡ resumed (read ++ (l ∷ [])) pointers next t
-resumed_label read pointers next l (refused r) = refl
-resumed_label read pointers next l (good f) =
-    ap (λ (x : List (List ℕ)). good (record { value = record { labels = x; pointers = f.value.pointers }; next = cond (eqb pointers 0) f.next next })) (sym (append_snoc read l f.value.labels))
+    → resumed read pointers next (t >>= λ f. Ok (label_before l f)) ≡ resumed (read ++ (l ∷ [])) pointers next t
+resumed_label read pointers next l (Err r) = refl
+resumed_label read pointers next l (Ok f) =
+    ap (λ (x : List (List ℕ)). Ok (record { value = record { labels = x; pointers = f.value.pointers }; next = cond (eqb pointers 0) f.next next })) (sym (append_snoc read l f.value.labels))
 
 resumed_pointer : (read : List (List ℕ)) (pointers next end : ℕ) (t : Try (Read WalkedName))
-    → resumed read pointers next (t >>= λ f. good (ending_at end f)) ≡ resumed read (pointers + 1) (cond (eqb pointers 0) end next) t
-resumed_pointer read pointers next end (refused r) = refl
-resumed_pointer read pointers next end (good f) = let z : pointers + 1 ≡ 0 → ⊥ = λ q. omega arith in rw (ne_eqb (pointers + 1) 0 z)
+    → resumed read pointers next (t >>= λ f. Ok (ending_at end f)) ≡ resumed read (pointers + 1) (cond (eqb pointers 0) end next) t
+resumed_pointer read pointers next end (Err r) = refl
+resumed_pointer read pointers next end (Ok f) = let z : pointers + 1 ≡ 0 → ⊥ = λ q. omega arith in rw (ne_eqb (pointers + 1) 0 z)
 
 module _ (s : List ℕ) (start : ℕ) where
   -- the reading goes on at an offset, with steps enough
@@ -63,8 +64,8 @@ module _ (s : List ℕ) (start : ℕ) where
       }
     where
       go : (t : Try (Read WalkedName)) → resumed [] 0 next t ≡ t
-      go (refused r) = refl
-      go (good f) = refl
+      go (Err r) = refl
+      go (Ok f) = refl
 
   module _ {read : List (List ℕ)} {run at spent pointers next : ℕ} (n : NameLeft read run at spent pointers next) where
     -- the next step leads to what the reading gives
@@ -84,12 +85,12 @@ module _ (s : List ℕ) (start : ℕ) where
     after x e = ap (λ (y : NameStep). resumed read pointers next (after_step s run at spent pointers leads.0 y)) (sym e) ∙ leads.2
 
     pub name-ends : name_step s run at spent pointers ≡ step.Ends
-        → read_name s start ≡ good (record { value = record { labels = read; pointers = pointers }; next = cond (eqb pointers 0) (at + 1) next })
+        → read_name s start ≡ Ok (record { value = record { labels = read; pointers = pointers }; next = cond (eqb pointers 0) (at + 1) next })
     name-ends e =
         sym (after step.Ends e)
-        ∙ ap (λ (x : List (List ℕ)). good (record { value = record { labels = x; pointers = pointers }; next = cond (eqb pointers 0) (at + 1) next })) (append-nil read)
+        ∙ ap (λ (x : List (List ℕ)). Ok (record { value = record { labels = x; pointers = pointers }; next = cond (eqb pointers 0) (at + 1) next })) (append-nil read)
 
-    pub name-refused : (r : Refusal) → name_step s run at spent pointers ≡ step.Refused r → read_name s start ≡ refused r
+    pub name-refused : (r : Refusal) → name_step s run at spent pointers ≡ step.Refused r → read_name s start ≡ Err r
     name-refused r e = sym (after (step.Refused r) e)
 
     pub name-label : (m : ℕ) → name_step s run at spent pointers ≡ step.Label m → StepWithin (length s) run at spent pointers (step.Label m)

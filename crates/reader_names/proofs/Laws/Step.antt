@@ -1,4 +1,5 @@
 -- A step keeps to its bounds, and leads to what the reader defines.
+use Rattle.std.proofs.Common.{Ok, Err}
 use mathlib.Core.Path.{◌≡◌, refl}
 use mathlib.Core.Bool.{Bool, true, false, not, ◌||◌}
 use mathlib.Core.List.{List, []}
@@ -9,7 +10,7 @@ use lib.ListN.{length}
 use borrow.Author.Tests.{ltb-true, ltb-false, eqb-false, not-false}
 use Rattle.answers.specs.declared.Refusal.{Refusal}
 use Rattle.answers.specs.declared.Refusal.TheVariants.{ReplyText}
-use Rattle.answers.specs.Try.{Try, refused, good, refused_if, ◌>>=◌}
+use Rattle.answers.specs.Try.{Try, refused_if, ◌>>=◌}
 use Rattle.names.specs.Walk.{Look, end, label, pointer, missing, reserved, look_at, on_look, label_at, WalkedName}
 use Rattle.octets.proofs.Laws.Lists.{neither_left, neither_right}
 use Rattle.reader.specs.Field.{Read}
@@ -54,10 +55,10 @@ module _ (s : List ℕ) (run at spent pointers : ℕ) where
 module _ (s : List ℕ) (run at spent pointers : ℕ) where
   -- what is left of the reading after a step
   abbrev pub after_step : ℕ → NameStep → Try (Read WalkedName)
-  after_step k step.Ends = good (record { value = record { labels = []; pointers = pointers }; next = at + 1 })
-  after_step k (step.Label n) = read_name_from k s run (at + 1 + n) (spent + 1 + n) pointers >>= λ f. good (label_before (label_at s at n) f)
-  after_step k (step.Pointer t) = read_name_from k s t t spent (pointers + 1) >>= λ f. good (ending_at (at + 2) f)
-  after_step k (step.Refused r) = refused r
+  after_step k step.Ends = Ok (record { value = record { labels = []; pointers = pointers }; next = at + 1 })
+  after_step k (step.Label n) = read_name_from k s run (at + 1 + n) (spent + 1 + n) pointers >>= λ f. Ok (label_before (label_at s at n) f)
+  after_step k (step.Pointer t) = read_name_from k s t t spent (pointers + 1) >>= λ f. Ok (ending_at (at + 2) f)
+  after_step k (step.Refused r) = Err r
 
   -- a refusal by a test, before what follows
   tested : (k : ℕ) (b : Bool) (r : Refusal) (rest : Try (Read WalkedName)) (x : NameStep) → rest ≡ after_step k x → refused_if b r rest ≡ after_step k (step_if b (step.Refused r) x)
@@ -69,13 +70,13 @@ module _ (s : List ℕ) (run at spent pointers : ℕ) where
   one-step k = go (look_at s at)
     where
       go : (v : Look)
-          → on_look v (good (record { value = record { labels = []; pointers = pointers }; next = at + 1 }))
+          → on_look v (Ok (record { value = record { labels = []; pointers = pointers }; next = at + 1 }))
           (λ n.
           refused_if (ltb 255 (spent + 1 + n + 1)) ReplyText
           (refused_if (ltb (length s) (at + 1 + n)) (cut_after pointers)
-          (read_name_from k s run (at + 1 + n) (spent + 1 + n) pointers >>= λ f. good (label_before (label_at s at n) f))))
-          (λ t. refused_if (not (ltb t run) || eqb pointers 16) ReplyText (read_name_from k s t t spent (pointers + 1) >>= λ f. good (ending_at (at + 2) f)))
-          (refused (cut_after pointers)) (refused ReplyText)
+          (read_name_from k s run (at + 1 + n) (spent + 1 + n) pointers >>= λ f. Ok (label_before (label_at s at n) f))))
+          (λ t. refused_if (not (ltb t run) || eqb pointers 16) ReplyText (read_name_from k s t t spent (pointers + 1) >>= λ f. Ok (ending_at (at + 2) f)))
+          (Err (cut_after pointers)) (Err ReplyText)
           ≡ after_step k (on_look v step.Ends (label_step s at spent pointers) (pointer_step run pointers) (step.Refused (cut_after pointers)) (step.Refused ReplyText))
       go end = refl
       go (label n) =

@@ -1,5 +1,6 @@
 -- What the enum says that reading the opcode and the three texts returns.
-use Rattle.answers.specs.Try.{Try, refused, good}
+use Rattle.std.specs.Prelude.{Ok, Err}
+use Rattle.answers.specs.Try.{Try}
 use Rattle.reader.specs.Field.{Read}
 use Rattle.reader.specs.Reader as reader
 use Rattle.reader_older.specs.declared.opening.Opening.{Opening}
@@ -10,5 +11,5 @@ abbrev pub opening_of : Opening → Read reader.Opening
 opening_of o = record { value = record { opcode = o.opcode; server = o.server; user = o.user; domain = o.domain }; next = o.next }
 
 abbrev pub opening_in : OpeningRead → Try (Read reader.Opening)
-opening_in (opening.Opening o) = good (opening_of o)
-opening_in (opening.Refused r) = refused r
+opening_in (opening.Opening o) = Ok (opening_of o)
+opening_in (opening.Refused r) = Err r

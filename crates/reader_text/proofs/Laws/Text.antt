@@ -1,4 +1,5 @@
 -- The text of a name, put down label by label while the name is read.
+use Rattle.std.proofs.Common.{Ok, Err}
 use mathlib.Core.Path.{◌≡◌, refl, sym, ap, subst, ◌∙◌}
 use mathlib.Core.List.{List, [], ◌∷◌, ◌++◌}
 use Prim.Native.Nat.{ℕ, ◌+◌, ◌-◌}
@@ -6,7 +7,7 @@ use native.Mathlib.Omega.{arith}
 use lib.ListN.{length, replicate, length-replicate, drop}
 use lib.Seq.{take-append_seam}
 use Rattle.answers.specs.declared.Refusal.{Refusal}
-use Rattle.answers.specs.Try.{Try, refused, good, ◌>>=◌, number_of}
+use Rattle.answers.specs.Try.{Try, ◌>>=◌, number_of}
 use Rattle.lent.specs.Internal.OverAt.{over_at}
 use Rattle.lent.proofs.Laws.OverAt.{Laid, laid_none, laid_more, over_laid}
 use Rattle.names.specs.Walk.{label_at, WalkedName}
@@ -30,8 +31,8 @@ blank = replicate 253 0
 -- the octets that the call gives are the text's
 pub given-text : (t : Try (List ℕ)) → text_given (name_text_as t) ≡ text_octets t
 unfolding over
-given-text (refused r) = refl
-given-text (good text) = take-append_seam text (drop (length text) blank)
+given-text (Err r) = refl
+given-text (Ok text) = take-append_seam text (drop (length text) blank)
 
 pub name-text_promised : (reply : List ℕ) (start : ℕ) (r : NameText) → r ≡ name_text_as (name_text_lem reply start) → NameTextPromise reply start r
 name-text_promised reply start r e =
@@ -44,12 +45,12 @@ name-text_promised reply start r e =
     }
   where
     numbers : (t : Try (List ℕ)) → text_number (name_text_as t).len ≡ number_of t
-    numbers (refused x) = refl
-    numbers (good text) = refl
+    numbers (Err x) = refl
+    numbers (Ok text) = refl
 
     sizes : (t : Try (List ℕ)) → text_length (name_text_as t).len ≡ length (text_octets t)
-    sizes (refused x) = refl
-    sizes (good text) = refl
+    sizes (Err x) = refl
+    sizes (Ok text) = refl
 
 module _ (s : List ℕ) (start : ℕ) where
   -- the reading goes on at an offset, and the labels read so far stand joined in the room for the text
@@ -73,7 +74,7 @@ module _ (s : List ℕ) (start : ℕ) where
 
     pub text-refused : (r : Refusal) → name_step s run at spent pointers ≡ step.Refused r → record { len = Refused r; octets = blank } ≡ name_text_as (name_text_lem s start)
     unfolding name_text_lem over
-    text-refused r q = sym (ap (λ (x : Try (Read WalkedName)). name_text_as (x >>= λ f. good (joined f.value.labels))) (name-refused s start t.name r q))
+    text-refused r q = sym (ap (λ (x : Try (Read WalkedName)). name_text_as (x >>= λ f. Ok (joined f.value.labels))) (name-refused s start t.name r q))
 
     pub text-label : (m : ℕ) (more : List ℕ) → name_step s run at spent pointers ≡ step.Label m → StepWithin (length s) run at spent pointers (step.Label m)
         → length more ≡ 253 → more ≡ over_at (spent - 1) (dotted spent (label_at s at m)) octets → TextLeft more run (at + 1 + m) (spent + 1 + m) pointers

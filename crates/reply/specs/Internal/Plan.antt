@@ -1,6 +1,5 @@
 -- A reply as it is planned: the names that its form writes, and its length.
-use Rattle.std.specs.Prelude.{◌≡◌, Bool, true, false, List, [], ◌++◌, ℕ, length, get_or, take}
-use Rattle.std.proofs.Math.Option.{Option, none, some}
+use Rattle.std.specs.Prelude.{◌≡◌, Bool, true, false, List, [], ◌++◌, ℕ, length, get_or, take, Option, None, Some}
 use Rattle.answers.specs.declared.Form.{Form}
 use Rattle.answers.specs.declared.Form.TheVariants.{Nt40, Response, Ex}
 use Rattle.answers.specs.Wire.{ex_version, ex_version_with_next_site}
@@ -40,8 +39,8 @@ module _ (table request : List ℕ) where
 
   -- name 8 is planned after the eight others
   abbrev pub NextPlan : Option (List ℕ) → List PlannedName → ℕ → Type 0
-  NextPlan none names at = Unit {0}
-  NextPlan (some text) names at =
+  NextPlan None names at = Unit {0}
+  NextPlan (Some text) names at =
       Fit table request (last_name names) × (write_name (names_tails table request (take 8 names)) at text ≡ writing_of table request (last_name names))
 
   pub record ExPlan (r : Reply) (names : List PlannedName) : Type 0 where

@@ -1,6 +1,5 @@
 -- What a reply says whose texts are stretches of the table image or of the ping's source.
-use Rattle.std.specs.Prelude.{Bool, true, false, List, ℕ, ◌≤◌, get_or}
-use Rattle.std.proofs.Math.Option.{Option, none, some}
+use Rattle.std.specs.Prelude.{Bool, true, false, List, ℕ, ◌≤◌, get_or, Option, None, Some}
 use Rattle.lent.specs.declared.stretch.Lender.TheVariants.{Table}
 use Rattle.lent.specs.declared.stretch.Stretch.{Stretch}
 use Rattle.lent.specs.Internal.Stretch.{octets_at}
@@ -15,8 +14,8 @@ abbrev pub slot_text : List ℕ → List ℕ → List Stretch → ℕ → List �
 slot_text table request slots k = octets_at table request (get_or slots k no_stretch)
 
 abbrev pub text_if : Bool → List ℕ → Option (List ℕ)
-text_if true text = some text
-text_if false text = none
+text_if true text = Some text
+text_if false text = None
 
 abbrev pub reply_in : List ℕ → List ℕ → RawReply → Reply
 reply_in table request r =

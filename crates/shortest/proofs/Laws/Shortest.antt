@@ -1,9 +1,9 @@
 -- #113 is proved: of both forms, for any texts that are names, and so of every answer.
+use Rattle.std.proofs.Common.{Option, None, Some}
 use mathlib.Core.Path.{◌≡◌, refl, sym, ap, ap₂, ◌∙◌}
 use mathlib.Core.Bool.{true, false}
 use mathlib.Core.List.Memᴰ
 use mathlib.Core.List.{List, [], ◌∷◌, ◌++◌, map, flat_map, append-nil, append_assoc}
-use mathlib.Core.Option.{Option, none, some}
 use Prim.Native.Nat.{ℕ, ◌+◌, ◌≤◌}
 use native.Mathlib.Nat.{zero-add}
 use native.Mathlib.Omega.{arith}
@@ -61,8 +61,8 @@ after_head_lem head texts fields =
 
 last_fields_lem : (site : Option (List ℕ)) (names : Writing) (at : ℕ) → written names.tails at (last_fields site) ≡ ex_last site names at
 unfolding written
-last_fields_lem none names at = append-nil (ending ex_version)
-last_fields_lem (some text) names at = ap (λ (s : List ℕ). (write_name names.tails at text).octets ++ s) (append-nil (ending ex_version_with_next_site))
+last_fields_lem None names at = append-nil (ending ex_version)
+last_fields_lem (Some text) names at = ap (λ (s : List ℕ). (write_name names.tails at text).octets ++ s) (append-nil (ending ex_version_with_next_site))
 
 by_fields : (form : Form) (r : Reply) → octets_in form r ≡ written [] 0 (fields_of form r)
 unfolding written response_octets ex_octets
@@ -111,9 +111,9 @@ all-read-back form r names other places w = says_names (names_plain (texts_of (f
 
 -- ---- every answer's texts are names, and its reply is short
 
-last_plain : (site : Option (List ℕ)) → ((text : List ℕ) → site ≡ some text → Writable 63 text) → Every (λ text. Plain (labels text)) (texts_of (last_fields site))
-last_plain none h = tt
-last_plain (some text) h = ((h text refl).plain, tt)
+last_plain : (site : Option (List ℕ)) → ((text : List ℕ) → site ≡ Some text → Writable 63 text) → Every (λ text. Plain (labels text)) (texts_of (last_fields site))
+last_plain None h = tt
+last_plain (Some text) h = ((h text refl).plain, tt)
 
 texts_plain : (form : Form) (v : ℕ) (r : Reply) → Sound form v r → Every (λ text. Plain (labels text)) (texts_of (fields_of form r))
 texts_plain Nt40 v r k = tt
@@ -152,7 +152,7 @@ sample =
       client_site_lem = [];
       ipv4 = replicate 4 0;
       with_address_lem = false;
-      next_site_lem = none;
+      next_site_lem = None;
     }
 
 longer-response : Longer Response

@@ -2,7 +2,6 @@
 use mathlib.Core.Path.{◌≡◌, refl, sym, ap, ◌∙◌}
 use mathlib.Core.Bool.{Bool, true, false, cond, not, ◌&&◌}
 use mathlib.Core.List.{List, [], ◌∷◌, ◌++◌, map, flat_map}
-use mathlib.Core.Option
 use Prim.Native.Nat.{ℕ, suc, ◌+◌, ◌-◌, ◌≤◌, ◌<◌}
 use native.Mathlib.Omega.{arith}
 use lib.Dec.{eqb, leb}
@@ -80,20 +79,20 @@ compared_undotted m x e = go (leb 2 (length (m ++ (x ∷ [])))) refl
 module _ (asked : List ℕ) (blocks : List (List ℕ)) where
   -- a search in the used records of a kind, read as f does
   used_search : {A : Type 0} (f : List ℕ → A) (p : A → Bool) (k : RecordKind)
-      → Option.map f (first (λ r. is_used r && p (f r)) (flat_map (records_in (format_of k)) (bodies (format_of k).kind blocks))) ≡ first p (map f (records_of k blocks))
+      → option_map f (first (λ r. is_used r && p (f r)) (flat_map (records_in (format_of k)) (bodies (format_of k).kind blocks))) ≡ first p (map f (records_of k blocks))
   unfolding records_of
   used_search f p k =
       let records = flat_map (records_in (format_of k)) (bodies (format_of k).kind blocks) in
-      sym (first-map f p (keep is_used records) ∙ ap (Option.map f) (first-keep (λ r. p (f r)) is_used records))
+      sym (first-map f p (keep is_used records) ∙ ap (option_map f) (first-keep (λ r. p (f r)) is_used records))
 
-  pub context_search : (k : ContextKey) → Option.map context_of (first_in (key.Context k) asked blocks) ≡ first (is_context k asked) (table_of blocks).contexts
+  pub context_search : (k : ContextKey) → option_map context_of (first_in (key.Context k) asked blocks) ≡ first (is_context k asked) (table_of blocks).contexts
   unfolding first_in table_of
   context_search k = used_search context_of (is_context k asked) kind.Context
 
-  pub account_search : (n : ContextNumber) → Option.map account_of (first_in (key.Account n) asked blocks) ≡ first (is_account_of n asked) (table_of blocks).accounts
+  pub account_search : (n : ContextNumber) → option_map account_of (first_in (key.Account n) asked blocks) ≡ first (is_account_of n asked) (table_of blocks).accounts
   unfolding first_in table_of
   account_search n = used_search account_of (is_account_of n asked) kind.Account
 
-  pub site_search : (k : SiteKey) → Option.map site_of (first_in (key.Site k) asked blocks) ≡ first (is_site k) (table_of blocks).sites
+  pub site_search : (k : SiteKey) → option_map site_of (first_in (key.Site k) asked blocks) ≡ first (is_site k) (table_of blocks).sites
   unfolding first_in table_of
   site_search k = used_search site_of (is_site k) kind.Site

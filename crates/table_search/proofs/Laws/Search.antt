@@ -1,8 +1,8 @@
 -- Laws of the search: record by record, block by block, and over the table's lists.
+use Rattle.std.proofs.Common.{Option, None, Some}
 use mathlib.Core.Path.{◌≡◌, refl, sym, ap, ◌∙◌}
 use mathlib.Core.Bool.{Bool, true, false, cond}
 use mathlib.Core.List.{List, ◌∷◌, map, flat_map}
-use mathlib.Core.Option.{Option, none, some}
 use Prim.Native.Nat.{ℕ, zero, suc, ◌+◌, ◌-◌, ◌*◌, ◌/◌, ◌≤◌, ◌<◌}
 use native.Mathlib.Nat.{suc-mul}
 use native.Mathlib.Omega.{arith}
@@ -40,13 +40,13 @@ left_step p image w (suc n) offset h =
     rw e (ap (λ (s : List ℕ). first_or (p (cut image offset w)) (cut image offset w) (first p (pieces n w s))) (drop-drop w offset image))
 
 module _ (p : List ℕ → Bool) (image : List ℕ) (w n offset : ℕ) (h : 0 < n) where
-  pub left-found : p (cut image offset w) ≡ true → some (cut image offset w) ≡ first p (pieces n w (drop offset image))
+  pub left-found : p (cut image offset w) ≡ true → Some (cut image offset w) ≡ first p (pieces n w (drop offset image))
   left-found e = sym (left_step p image w n offset h ∙ rw e)
 
   pub left-next : p (cut image offset w) ≡ false → first p (pieces (n - 1) w (drop (offset + w) image)) ≡ first p (pieces n w (drop offset image))
   left-next e = sym (left_step p image w n offset h ∙ rw e)
 
-pub left_none : (p : List ℕ → Bool) (image : List ℕ) (w n offset : ℕ) → n ≤ 0 → none ≡ first p (pieces n w (drop offset image))
+pub left_none : (p : List ℕ → Bool) (image : List ℕ) (w n offset : ℕ) → n ≤ 0 → None ≡ first p (pieces n w (drop offset image))
 unfolding first pieces
 left_none p image w zero offset h = refl
 left_none p image w (suc n) offset h = absurd (omega arith)
@@ -72,7 +72,7 @@ first_in-cons k asked block blocks = go (eqb (kind_in block) (format_of (kind_fo
 
     go : (b : Bool)
         → first (is_found_by k asked) (flat_map within (map body (keep_if b block rest)))
-        ≡ or_else (cond b (first (is_found_by k asked) (within (body block))) none) (first (is_found_by k asked) (flat_map within (map body rest)))
+        ≡ or_else (cond b (first (is_found_by k asked) (within (body block))) None) (first (is_found_by k asked) (flat_map within (map body rest)))
     go true = first-append (is_found_by k asked) (within (body block)) (flat_map within (map body rest))
     go false = refl
 
@@ -85,6 +85,6 @@ search_step k asked image i there h e =
     ap (λ (o : Option (List ℕ)). or_else o (first_in k asked (drop (i + 1) (blocks_of image)))) e
     ∙ sym (ap (first_in k asked) (blocks_step image i h) ∙ first_in-cons k asked (block_at image (block_place i)) (drop (i + 1) (blocks_of image)))
 
-pub search_end : (k : Key) (asked image : List ℕ) (i : ℕ) → length image / block_size ≤ i → none ≡ first_in k asked (drop i (blocks_of image))
+pub search_end : (k : Key) (asked image : List ℕ) (i : ℕ) → length image / block_size ≤ i → None ≡ first_in k asked (drop i (blocks_of image))
 unfolding first_in bodies keep flat_map first
 search_end k asked image i h = rw (blocks_end image i h)

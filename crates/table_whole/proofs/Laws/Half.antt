@@ -1,8 +1,8 @@
 -- Laws of the two halves, and of the subnets by themselves: from what is found at offsets and among marks to what is said of the table.
+use Rattle.std.proofs.Common.{Option, None, Some}
 use mathlib.Core.Path.{◌≡◌, refl, sym, ap, ap₂, ◌∙◌, fun_ext}
 use mathlib.Core.Bool.{Bool, true, false, not, ◌&&◌, ◌||◌, and-false, and_comm}
 use mathlib.Core.List.{List, map, flat_map}
-use mathlib.Core.Option.{Option, none, some}
 use Prim.Native.Nat.{ℕ, ◌+◌, ◌*◌, ◌≤◌, ◌<◌}
 use native.Mathlib.Omega.{arith}
 use lib.Dec.{eqb, leb}
@@ -96,12 +96,12 @@ module _ (image contexts : List ℕ) (e : AllOf kind.Context image contexts) whe
 -- sites referred to, where there is one
 module _ (marks : List ℕ) (t : Table) (m : SiteMarks marks t) where
   none_or_marked : (o : Option SiteNumber) → is_marked_or_none marks o ≡ none_or (has_site t) o
-  none_or_marked none = refl
-  none_or_marked (some n) = m.say n
+  none_or_marked None = refl
+  none_or_marked (Some n) = m.say n
 
 other_or_none : (own : SiteNumber) (o : Option SiteNumber) → is_other_or_none own o ≡ not (holds (same_site_lem own) o)
-other_or_none own none = refl
-other_or_none own (some n) = refl
+other_or_none own None = refl
+other_or_none own (Some n) = refl
 
 -- an unused record refers to no site, and so refers rightly
 unused_refers : (marks r : List ℕ) → (not (is_used r) || subnet_refers marks r) ≡ subnet_refers marks r

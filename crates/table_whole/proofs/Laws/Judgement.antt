@@ -1,4 +1,5 @@
 -- Laws of judging an image: what an accepted one holds, and the answer by the first judgement that fails.
+use Rattle.std.proofs.Common.{Ok, Err}
 use mathlib.Core.Path.{◌≡◌, refl, sym, ◌∙◌, subst, ap}
 use mathlib.Core.Bool.{Bool, true, false, cond, not, ◌&&◌, ◌||◌, false≢true}
 use mathlib.Core.List.{List, [], ◌∷◌, map, flat_map}
@@ -9,7 +10,7 @@ use lib.ListN.{length}
 use borrow.Author.Tests.{eqb-true, not-true, not-false, leb-true, le-leb, lt-leb}
 use Rattle.answers.specs.declared.Refusal.{Refusal}
 use Rattle.answers.specs.declared.Refusal.TheVariants.{ImageLength, BlockCheck, BlockLayout, TableWhole}
-use Rattle.answers.specs.Try.{Try, refused, good, number_of}
+use Rattle.answers.specs.Try.{Try, number_of}
 use Rattle.answers.proofs.Laws.Try.{refused_if-good}
 use Rattle.octets.specs.Lists.{all, any, keep, holds, pieces}
 use Rattle.octets.proofs.Laws.Lists.{Every, every_all, every_map, every_flat, every_keep, both_left, both_right, other_right, cut-length, pieces_wide}
@@ -61,7 +62,7 @@ length_bounds image e =
     (leb-true 1024 (length image) (both_left least most ends), leb-true (length image) 65536 (both_right least most ends))
 
 -- a table that was judged good is the image's, and all judgements passed
-judged : (image : List ℕ) (t : Table) → table_in image ≡ good t → Judged image × (table_from image ≡ t)
+judged : (image : List ℕ) (t : Table) → table_in image ≡ Ok t → Judged image × (table_from image ≡ t)
 unfolding table_in
 judged image t e =
     let blocks : List (List ℕ) = blocks_of image in
@@ -69,11 +70,11 @@ judged image t e =
     let b = refused_if-good (not (all good_check blocks)) BlockCheck _ t a.1 in
     let c = refused_if-good (not (layouts_from server_place blocks)) BlockLayout _ t b.1 in
     let d = refused_if-good (not (good_whole (table_of blocks))) TableWhole _ t c.1 in
-    let q : good (table_of blocks) ≡ good t = d.1 in
+    let q : Ok (table_of blocks) ≡ Ok t = d.1 in
     (record { length = not-false _ a.0; checks = not-false _ b.0; layouts = not-false _ c.0; whole = not-false _ d.0 }, cc)
 
-pub accepted : (image : List ℕ) (t : Table) → table_in image ≡ good t → Accepted image
-accepted image t e = e ∙ ap good (sym (judged image t e).1)
+pub accepted : (image : List ℕ) (t : Table) → table_in image ≡ Ok t → Accepted image
+accepted image t e = e ∙ ap Ok (sym (judged image t e).1)
 
 -- what 4 says of a table
 pub record Whole (t : Table) : Type 0 where
@@ -337,7 +338,7 @@ accepted-good image ok =
 
 -- of the table that was judged
 
-module _ (image : List ℕ) (t : Table) (e : table_in image ≡ good t) where
+module _ (image : List ℕ) (t : Table) (e : table_in image ≡ Ok t) where
   pub judged-good : GoodTable t
   judged-good = subst GoodTable (judged image t e).1 (accepted-good image (accepted image t e))
 
@@ -412,16 +413,16 @@ pub judge_promised : (image : List ℕ) (r : Judgement) → r ≡ judged_as (tab
 judge_promised image r e = record { same = e; numbered = ap judgement_number e ∙ numbers (table_in image) }
   where
     numbers : (t : Try Table) → judgement_number (judged_as t) ≡ number_of t
-    numbers (refused x) = refl
-    numbers (good t) = refl
+    numbers (Err x) = refl
+    numbers (Ok t) = refl
 
 pub passed_accepted : (image : List ℕ) → Passed ≡ judged_as (table_in image) → Accepted image
 passed_accepted image e = go (table_in image) refl e
   where
     go : (t : Try Table) → table_in image ≡ t → Passed ≡ judged_as t → Accepted image
-    go (refused x) q k = let z : ◌≡◌ {A = ℕ} 0 1 = cc in absurd (omega arith)
-    go (good t) q k = accepted image t q
+    go (Err x) q k = let z : ◌≡◌ {A = ℕ} 0 1 = cc in absurd (omega arith)
+    go (Ok t) q k = accepted image t q
 
-pub judged-refused : (t : Try Table) (x : Refusal) → Refused x ≡ judged_as t → t ≡ refused x
-judged-refused (refused y) x e = let z : x ≡ y = cc in ap refused (sym z)
-judged-refused (good t) x e = let z : ◌≡◌ {A = ℕ} 0 1 = cc in absurd (omega arith)
+pub judged-refused : (t : Try Table) (x : Refusal) → Refused x ≡ judged_as t → t ≡ Err x
+judged-refused (Err y) x e = let z : x ≡ y = cc in ap Err (sym z)
+judged-refused (Ok t) x e = let z : ◌≡◌ {A = ℕ} 0 1 = cc in absurd (omega arith)

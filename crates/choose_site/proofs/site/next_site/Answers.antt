@@ -1,7 +1,7 @@
+use Rattle.std.proofs.Common.{option_map}
 use mathlib.Core.Path.{◌≡◌, ap, ◌∙◌}
 use mathlib.Core.Bool.{◌&&◌}
 use mathlib.Core.List.{List}
-use mathlib.Core.Option.{map}
 use Prim.Native.Nat.{ℕ}
 use native.Mathlib.Omega.{arith}
 use borrow.Author.Tests.{not-true, not-false}
@@ -48,7 +48,7 @@ returns c =
     let t = table_from a.image.now in
     let client = site_of (cut a.image.now c.in-At.offset site_format.width) in
     let next = c.next.ensures ∙ ap (λ (r : List ℕ). (site_of r).next) c.part.ensures in
-    let name = ap (map (λ (s : Site). s.name)) (c.site_if_any.ensures.result_value ∙ ap (site_if_any t) next) in
+    let name = ap (option_map (λ (s : Site). s.name)) (c.site_if_any.ensures.result_value ∙ ap (site_if_any t) next) in
     let wanted = asked (goal.at.returns c).After-has_bits-2 ∙ not-false _ c.if-not-has_bits.false-raw in
     record {
       result_value = rw c.in-At.is (name ∙ next_of t a.version wanted client);

@@ -1,11 +1,11 @@
 -- The octets of a RESPONSE in the order of the reader's fields, with its names at their places.
+use Rattle.std.proofs.Common.{Ok}
 use mathlib.Core.Path.{◌≡◌, refl, ap, ◌∙◌}
 use mathlib.Core.List.{List, [], ◌++◌, append_assoc}
 use Prim.Native.Nat.{ℕ, ◌+◌, ◌≤◌}
 use native.Mathlib.Omega.{arith}
 use lib.ListN.{length, length-append, length-replicate}
 use Rattle.answers.specs.declared.Form.TheVariants.{Response}
-use Rattle.answers.specs.Try.{good}
 use Rattle.answers.specs.Wire.{response_version, NullGuid, Lm20Token}
 use Rattle.names.specs.Name.{write_names}
 use Rattle.names.proofs.Laws.Name.{sizes, names-short}
@@ -92,7 +92,7 @@ module _ (v : ℕ) (r : Reply) (k : Sound Response v r) where
       ap (λ (n : ℕ). n + guid_size + length NullGuid) (opening-ends (response_octets r) _ response_opened.reads) ∙ left-same names (left_after NullGuid names zeros) response-left
 
   pub response-read : reader.read_response (response_octets r)
-      ≡ good
+      ≡ Ok
       (reader.response
       (record {
         opcode = r.opcode;

@@ -1,6 +1,6 @@
+use Rattle.std.proofs.Common.{None, Some}
 use mathlib.Core.Path.{◌≡◌, sym, ap, ◌∙◌}
 use mathlib.Core.Bool.{not}
-use mathlib.Core.Option.{none, some}
 use Prim.Native.Nat.{ℕ}
 use native.Mathlib.Omega.{arith}
 use borrow.Author.Tests.{eq-eqb, ne_eqb}
@@ -13,17 +13,17 @@ use Rattle.filter_gather.proofs.Laws.Seen.{place_none, place_some, unknown-store
 use Rattle.filter_gather.proofs.gather.add_clause.Goals as goal
 use Rattle.filter_gather.proofs.gather.add_clause.Goals.{Else-place-ge-CLAUSE_COUNT}
 
-named : (c : Else-place-ge-CLAUSE_COUNT) → name_spelled (cut c.args.s.now c.args.clause.name_start c.args.clause.name_len) ≡ some (clause_name_at c.place_of-place.result)
+named : (c : Else-place-ge-CLAUSE_COUNT) → name_spelled (cut c.args.s.now c.args.clause.name_start c.args.clause.name_len) ≡ Some (clause_name_at c.place_of-place.result)
 named c =
     let p = c.place_of-place.ensures in
-    place_some _ (rw p at c.if-place-ge-CLAUSE_COUNT.false) ∙ ap (λ (i : ℕ). some (clause_name_at i)) (sym p)
+    place_some _ (rw p at c.if-place-ge-CLAUSE_COUNT.false) ∙ ap (λ (i : ℕ). Some (clause_name_at i)) (sym p)
 
 pub returns-then-place-ge-CLAUSE_COUNT : goal.returns-then-place-ge-CLAUSE_COUNT
 unfolding added
 returns-then-place-ge-CLAUSE_COUNT c =
     let s = c in
     let a = s.args in
-    let n : name_spelled (cut a.s.now a.clause.name_start a.clause.name_len) ≡ none = place_none _ (rw c.place_of-place.ensures at c.if-place-ge-CLAUSE_COUNT.true) in
+    let n : name_spelled (cut a.s.now a.clause.name_start a.clause.name_len) ≡ None = place_none _ (rw c.place_of-place.ensures at c.if-place-ge-CLAUSE_COUNT.true) in
     record {
       seen_len = simp length-set s.requires.1;
       seen_after = rw (added, n) (unknown-stored a.seen.now s.requires.1);

@@ -1,9 +1,8 @@
+use Rattle.std.proofs.Common.{Ok, option_map, unwrap_or}
 use mathlib.Core.Path.{◌≡◌, sym, ap, ◌∙◌}
 use mathlib.Core.Bool.{◌||◌}
 use mathlib.Core.List.{List}
-use mathlib.Core.Option.{map, get_or}
 use Prim.Native.Nat.{ℕ}
-use Rattle.answers.specs.Try.{good}
 use Rattle.answers.specs.Wire.{netlogon_nt_version_1}
 use Rattle.octets.specs.Number.{little}
 use Rattle.filter.specs.declared.request.Clause.{Clause}
@@ -36,10 +35,10 @@ pub returns : goal.returns
 unfolding ping_in decoded version_asked
 returns c =
     let s : List ℕ = c.args.s.now in
-    let a = c.number_in.ensures ∙ ap (λ (x : Clause). get_or (map little (octets_of s x)) 0) c.clause_seen-aac.ensures in
-    let v = c.number_in-2.ensures ∙ ap (λ (x : Clause). get_or (map little (octets_of s x)) netlogon_nt_version_1) c.clause_seen-nt_ver.ensures in
+    let a = c.number_in.ensures ∙ ap (λ (x : Clause). unwrap_or (option_map little (octets_of s x)) 0) c.clause_seen-aac.ensures in
+    let v = c.number_in-2.ensures ∙ ap (λ (x : Clause). unwrap_or (option_map little (octets_of s x)) netlogon_nt_version_1) c.clause_seen-nt_ver.ensures in
     rw (ping_in, judged (goal.at.returns c).After-has_wrong_value ∙ c.if-has_wrong_value.false)
-    (λ i. good (record {
+    (λ i. Ok (record {
       dns_domain_lem = octets_of s (c.clause_seen.ensures i);
       user = octets_of s (c.clause_seen-user.ensures i);
       aac = a i;

@@ -1,7 +1,7 @@
 -- Elements that were written, read back where they stand.
+use Rattle.std.proofs.Common.{Some, option_and_then}
 use mathlib.Core.Path.{◌≡◌, refl, sym, ap, ◌∙◌}
 use mathlib.Core.List.{List, [], ◌∷◌, ◌++◌, append_assoc}
-use mathlib.Core.Option.{some, bind}
 use Prim.Native.Nat.{ℕ, ◌+◌, ◌-◌, ◌/◌, ◌%◌, ◌≤◌, ◌<◌}
 use native.Mathlib.Nat.{add-zero}
 use native.Mathlib.Omega.{arith}
@@ -55,7 +55,7 @@ module _ (s : List ℕ) (at end tag : ℕ) (xs rest : List ℕ) (here : drop at 
       by_size n (length_at s at end ≡ element_length.Of (at + head_size n) n)
       (λ h.
       let o = by_octets n [] (octets-one n h) in
-      let w : length_width (get_or s (at + 1) 0) ≡ some 0 = ap length_width o.0 ∙ rw (lt-ltb n 0x80 h) in
+      let w : length_width (get_or s (at + 1) 0) ≡ Some 0 = ap length_width o.0 ∙ rw (lt-ltb n 0x80 h) in
       let z = head_two n h in
       length_of_lem s at end 0 (at + head_size n) n w (omega arith) o.0 fits)
       (λ h k.
@@ -70,13 +70,13 @@ module _ (s : List ℕ) (at end tag : ℕ) (xs rest : List ℕ) (here : drop at 
       length_of_lem s at end 2 (at + head_size n) n (width_two o.0) (omega arith) (value-at s at end 1 ∙ v) fits)
 
   -- and so is the element
-  pub element-back : n < 65536 → at + element_size n ≤ end → element_at s at end ≡ some (record { tag = tag; start = at + head_size n; next = at + head_size n + n })
+  pub element-back : n < 65536 → at + element_size n ≤ end → element_at s at end ≡ Some (record { tag = tag; start = at + head_size n; next = at + head_size n + n })
   element-back below fits =
       let b = head_bounds n in
       let t : get_or s at 0 ≡ tag = ap (λ (k : ℕ). get_or s k 0) (sym (add-zero at)) ∙ octet s ((tag ∷ length_octets n) ++ (xs ++ rest)) at 0 opened in
       element_known s at end (at + head_size n) n (omega arith) (length_back below (omega arith))
       ∙ ends-within (get_or s at 0) (at + head_size n) n end (omega arith)
-      ∙ (λ i. some (record { tag = t i; start = at + head_size n; next = at + head_size n + n }))
+      ∙ (λ i. Some (record { tag = t i; start = at + head_size n; next = at + head_size n + n }))
 
   -- the contents, and what stands after them
   pub contents-back : drop (at + head_size n) s ≡ xs ++ rest
@@ -86,22 +86,22 @@ module _ (s : List ℕ) (at end tag : ℕ) (xs rest : List ℕ) (here : drop at 
 pub record Again (s : List ℕ) (at end : ℕ) (name : ClauseName) (value : List ℕ) : Type 0 where
   pub element : Element
   pub clause : RawClause
-  pub there : element_at s at end ≡ some element
+  pub there : element_at s at end ≡ Some element
   pub tagged : element.tag ≡ equality_tag
-  pub ends : element.next ≡ at + length (equality_for name (some value))
-  pub reads : equality s element.start element.next ≡ some clause
+  pub ends : element.next ≡ at + length (equality_for name (Some value))
+  pub reads : equality s element.start element.next ≡ Some clause
   pub named : cut s clause.name_start clause.name_len ≡ spelling name
   pub valued : cut s clause.start clause.len ≡ value
 
-pub equality-back : (s : List ℕ) (at end : ℕ) (name : ClauseName) (value rest : List ℕ) → drop at s ≡ equality_for name (some value) ++ rest → at + length (equality_for name (some value)) ≤ end → end < 65536 → Again s at end name value
-unfolding equality bind
+pub equality-back : (s : List ℕ) (at end : ℕ) (name : ClauseName) (value rest : List ℕ) → drop at s ≡ equality_for name (Some value) ++ rest → at + length (equality_for name (Some value)) ≤ end → end < 65536 → Again s at end name value
+unfolding equality option_and_then
 equality-back s at end name value rest here fits below =
     let x : List ℕ = element string_tag (spelling name) in
     let y : List ℕ = element string_tag value in
     let lx : length x ≡ element_size (length (spelling name)) = element-length string_tag (spelling name) in
     let ly : length y ≡ element_size (length value) = element-length string_tag value in
     let lxy : length (x ++ y) ≡ length x + length y = length-append x y in
-    let l : length (equality_for name (some value)) ≡ element_size (length (x ++ y)) = element-length equality_tag (x ++ y) in
+    let l : length (equality_for name (Some value)) ≡ element_size (length (x ++ y)) = element-length equality_tag (x ++ y) in
     let b = head_bounds (length (spelling name)) in
     let c = head_bounds (length value) in
     let start : ℕ = at + head_size (length (x ++ y)) in

@@ -1,8 +1,8 @@
 -- The search for a tail: it says what a name writes, goes name by name, and label by label.
+use Rattle.std.proofs.Common.{Option, None, Some}
 use mathlib.Core.Path.{◌≡◌, refl, sym, ap, ap₂, ◌∙◌}
 use mathlib.Core.Bool.{Bool, true, false, cond}
 use mathlib.Core.List.{List, [], ◌∷◌, ◌++◌, flat_map, append_assoc}
-use mathlib.Core.Option.{Option, none, some}
 use Prim.Native.Nat.{ℕ, suc, ◌+◌, ◌-◌, ◌≤◌, ◌<◌}
 use native.Mathlib.Omega.{arith}
 use lib.Dec.{ltb}
@@ -74,8 +74,8 @@ written_by_search earlier at (l ∷ ls) = go (first (λ t. same t.text (joined (
 
     go : (f : Option Tail) → rest ≡ written (at + (1 + length l)) (first_aim earlier ls) ls
         → pointer_or f (literally at (joined (l ∷ ls)) l rest) ≡ written at (aim_or f (shift (1 + length l) (first_aim earlier ls))) (l ∷ ls)
-    go none e = ap (literally at (joined (l ∷ ls)) l) e ∙ aim-more at (first_aim earlier ls) l ls
-    go (some t) e = refl
+    go None e = ap (literally at (joined (l ∷ ls)) l) e ∙ aim-more at (first_aim earlier ls) l ls
+    go (Some t) e = refl
 
 -- ---- name by name
 
@@ -108,9 +108,9 @@ search_append ts us (l ∷ ls) =
     go : (f g : Option Tail) → first_aim (ts ++ us) ls ≡ better_aim (first_aim ts ls) (first_aim us ls)
         → aim_or (or_else f g) (shift (1 + length l) (first_aim (ts ++ us) ls))
         ≡ better_aim (aim_or f (shift (1 + length l) (first_aim ts ls))) (aim_or g (shift (1 + length l) (first_aim us ls)))
-    go (some t) g e = sym (better_none t.offset (aim_or g (shift (1 + length l) (first_aim us ls))))
-    go none (some u) e = sym (better_later (length l) u.offset (first_aim ts ls))
-    go none none e = ap (shift (1 + length l)) e ∙ sym (better_shift (1 + length l) (first_aim ts ls) (first_aim us ls))
+    go (Some t) g e = sym (better_none t.offset (aim_or g (shift (1 + length l) (first_aim us ls))))
+    go None (Some u) e = sym (better_later (length l) u.offset (first_aim ts ls))
+    go None None e = ap (shift (1 + length l)) e ∙ sym (better_shift (1 + length l) (first_aim ts ls) (first_aim us ls))
 
 pub search_none : (ls : List (List ℕ)) → first_aim [] ls ≡ Nothing
 unfolding first_aim first

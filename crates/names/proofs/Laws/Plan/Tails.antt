@@ -1,8 +1,8 @@
 -- The tails that one name offers, and the one test that finds a tail among them.
+use Rattle.std.proofs.Common.{Option, None, Some}
 use mathlib.Core.Path.{◌≡◌, refl, sym, ap, ap₂, ◌∙◌}
 use mathlib.Core.Bool.{Bool, true, false, cond, ◌&&◌, and-false}
 use mathlib.Core.List.{List, [], ◌∷◌}
-use mathlib.Core.Option.{Option, none, some}
 use Prim.Native.Nat.{ℕ, zero, suc, ◌+◌, ◌-◌, ◌≤◌, ◌<◌}
 use native.Mathlib.Omega.{arith}
 use lib.Dec.{eqb, ltb, leb}
@@ -98,21 +98,21 @@ module _ (x : List ℕ) where
   pass true at s rest h = rw (same_lengths s x h)
   pass false at s rest h = refl
 
-  none_longer : (y at m : ℕ) (s : List ℕ) → length s < length x → first is_tail (tails_after y at m s) ≡ none
+  none_longer : (y at m : ℕ) (s : List ℕ) → length s < length x → first is_tail (tails_after y at m s) ≡ None
   unfolding first
   none_longer y at zero s h = refl
   none_longer y at (suc m) [] h = pass (eqb y 46) at [] [] (λ e. omega arith)
   none_longer y at (suc m) (z ∷ zs) h = pass (eqb y 46) at (z ∷ zs) (tails_after z (at + 1) m zs) (λ e. omega arith) ∙ none_longer z (at + 1) m zs (omega arith)
 
   abbrev found_if : Bool → ℕ → List ℕ → Option Tail
-  found_if t at s = cond t (some (tail_at at s)) none
+  found_if t at s = cond t (Some (tail_at at s)) None
 
-  found_here : (t : Bool) (at : ℕ) (s : List ℕ) (rest : List Tail) → first is_tail rest ≡ none → first is_tail (keep_if t (tail_at at s) rest) ≡ found_if (t && same s x) (at + 0) s
+  found_here : (t : Bool) (at : ℕ) (s : List ℕ) (rest : List Tail) → first is_tail rest ≡ None → first is_tail (keep_if t (tail_at at s) rest) ≡ found_if (t && same s x) (at + 0) s
   unfolding first
   found_here true at s rest e = go (same s x)
     where
       go : (b : Bool) → first_or b (tail_at at s) (first is_tail rest) ≡ found_if b (at + 0) s
-      go true = let k : at ≡ at + 0 = omega arith in ap (λ (n : ℕ). some (tail_at n s)) k
+      go true = let k : at ≡ at + 0 = omega arith in ap (λ (n : ℕ). Some (tail_at n s)) k
       go false = e
   found_here false at s rest e = e
 

@@ -1,6 +1,6 @@
+use Rattle.std.proofs.Common.{None, Some}
 use mathlib.Core.Path.{◌≡◌, refl}
 use mathlib.Core.Bool.{true, false}
-use mathlib.Core.Option.{none, some}
 use borrow.Author.Tests.{not-true, not-false}
 use Rattle.octets.specs.Lists.{cut}
 use Rattle.reader.specs.Reader.{read_address}
@@ -13,7 +13,7 @@ unfolding read_address
 returns-then-not-asked c =
     let a = c.args in
     let e : a.asked ≡ false = not-true a.asked c.if-not-asked.true-raw in
-    (none, rw e, refl)
+    (None, rw e, refl)
 
 pub returns-in-Refused : goal.returns-in-Refused
 unfolding read_address
@@ -55,7 +55,7 @@ returns-in-Next-fixed_at c =
     let s = a.reply.now in
     let e : a.asked ≡ true = not-false a.asked c.if-not-asked.false-raw in
     let start = c.in-Next-fixed_u32_at.next in (
-      some (record { start = start; len = 4 }),
+      Some (record { start = start; len = 4 }),
       rw (
         e,
         told (field_in (cut s a.at 1)) c.in-Next.is c.fixed_at.ensures.result_value,

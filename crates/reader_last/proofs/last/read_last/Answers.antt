@@ -1,6 +1,6 @@
+use Rattle.std.proofs.Common.{None}
 use mathlib.Core.Path.{refl, sym, subst}
 use mathlib.Core.Bool.{Bool}
-use mathlib.Core.Option.{none}
 use Rattle.answers.specs.Wire.{ex_version}
 use Rattle.octets.specs.Lists.{cut}
 use Rattle.reader.specs.Reader.{read_last}
@@ -18,7 +18,7 @@ pub returns-in-Next : goal.returns-in-Next
 unfolding read_last
 returns-in-Next c =
     let a = c.args in (
-      record { next_site_lem = none; version = ex_version },
+      record { next_site_lem = None; version = ex_version },
       rw (c.if-present.false, told (field_in (cut a.reply.now a.at 4)) c.in-Next.is c.fixed_u32_at.ensures.result_value),
       refl,
       refl,

@@ -1,5 +1,5 @@
+use Rattle.std.proofs.Common.{Some}
 use mathlib.Core.Path.{refl, subst, ap}
-use mathlib.Core.Option.{some}
 use Rattle.answers.specs.Wire.{ex_version_with_next_site}
 use Rattle.octets.specs.Lists.{cut}
 use Rattle.reader.specs.Reader.{joined_name, read_last}
@@ -38,7 +38,7 @@ returns c =
     let a = c.args in
     let n = subst (NameOf a.reply.now a.at) c.in-Name.is c.read_name.ensures in
     let next = c.in-Name.field.next in (
-      record { next_site_lem = some (joined_name a.at n.0); version = ex_version_with_next_site },
+      record { next_site_lem = Some (joined_name a.at n.0); version = ex_version_with_next_site },
       rw (n.1, told (field_in (cut a.reply.now next 4)) c.in-Next.is c.fixed_u32_at.ensures.result_value, ← c.has_bits.ensures, c.if-not-has_bits.false-raw),
       ap (λ (x : NameAt). Name x) n.2,
       refl,

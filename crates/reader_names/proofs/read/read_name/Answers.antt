@@ -1,9 +1,9 @@
+use Rattle.std.proofs.Common.{Ok}
 use mathlib.Core.Path.{◌≡◌, sym, ap, ◌∙◌, subst}
 use mathlib.Core.List.{List, []}
 use Prim.Native.Nat.{ℕ, ◌+◌}
 use native.Mathlib.Omega.{arith}
 use lib.ListN.{length}
-use Rattle.answers.specs.Try.{good}
 use Rattle.octets.specs.Label.{joined}
 use Rattle.reader_names.specs.declared.step.NameStep.{NameStep}
 use Rattle.reader_names.specs.declared.step.NameStep.TheVariants as step
@@ -46,7 +46,7 @@ returns-in-Ends c =
     let e = name-ends a.reply.now a.start l.invariant.1 (taken (goal.at.returns-in-Ends c).After-name_step step.Ends c.in-Ends.is) in
     let long : c.text_len.result ≡ length (joined read) = omega (arith, joined_length read, l.invariant.1.written, c.text_len.ensures) in (
       record { labels = read; pointers = l.pointers },
-      e ∙ ap (λ (n : ℕ). good (record { value = record { labels = read; pointers = l.pointers }; next = n })) (sym c.field_end.ensures),
+      e ∙ ap (λ (n : ℕ). Ok (record { value = record { labels = read; pointers = l.pointers }; next = n })) (sym c.field_end.ensures),
       ap (λ (n : ℕ). record { start = a.start; len = n; pointers = l.pointers }) long,
     )
 

@@ -1,4 +1,4 @@
-use mathlib.Core.Option.{map}
+use Rattle.std.proofs.Common.{option_map}
 use mathlib.Core.Path.{ap, ◌∙◌}
 use Rattle.table.specs.Account.{account_of}
 use Rattle.table_lookup.specs.Lookup.{account_by_name}
@@ -9,6 +9,6 @@ pub returns : goal.returns
 unfolding account_by_name
 returns c =
     record {
-      result_value = ap (map account_of) c.first_record.ensures.result_value ∙ account_search _ _ _;
+      result_value = ap (option_map account_of) c.first_record.ensures.result_value ∙ account_search _ _ _;
       lies_in = c.first_record.ensures.lies_in;
     }

@@ -1,6 +1,6 @@
+use Rattle.std.proofs.Common.{Some}
 use Prim.Native.Nat.{ℕ, ◌+◌, ◌≤◌}
 use mathlib.Core.List.{List}
-use mathlib.Core.Option.{some}
 use mathlib.Core.Path.{◌≡◌, sym, ap, subst, ◌∙◌}
 use lib.ListN.{length}
 use Rattle.octets.specs.Lists.{first, cut}
@@ -19,7 +19,7 @@ use Rattle.table_lookup.proofs.lookup.client_site.Goals.{After-first_site-2}
 
 -- the first site, where it stands
 first-there : (c : After-first_site-2)
-    → some (site_of (cut c.args.image.now c.in-At.offset site_format.width))
+    → Some (site_of (cut c.args.image.now c.in-At.offset site_format.width))
     ≡ first (is_site Any) (table_from c.args.image.now).sites
 first-there c = ap (site_at c.args.image.now) (sym c.in-At.is) ∙ c.first_site.ensures.result_value
 

@@ -1,4 +1,4 @@
-use mathlib.Core.Option.{map}
+use Rattle.std.proofs.Common.{option_map}
 use mathlib.Core.Path.{ap, ◌∙◌}
 use Rattle.table.specs.Context.{context_of}
 use Rattle.table_lookup.specs.Lookup.{context_by_number}
@@ -9,6 +9,6 @@ pub returns : goal.returns
 unfolding context_by_number
 returns c =
     record {
-      result_value = ap (map context_of) c.first_record.ensures.result_value ∙ context_search _ _ _;
+      result_value = ap (option_map context_of) c.first_record.ensures.result_value ∙ context_search _ _ _;
       lies_in = c.first_record.ensures.lies_in;
     }

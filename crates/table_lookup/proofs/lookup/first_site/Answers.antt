@@ -1,4 +1,4 @@
-use mathlib.Core.Option.{map}
+use Rattle.std.proofs.Common.{option_map}
 use mathlib.Core.Path.{ap, ◌∙◌}
 use Rattle.table.specs.Site.{site_of}
 use Rattle.table_find.proofs.Laws.Find.{site_search}
@@ -7,6 +7,6 @@ use Rattle.table_lookup.proofs.lookup.first_site.Goals as goal
 pub returns : goal.returns
 returns c =
     record {
-      result_value = ap (map site_of) c.first_record.ensures.result_value ∙ site_search _ _ _;
+      result_value = ap (option_map site_of) c.first_record.ensures.result_value ∙ site_search _ _ _;
       lies_in = c.first_record.ensures.lies_in;
     }

@@ -1,6 +1,6 @@
+use Rattle.std.proofs.Common.{Some}
 use Prim.Native.Nat.{ℕ, ◌+◌, ◌*◌, ◌≤◌}
 use mathlib.Core.Bool.{true, false}
-use mathlib.Core.Option.{some}
 use mathlib.Core.Path.{◌≡◌, sym, ap, ◌∙◌}
 use native.Mathlib.Omega.{arith}
 use lib.ListN.{length, drop}
@@ -37,7 +37,7 @@ returns-then-is_found_by c =
     let fits : l.offset + w ≤ length a.image.now = room (goal.at.returns-then-is_found_by c).In-loop-left in
     let e : is_found_by a.key a.asked.now (cut a.image.now l.offset w) ≡ true = ap (is_found_by a.key a.asked.now) (sym c.part.ensures) ∙ sym c.is_found_by.ensures ∙ c.if-is_found_by.true in
     record {
-      result_value = ap (λ (n : ℕ). some (cut a.image.now l.offset n)) (sym l.invariant.1) ∙ left-found (is_found_by a.key a.asked.now) a.image.now w l.left l.offset c.loop-left-test.true e ∙ l.invariant.2;
+      result_value = ap (λ (n : ℕ). Some (cut a.image.now l.offset n)) (sym l.invariant.1) ∙ left-found (is_found_by a.key a.asked.now) a.image.now w l.left l.offset c.loop-left-test.true e ∙ l.invariant.2;
       lies_in = omega (arith, l.invariant.1);
     }
 

@@ -1,6 +1,6 @@
+use Rattle.std.proofs.Common.{None, Some}
 use Prim.Native.Nat.{◌≤◌}
 use native.Mathlib.Omega.{arith}
-use mathlib.Core.Option.{none, some}
 use mathlib.Core.Path.{refl, sym, ap, subst, ◌∙◌}
 use lib.ListN.{length}
 use Rattle.table_whole.proofs.Laws.Judgement.{accepted_bounds}
@@ -26,7 +26,7 @@ returns-in-At c =
     let k = kind_for a.key in
     let e = c.in-At.is in
     record {
-      result_value = search_step a.key a.asked.now a.image.now l.i (some _) c.loop-i-test.true (ap (record_found a.image.now k) (sym e) ∙ b.ensures.result_value) ∙ l.invariant;
+      result_value = search_step a.key a.asked.now a.image.now l.i (Some _) c.loop-i-test.true (ap (record_found a.image.now k) (sym e) ∙ b.ensures.result_value) ∙ l.invariant;
       lies_in = subst (LiesIn a.image.now k) e b.ensures.lies_in;
     }
 
@@ -37,7 +37,7 @@ loop-i-preserved c =
     let b = c.first_in_block in
     let k = kind_for a.key in
     let e = c.in-Nothing.is in
-    search_step a.key a.asked.now a.image.now l.i none c.loop-i-test.true (ap (record_found a.image.now k) (sym e) ∙ b.ensures.result_value) ∙ l.invariant
+    search_step a.key a.asked.now a.image.now l.i None c.loop-i-test.true (ap (record_found a.image.now k) (sym e) ∙ b.ensures.result_value) ∙ l.invariant
 
 pub returns : goal.returns
 returns c =

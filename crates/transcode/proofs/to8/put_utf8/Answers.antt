@@ -1,7 +1,7 @@
+use Rattle.std.proofs.Common.{Option, Some, unwrap_or}
 use borrow.Author.Rules.{rules}
 use mathlib.Core.Path.{◌≡◌, refl, sym, ap, ◌∙◌, subst}
 use mathlib.Core.List.{List, [], ◌++◌}
-use mathlib.Core.Option.{Option, some, get_or}
 use Prim.Native.Nat.{ℕ, ◌+◌, ◌-◌, ◌≤◌}
 use native.Mathlib.Omega.{arith}
 use lib.ListN.{length, drop, length-take, length-drop, length-append}
@@ -43,7 +43,7 @@ module _ (c : After-put_point-arg-1) where
 pub returns-in-NoText : goal.returns-in-NoText
 returns-in-NoText c =
     let a = c.args in
-    let e : utf8_text a.s.now ≡ [] = ap (λ (x : Option (List ℕ)). get_or x []) (subst (SizeTold a.s.now) c.in-NoText.is c.utf8_size-told.ensures) in
+    let e : utf8_text a.s.now ≡ [] = ap (λ (x : Option (List ℕ)). unwrap_or x []) (subst (SizeTold a.s.now) c.in-NoText.is c.utf8_size-told.ensures) in
     record {
       value = sym (ap length e);
       out_after = sym (ap (λ (x : List ℕ). over x a.out.now) e ∙ over_none a.out.now);
@@ -54,7 +54,7 @@ unfolding utf8_from16
 loop-written-init c =
     let a = c.args in
     let p = subst (SizeTold a.s.now) c.in-Takes.is c.utf8_size-told.ensures in
-    ([], omega arith, refl, refl, refl, sym (over_none a.out.now), sym (length-told (utf8_from16 a.s.now) (some c.in-Takes.size) p.0))
+    ([], omega arith, refl, refl, refl, sym (over_none a.out.now), sym (length-told (utf8_from16 a.s.now) (Some c.in-Takes.size) p.0))
 
 pub returns-in-End : goal.returns-in-End
 returns-in-End c =

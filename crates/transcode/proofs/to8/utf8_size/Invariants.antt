@@ -1,6 +1,7 @@
+use Rattle.std.proofs.Common.{option_map}
 use borrow.Author.Rules.{rules}
 use mathlib.Core.Path.{◌≡◌, sym, ap, ◌∙◌, subst}
-use mathlib.Core.Option.{map, map-eq-none_iff}
+use Rattle.octets.proofs.Laws.Option.{mapped_none}
 use Prim.Native.Nat.{◌*◌, ◌-◌, ◌≤◌}
 use native.Mathlib.Omega.{arith}
 use lib.ListN.{length, drop}
@@ -13,7 +14,7 @@ use Rattle.transcode.proofs.to8.utf8_size.Given as goal
 
 -- every code point takes at least two octets of the text, and at most three for each two of them
 abbrev pub invariant-loop-point : goal.invariant-loop-point
-invariant-loop-point l = (l.at ≤ length l.s) × (2 * l.size ≤ 3 * l.at) × (size_left utf8_of l.size (points_of16 (drop l.at l.s)) ≡ map length (utf8_from16 l.s))
+invariant-loop-point l = (l.at ≤ length l.s) × (2 * l.size ≤ 3 * l.at) × (size_left utf8_of l.size (points_of16 (drop l.at l.s)) ≡ option_map length (utf8_from16 l.s))
 
 abbrev pub decreases-loop-point : goal.decreases-loop-point
 decreases-loop-point l = length l.s - l.at
