@@ -40,13 +40,14 @@ pub fn name_run(s: &[u8], start: usize) -> usize
     requires { start ≤ length s.now }
     ensures { NameRun s.now start result }
 {
-    for at in start..s.len() {
+    let end = s.len();
+    for at in start..end {
         let octet = s[at];
         if (octet == 0) | (0x7F < octet) {
             return at;
         }
     }
-    s.len()
+    end
 }
 
 pub fn is_mailslot_name(s: &[u8]) -> bool

@@ -14,7 +14,7 @@ use Rattle.answers.specs.Wire.{logon_sam_logon_request, LmNtToken, Lm20Token}
 use Rattle.answers.proofs.Laws.Try.{good-same}
 use Rattle.octets.specs.Number.{u16_at, u32_at}
 use Rattle.octets.proofs.Laws.Lists.{both_left, both_right}
-use Rattle.reader.specs.Field.{Read}
+use Rattle.reader.specs.declared.field.Read.{Read}
 use Rattle.octets.specs.declared.part.Stretch.{Stretch}
 use Rattle.mailslot.specs.declared.message.Message.{Message}
 use Rattle.mailslot.specs.Message.{is_message_user, message_in}

@@ -13,7 +13,7 @@ use Rattle.octets.specs.{Lists.all, Number.little_octets}
 use Rattle.octets.proofs.Laws.Lists.{both_right}
 use Rattle.octets.specs.declared.part.Stretch.{Stretch}
 use Rattle.octets.specs.Stretch.{stretch_of}
-use Rattle.reader.specs.Field.{Read}
+use Rattle.reader.specs.declared.field.Read.{Read}
 use Rattle.reader.specs.Text.{read_text}
 use Rattle.reader.proofs.Laws.Field.{Left, left_after, left-next, left_cut, left-length, octets_here, stretch_here}
 use Rattle.reader.proofs.Laws.Text.{text-after}
