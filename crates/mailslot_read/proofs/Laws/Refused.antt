@@ -58,10 +58,10 @@ texts-found s computer user mailslot o t =
       mailslot_end_lem = record { to = omega (arith, t.mailslot_ends.to); found = λ h. t.mailslot_ends; only = λ e q. same_octet (sym (name-read s (user + 2) e q) ∙ name-read s (user + 2) mailslot t.mailslot_ends) };
     }
   where
-    same_end : {start e f : ℕ} → Ok (text_field start e) ≡ Ok (text_field start f) → e ≡ f
+    same_end : {start e f : ℕ} → ◌≡◌ {A = Try (Read Stretch)} (Ok (text_field start e)) (Ok (text_field start f)) → e ≡ f
     same_end {start} {e} {f} q = let n : e + 2 ≡ f + 2 = ap (λ (x : Read Stretch). x.next) (good-same q) in omega arith
 
-    same_octet : {start e f : ℕ} → Ok (name_field start e) ≡ Ok (name_field start f) → e ≡ f
+    same_octet : {start e f : ℕ} → ◌≡◌ {A = Try (Read Stretch)} (Ok (name_field start e)) (Ok (name_field start f)) → e ≡ f
     same_octet {start} {e} {f} q = let n : e + 1 ≡ f + 1 = ap (λ (x : Read Stretch). x.next) (good-same q) in omega arith
 
 -- found within the message, they are good

@@ -10,7 +10,6 @@ use native.Mathlib.Omega.{arith}
 use lib.Dec.{eqb, ltb}
 use lib.ListN.{length, take}
 use Rattle.answers.specs.declared.Refusal.TheVariants.{MailslotShape, NoRoom}
-use Rattle.answers.specs.declared.written.Written.TheVariants as written
 use Rattle.answers.specs.Try.{Try, refused_if}
 use Rattle.answers.specs.Wire.{logon_sam_logon_request}
 use Rattle.answers.specs.Written.{written_as, written_octets}
@@ -24,7 +23,6 @@ use Rattle.reader.proofs.Laws.Reader.{tokens, constant_here, number_here, number
 use Rattle.reply.specs.Reply.{u16, u32, ending}
 use Rattle.mailslot.specs.declared.message.Message.{Message}
 use Rattle.mailslot.specs.Message.{good_message, read_zero_ended, read_sid, read_fields, message_in, message_head, padded_sid, message_octets, message_for}
-use Rattle.mailslot.specs.Read.{message_as}
 use Rattle.mailslot.proofs.Laws.Longest.{longest_message}
 use Rattle.mailslot.proofs.Laws.Shape.{GoodParts, good-parts, good_numbers}
 use Rattle.mailslot.proofs.Laws.User.{computer-text, user-text}
@@ -200,4 +198,4 @@ calls_round_trip source m before after w n r wrote laid answer took = by (messag
         let l : length octets ≡ n = cc in
         let t : take n after ≡ octets = ap (take n) (laid ∙ ap (λ (x : Try (List ℕ)). over (written_octets x) before) e) ∙ over_front octets before n l in
         let b = round_trip source m (length before) octets e in
-        (b.0, took.same ∙ ap message_in t ∙ b.1, subst (λ (x : List ℕ). SameMessage x b.0 source m) (sym t) b.2)
+        (b.0, took ∙ ap message_in t ∙ b.1, subst (λ (x : List ℕ). SameMessage x b.0 source m) (sym t) b.2)

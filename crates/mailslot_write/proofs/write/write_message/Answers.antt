@@ -6,7 +6,6 @@ use Prim.Native.Nat.{ℕ, ◌≤◌}
 use native.Mathlib.Omega.{arith}
 use lib.ListN.{length}
 use Rattle.std.proofs.Common.{Ok, Err}
-use Rattle.answers.specs.declared.Refusal.{Refusal}
 use Rattle.answers.specs.declared.Refusal.TheVariants.{MailslotShape, NoRoom}
 use Rattle.answers.proofs.Laws.Written.{written_promised}
 use Rattle.octets.proofs.Laws.Buffer.{over_none}
@@ -58,5 +57,5 @@ returns c =
     let n = c.message_size-size.ensures in
     let w : WriteMessageReturns a.source.now a.message a.out.now (Ok c.message_size-size.result) × WriteMessageLeaves a.source.now a.message a.out.now c.put_message.new.out =
     written_promised _ _
-    (rw (answer_good a.source.now a.message (length a.out.now) (is-good (goal.at.returns c).Else-not-is_good_message) (rw n at c.if-out-size.false)) (ap (λ (x : ℕ). Ok {E = Refusal} x) n, c.put_message.ensures)) in
+    (rw (answer_good a.source.now a.message (length a.out.now) (is-good (goal.at.returns c).Else-not-is_good_message) (rw n at c.if-out-size.false)) (λ i. Ok (n i), c.put_message.ensures)) in
     record { write_message_returns = w.0; write_message_leaves = w.1 }
