@@ -18,11 +18,15 @@ use Rattle.reader.specs.declared.field.Read.{Read}
 use Rattle.octets.specs.declared.part.Stretch.{Stretch}
 use Rattle.mailslot.specs.declared.message.Message.{Message}
 use Rattle.mailslot.specs.Message.{is_message_user, message_in}
+use Rattle.mailslot.specs.Read.{ReadMessagePromise}
 use Rattle.mailslot.specs.Internal.Shape.{EndsText, EndsName, OneEnd, Texts, Numbers, sid_padding, is_sid_size}
 use Rattle.mailslot.proofs.Laws.Ends.{text_field, name_field, name-read}
 use Rattle.mailslot.proofs.Laws.Field.{Octets}
 use Rattle.mailslot.proofs.Laws.Shape.{Shape, shape_refused, shape_read}
 use Rattle.mailslot.proofs.Laws.User.{computer-read, user-read, computer_as_user, user_as_computer}
+
+pub promised : (s : List ℕ) (r : Try Message) → r ≡ message_in s → ReadMessagePromise s r
+promised s r e = record { same = e; numbered = ap number_of e; given = ap value_of e }
 
 pub shapeless : (s : List ℕ) → (Shape s → ⊥) → Err MailslotShape ≡ message_in s
 shapeless s none = sym ((shape_refused s none))

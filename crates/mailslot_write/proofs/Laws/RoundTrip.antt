@@ -198,4 +198,4 @@ calls_round_trip source m before after w n r wrote laid answer took = by (messag
         let l : length octets ≡ n = cc in
         let t : take n after ≡ octets = ap (take n) (laid ∙ ap (λ (x : Try (List ℕ)). over (written_octets x) before) e) ∙ over_front octets before n l in
         let b = round_trip source m (length before) octets e in
-        (b.0, took ∙ ap message_in t ∙ b.1, subst (λ (x : List ℕ). SameMessage x b.0 source m) (sym t) b.2)
+        (b.0, took.same ∙ ap message_in t ∙ b.1, subst (λ (x : List ℕ). SameMessage x b.0 source m) (sym t) b.2)
