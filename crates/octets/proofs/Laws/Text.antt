@@ -1,6 +1,6 @@
 -- Laws of comparing texts: over what is left at an index, for any way of folding an octet.
 use mathlib.Core.Path.{◌≡◌, refl, sym, ap, ap₂, ◌∙◌}
-use mathlib.Core.Bool.{Bool, true, false, ◌&&◌, and_assoc}
+use mathlib.Core.Bool.{Bool, true, false, ◌&&◌, ◌||◌, and_assoc}
 use mathlib.Core.List.{List, [], ◌∷◌, map}
 use Prim.Native.Nat.{ℕ, zero, suc, ◌*◌, ◌≤◌, ◌<◌}
 use native.Mathlib.Omega.{arith}
@@ -110,13 +110,24 @@ lowercase x = go (ltb x 65) refl (ltb x 91) refl
     go false e true f = let h : x < 91 = ltb-true x 91 f in rw (e, f, le-leb 65 x (ltb-false x 65 e), le-leb x 90 (omega arith))
     go false e false f = let h : 91 ≤ x = ltb-false x 91 f in rw (e, f, le-leb 65 x (ltb-false x 65 e), lt-leb x 90 (omega arith))
 
+-- octets that are the same, or are with case ignored
+abbrev pub alike_octets : ℕ × ℕ → Bool
+alike_octets p = eqb p.0 p.1 || eq_ignore_ascii_case p.0 p.1
+
+octets_folded : (x y : ℕ) → alike_octets (x, y) ≡ eqb (lower x) (lower y)
+octets_folded x y = go (eqb x y) refl
+  where
+    go : (b : Bool) → eqb x y ≡ b → alike_octets (x, y) ≡ eqb (lower x) (lower y)
+    go true e = rw e (sym (eq-eqb (lower x) (lower y) (ap lower (eqb-true x y e))))
+    go false e = rw e (ap₂ eqb (lowercase x) (lowercase y))
+
 -- in pairs, where they are as long
-pub pairs_folded : (xs ys : List ℕ) → length xs ≡ length ys → list_all (λ p. eq_ignore_ascii_case p.0 p.1) (zip xs ys) ≡ same_folded xs ys
+pub pairs_folded : (xs ys : List ℕ) → length xs ≡ length ys → list_all alike_octets (zip xs ys) ≡ same_folded xs ys
 unfolding same
 pairs_folded [] [] e = refl
 pairs_folded [] (y ∷ ys) e = absurd (omega (arith, e))
 pairs_folded (x ∷ xs) [] e = absurd (omega (arith, e))
-pairs_folded (x ∷ xs) (y ∷ ys) e = ap₂ ◌&&◌ (ap₂ eqb (lowercase x) (lowercase y)) (pairs_folded xs ys (omega (arith, e)))
+pairs_folded (x ∷ xs) (y ∷ ys) e = ap₂ ◌&&◌ (octets_folded x y) (pairs_folded xs ys (omega (arith, e)))
 
 -- as many zeros
 pub zeros_pointwise : (n : ℕ) (xs : List ℕ) → length xs ≡ n → pointwise eqb xs (replicate n 0) ≡ all_zero xs
