@@ -1,4 +1,3 @@
-use borrow.Author.Rules.{rules}
 use Rattle.lent.proofs.stretch.slot_text.Goals as goal
 
 pub returns-in-Table : goal.returns-in-Table
