@@ -1,4 +1,6 @@
 // A site, by its record's octets, and sites that other records refer to.
+#![tactic(auto, unfolding(crate::specs::Site::site_of))]
+
 ghost use Rattle.std.specs.Prelude.{◌≡◌, ◌≤◌};
 ghost use Rattle.octets.specs.Number.{u16_at};
 ghost use Rattle.table.specs.Block.{block_size};

@@ -1,4 +1,6 @@
 // A subnet, by its record's octets.
+#![tactic(auto, unfolding(crate::specs::Subnet::subnet_of))]
+
 ghost use Rattle.std.specs.Prelude.{◌≡◌};
 ghost use Rattle.table.specs.Subnet.{in_use_octet, subnet_of};
 
