@@ -64,10 +64,13 @@ module _ {A : Type 0} (w : ℕ) (h : 0 < w) where
       let back : drop w (x ++ rest) ≡ rest = ap (λ n. drop n (x ++ rest)) (sym e) ∙ drop-append_seam x rest in
       ap (λ n. pieces n w (x ++ rest)) count ∙ ap₂ (λ a b. a ∷ pieces (length rest / w) w b) front back
 
-  pub YieldsList-from_chunks_exact : {s : _} → chunks_exact_size {T = A} s ≡ w → YieldsList chunks_exact_steps (λ x. x.now) s (pieces (length (chunks_exact_rest s) / w) w (chunks_exact_rest s))
-  unfolding whole_pieces
-  YieldsList-from_chunks_exact {s} e =
+  chunks : {s : _} → chunks_exact_size {T = A} s ≡ w → YieldsList chunks_exact_steps (λ x. x.now) s (whole_pieces (chunks_exact_rest s))
+  chunks {s} e =
       YieldsList-from_shown_while chunks_exact_steps (λ x. x.now) (λ t. whole_pieces (chunks_exact_rest t)) (λ t. chunks_exact_size t ≡ w)
       (λ t u q k. ap length (no_piece (chunks_exact_rest t) (subst (λ n. length (chunks_exact_rest t) < n) q k.1.0)))
       (λ t x u q k. (k.0 ∙ q, ap whole_pieces k.1.0 ∙ next_piece x.now (chunks_exact_rest u) (k.1.1 ∙ q)))
       s e
+
+  pub YieldsList-from_chunks_exact : {s : _} (xs : List A) → chunks_exact_rest {T = A} s ≡ xs → chunks_exact_size s ≡ w → YieldsList chunks_exact_steps (λ x. x.now) s (pieces (length xs / w) w xs)
+  unfolding whole_pieces
+  YieldsList-from_chunks_exact {s} xs e size = subst (λ t. YieldsList chunks_exact_steps (λ x. x.now) s (pieces (length t / w) w t)) e (chunks size)
