@@ -20,7 +20,7 @@ use Rattle.table.specs.Countings.{block_place}
 use Rattle.table.specs.Format.{format_of}
 use Rattle.table.specs.Table.{bodies, is_used, records_of}
 use Rattle.table.proofs.Laws.Table.{body_if, bodies-cons, blocks_step, blocks_end}
-use Rattle.table_records.specs.Internal.Offset.{FitsBody, blocks_most, records_at, offsets_from, used_of}
+use Rattle.table_records.specs.Internal.Offset.{FitsBody, records_at, offsets_from, used_of}
 
 pub one_more : (n i : ℕ) → n * (i + 1) ≡ n * i + n
 one_more n i = rw add-one (mul-suc n i)

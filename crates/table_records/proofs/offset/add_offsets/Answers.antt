@@ -1,8 +1,8 @@
-use Rattle.std.proofs.Common.{◌≡◌, ◌+◌, ◌-◌, ◌*◌, ◌++◌, Bool, true, false, List, ℕ, not, length, take, sym, ap, ◌∙◌, arith, append-nil, length-set}
+use Rattle.std.proofs.Common.{◌≡◌, ◌+◌, ◌-◌, ◌*◌, ◌++◌, Bool, true, false, List, ℕ, not, take, sym, ap, ◌∙◌, arith, append-nil}
 use Rattle.octets.specs.Text.{all_zero}
 use Rattle.octets.specs.Lists.{keep_if}
 use Rattle.table_records.specs.Internal.Offset.{offsets_from}
-use Rattle.table_records.proofs.Laws.Offset.{offsets_step, offsets_end, put_offset, one_more, room_left}
+use Rattle.table_records.proofs.Laws.Offset.{offsets_step, offsets_end, put_offset, room_left}
 use Rattle.table_records.proofs.offset.add_offsets.Goals as goal
 use Rattle.table_records.proofs.offset.add_offsets.Goals.{then-not-all_zero, else-not-all_zero}
 
@@ -17,21 +17,21 @@ loop-i-preserved c =
     let at = a.from + f.width * l.i in
     let rest = offsets_from a.image.now f.width (a.from + f.width * (l.i + 1)) (f.count - (l.i + 1)) in
     let found : (b : Bool) → c.all_zero.result ≡ b → offsets_from a.image.now f.width at (f.count - l.i) ≡ keep_if (not b) at rest =
-        λ b e. offsets_step a.image.now f.width a.from f.count l.i (omega arith) ∙ ap (λ (b : Bool). keep_if (not b) at rest) (sym (c.all_zero.ensures ∙ ap all_zero c.part.ensures) ∙ e)
+    λ b e. offsets_step a.image.now f.width a.from f.count l.i (omega arith) ∙ ap (λ (b : Bool). keep_if (not b) at rest) (sym (c.all_zero.ensures ∙ ap all_zero c.part.ensures) ∙ e)
     in
     elim c.if-not-all_zero.branch [
-      then-not-all_zero w ↦
-        rw (w.count-is, w.out-is)
-        (record {
-          few = omega arith;
-          all = put_offset l.out l.count at rest (omega arith) ∙ sym (ap (λ (xs : List ℕ). take l.count l.out ++ xs) (found false w.if-not-all_zero.true)) ∙ l.invariant.all;
-        })
-    | else-not-all_zero w ↦
-        rw (w.count-is, w.out-is)
-        (record {
-          few = omega arith;
-          all = sym (ap (λ (xs : List ℕ). take l.count l.out ++ xs) (found true w.if-not-all_zero.false)) ∙ l.invariant.all;
-        })
+      | then-not-all_zero w ↦
+          rw (w.count-is, w.out-is)
+          (record {
+            few = omega arith;
+            all = put_offset l.out l.count at rest (omega arith) ∙ sym (ap (λ (xs : List ℕ). take l.count l.out ++ xs) (found false w.if-not-all_zero.true)) ∙ l.invariant.all;
+          })
+      | else-not-all_zero w ↦
+          rw (w.count-is, w.out-is)
+          (record {
+            few = omega arith;
+            all = sym (ap (λ (xs : List ℕ). take l.count l.out ++ xs) (found true w.if-not-all_zero.false)) ∙ l.invariant.all;
+          })
     ]
 
 pub returns-clause-out_after : goal.returns-clause-out_after
