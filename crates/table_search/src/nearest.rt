@@ -4,7 +4,6 @@ ghost use Rattle.octets.specs.Lists.{cut};
 ghost use Rattle.table.specs.declared.record.RecordKind.TheVariants as kind;
 ghost use Rattle.table.specs.Block.{blocks_of, body_size};
 ghost use Rattle.table.specs.Subnet.{subnet_format, subnet_of};
-ghost use Rattle.table_whole.specs.Judgement.{Accepted};
 ghost use Rattle.table_find.specs.Internal.Found.{LiesIn, subnet_at};
 ghost use Rattle.table_find.specs.Internal.Nearest.{longer, nearest_in_body, nearest_in};
 
@@ -12,6 +11,7 @@ use octets::part::part;
 use table::block::{BLOCK_SIZE, BODY, block_at, kind_of};
 use table::{BlockPlace, subnet};
 use table_find::subnet::is_holder;
+use table_whole::image::AcceptedImage;
 
 fn prefix_at(image: &[u8], offset: usize) -> u8
     ensures { result ≡ (subnet_of (cut image.now offset subnet_format.width)).prefix }
@@ -48,15 +48,15 @@ fn nearest_in_body(image: &[u8], start: Option<usize>, body: usize, address: u32
 }
 
 // The nearest of an image.
-pub fn nearest_subnet(image: &[u8], address: u32) -> Option<usize>
-    requires { Accepted image.now }
+pub fn nearest_subnet(image: &AcceptedImage, address: u32) -> Option<usize>
     ensures result_value { subnet_at image.now result ≡ nearest_in address None (blocks_of image.now) }
     ensures lies_in { LiesIn image.now kind.Subnet result }
 {
+    let octets = image.octets();
     let mut best = None;
-    for i in 0..image.len() / BLOCK_SIZE {
-        if kind_of(block_at(image, BlockPlace(i as u16))) == subnet::FORMAT.kind {
-            best = nearest_in_body(image, best, BLOCK_SIZE * i + BODY, address);
+    for i in 0..octets.len() / BLOCK_SIZE {
+        if kind_of(block_at(octets, BlockPlace(i as u16))) == subnet::FORMAT.kind {
+            best = nearest_in_body(octets, best, BLOCK_SIZE * i + BODY, address);
         }
     }
     best

@@ -3,7 +3,6 @@ ghost use Rattle.std.specs.Prelude.{◌≡◌, ◌+◌, ◌≤◌, ◌<◌, ◌/
 ghost use Rattle.octets.specs.Lists.{cut};
 ghost use Rattle.table.specs.Block.{block_size, blocks_of, body_size};
 ghost use Rattle.table.specs.Internal.BlockAt.{block_at};
-ghost use Rattle.table_whole.specs.Judgement.{Accepted};
 ghost use Rattle.table_find.specs.Internal.Found.{record_found, LiesIn};
 ghost use Rattle.table_find.specs.Internal.Search.{TestsAs, first_in_body, first_in_block, first_in};
 
@@ -12,6 +11,7 @@ use octets::text::all_zero;
 use table::BlockPlace;
 use table::block::{BLOCK_SIZE, BODY, block_at, kind_of};
 use table::record::{RecordKind, format_of};
+use table_whole::image::AcceptedImage;
 
 // The first that passes in the body at an offset. That a record is all zeros, and so unused, is the longer test, so it comes last.
 fn first_in_body<F: Fn(&[u8]) -> bool>(
@@ -55,14 +55,18 @@ fn first_in_block<F: Fn(&[u8]) -> bool>(
 }
 
 // The first record of an image that passes.
-pub fn first_record<F: Fn(&[u8]) -> bool>(image: &[u8], kind: RecordKind, test: F) -> Option<usize>
-    requires accepted { Accepted image.now }
-    requires callable { F.IsAlwaysCallable test }
+pub fn first_record<F: Fn(&[u8]) -> bool>(
+    image: &AcceptedImage,
+    kind: RecordKind,
+    test: F,
+) -> Option<usize>
+    requires { F.IsAlwaysCallable test }
     ensures result_value { (t : List ℕ → Bool) → TestsAs F.Fn test t → record_found image.now kind result ≡ first_in kind t (blocks_of image.now) }
     ensures lies_in { LiesIn image.now kind result }
 {
-    for i in 0..image.len() / BLOCK_SIZE {
-        if let Some(offset) = first_in_block(image, BlockPlace(i as u16), kind, &test) {
+    let octets = image.octets();
+    for i in 0..octets.len() / BLOCK_SIZE {
+        if let Some(offset) = first_in_block(octets, BlockPlace(i as u16), kind, &test) {
             return Some(offset);
         }
     }

@@ -1,4 +1,4 @@
-use Rattle.std.proofs.Common.{◌≡◌, refl, sym, ap, subst, ◌∙◌, Bool, true, false, ◌&&◌, List, ℕ, ◌+◌, Option, drop}
+use Rattle.std.proofs.Common.{◌≡◌, refl, sym, ap, subst, ◌∙◌, ◌&&◌, List, ℕ, ◌+◌, Option, drop}
 use Rattle.octets.specs.Lists.{cut}
 use Rattle.table.specs.declared.record.RecordKind.TheVariants as kind
 use Rattle.table.specs.Block.{body_size}
@@ -23,9 +23,9 @@ loop-i-preserved c =
     let r = record_there kind.Subnet a.image.now a.body l.i in
     let holds : c.is_holder.result ≡ (is_used r && in_subnet a.address (subnet_of r)) = c.is_holder.ensures ∙ ap (λ (s : List ℕ). is_used s && in_subnet a.address (subnet_of s)) c.part.ensures in
     let Kept : Option ℕ → Type 0 = λ best. LiesIn a.image.now kind.Subnet best
-        × (nearest_over a.address (subnet_at a.image.now best) (drop (l.i + 1) (records_at kind.Subnet a.image.now a.body)) ≡ nearest_in_body a.address (subnet_at a.image.now a.start) (cut a.image.now a.body body_size)) in
+    × (nearest_over a.address (subnet_at a.image.now best) (drop (l.i + 1) (records_at kind.Subnet a.image.now a.body)) ≡ nearest_in_body a.address (subnet_at a.image.now a.start) (cut a.image.now a.body body_size)) in
     elim c.if-is_holder.branch [
-      then-is_holder w ↦ subst Kept (sym w.best-is) (
+      | then-is_holder w ↦ subst Kept (sym w.best-is) (
         w.longer_prefix-best.ensures.lies_in,
         over_record a.address a.image.now a.body l.i (subnet_at a.image.now l.best) _ c.loop-i-test.true (w.longer_prefix-best.ensures.result_value ∙ held_in a.address (subnet_at a.image.now l.best) r (sym holds ∙ w.if-is_holder.true))
             ∙ l.invariant.1,

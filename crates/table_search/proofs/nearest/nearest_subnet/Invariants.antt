@@ -7,5 +7,5 @@ use Rattle.table_search.proofs.nearest.nearest_subnet.Given as goal
 
 abbrev pub invariant-loop-i : goal.invariant-loop-i
 invariant-loop-i l =
-    LiesIn l.image kind.Subnet l.best
-    × (nearest_in l.address (subnet_at l.image l.best) (drop l.i (blocks_of l.image)) ≡ nearest_in l.address None (blocks_of l.image))
+    LiesIn l.octets kind.Subnet l.best
+    × (nearest_in l.address (subnet_at l.octets l.best) (drop l.i (blocks_of l.octets)) ≡ nearest_in l.address None (blocks_of l.octets))

@@ -1,8 +1,8 @@
-use Rattle.std.proofs.Common.{◌≡◌, refl, sym, ap, subst, ◌∙◌, rules, Bool, true, false, List, ℕ, ◌+◌, ◌*◌, ◌<◌, ◌≤◌, Some}
+use Rattle.std.proofs.Common.{◌≡◌, refl, sym, ap, subst, ◌∙◌, rules, true, false, ◌+◌, ◌*◌, ◌<◌, ◌≤◌, Some}
 use Rattle.octets.specs.Lists.{cut}
 use Rattle.table.specs.declared.record.RecordFormat.{RecordFormat}
 use Rattle.table.specs.Format.{format_of}
-use Rattle.table_find.specs.Internal.Search.{TestsAs, passes, first_in_body}
+use Rattle.table_find.specs.Internal.Search.{passes, first_in_body}
 use Rattle.table_search.proofs.Laws.Record.{record_there}
 use Rattle.table_search.proofs.Laws.Search.{passed, failed, unused_fails, found_there, left_next, left_none}
 use Rattle.table_search.proofs.search.first_in_body.Goals as goal
@@ -35,7 +35,7 @@ loop-i-preserved g c = λ t says.
     let told : c.test.result ≡ t r = says r c.test.result (search rules) in
     let no : passes t r ≡ false =
     elim c.else-test.branch [
-      else-test-via-then-test+else-not-all_zero w ↦ unused_fails t r w.all_zero.result w.all_zero.ensures w.if-not-all_zero.false
+      | else-test-via-then-test+else-not-all_zero w ↦ unused_fails t r w.all_zero.result w.all_zero.ensures w.if-not-all_zero.false
       | else-test-via-else-test w ↦ failed t r c.test.result told w.if-test.false
     ] in
     left_next a.kind t a.image.now a.body i (subst (λ (f : RecordFormat). i < f.count) e c.loop-i-test.true) (ap (passes t) (sym there) ∙ no)
