@@ -9,6 +9,7 @@ use native.Mathlib.Omega.{arith}
 use native.Mathlib.Numerals.{add-one}
 use lib.ListN.{length, get_or, take, drop, length-take, length-drop, take-append-drop, drop_of_length-le}
 use lib.Seq.{take-suc, drop-cons, get_or-drop, take-take, drop-drop, take-nil, take_all, take-append_seam, drop-append_seam, take-append-le, drop-append-le, length-take-le}
+use Rattle.std.specs.List.{list_all, list_any}
 use Rattle.octets.specs.Lists.{all, any, first, first_or, keep, keep_if, cut, pieces, unique}
 
 module _ {A : Type 0} where
@@ -508,3 +509,18 @@ module _ {A : Type 0} (p : A → Bool) where
   unfolding all flat_map
   all_flat f [] = refl
   all_flat f (x ∷ s) = all_append (f x) (flat_map f s) ∙ ap (λ b. all p (f x) && b) (all_flat f s)
+
+-- std's tests of lists are these
+pub list_all_is : {A : Type 0} (p : A → Bool) (s : List A) → list_all p s ≡ all p s
+unfolding all
+list_all_is p [] = refl
+list_all_is p (x ∷ s) = ap (λ (b : Bool). p x && b) (list_all_is p s)
+
+pub not_list_any : {A : Type 0} (p : A → Bool) (s : List A) → not (list_any p s) ≡ all (λ x. not (p x)) s
+unfolding all
+not_list_any p [] = refl
+not_list_any p (x ∷ s) = go (p x) (not_list_any p s)
+  where
+    go : (b : Bool) → not (list_any p s) ≡ all (λ y. not (p y)) s → not (b || list_any p s) ≡ (not b && all (λ y. not (p y)) s)
+    go true e = refl
+    go false e = e
