@@ -26,7 +26,7 @@ fn is_named(held: &[u8], asked: &[u8]) -> bool
 pub fn is_account(octets: &[u8], context: ContextNumber, name: &[u8]) -> bool
     ensures { result ≡ is_account_of context name.now (account_of octets.now) }
 {
-    account::context(octets).0 == context.0 && is_named(account::name(octets), name)
+    account::context(octets) == context && is_named(account::name(octets), name)
 }
 
 // Whether the account is not disabled and of a kind that AAC allows.

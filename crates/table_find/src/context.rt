@@ -46,6 +46,5 @@ pub fn is_named_by(octets: &[u8], asked: &[u8]) -> bool
 pub fn is_numbered(octets: &[u8], asked: ContextNumber) -> bool
     ensures { result ≡ same_context (context_of octets.now).number asked }
 {
-    let number = context::number(octets);
-    number.0 == asked.0
+    context::number(octets) == asked
 }
