@@ -14,5 +14,5 @@ pub struct Stretch {
     pub lender: Lender,
     pub start: usize,
     pub len: usize,
-    ghost short: { len ≤ 255 },
+    pub ghost short: { len ≤ 255 },
 }
