@@ -178,7 +178,7 @@ pub fn plan_name<'a>(
 
 impl PlannedName {
     // What stands at a place before a name is planned there.
-    const BLANK: PlannedName = PlannedName {
+    pub const BLANK: PlannedName = PlannedName {
         text: Stretch {
             lender: Lender::Table,
             start: 0,
