@@ -4,31 +4,32 @@ use mathlib.Core.List.{List, [], ◌∷◌, map}
 use Prim.Native.Nat.{ℕ, zero, suc, ◌+◌, ◌≤◌}
 use native.Mathlib.Omega.{arith}
 use lib.ListN.{length, get_or, take, drop}
-use lib.Seq.{drop-cons}
+use lib.Seq.{drop-cons, length-take-le}
 use Rattle.lent.specs.declared.stretch.Stretch.{Stretch}
-use Rattle.lent.specs.Internal.Stretch.{octets_at}
+use Rattle.lent.specs.Internal.Stretch.{octets_at, empty_stretch}
 use Rattle.names.specs.declared.plan.NamesPlan.{NamesPlan}
 use Rattle.names.specs.Name.{write_names}
 use Rattle.names.specs.Internal.Plan.{writings_of, PlansOf}
-use Rattle.reply.specs.Internal.RawReply.{no_stretch}
 
 -- an array of stretches, of which the first n are planned as names
 module _ (table request : List ℕ) (slots : List Stretch) where
   -- the texts of n slots from k on
   abbrev pub texts_from : ℕ → ℕ → List (List ℕ)
   texts_from k zero = []
-  texts_from k (suc n) = octets_at table request (get_or slots k no_stretch) ∷ texts_from (suc k) n
+  texts_from k (suc n) = octets_at table request (get_or slots k empty_stretch) ∷ texts_from (suc k) n
 
   pub slot_texts : (k n : ℕ) → k + n ≤ length slots → map (octets_at table request) (take n (drop k slots)) ≡ texts_from k n
   slot_texts k zero h = refl
   slot_texts k (suc n) h =
-      let c : drop k slots ≡ get_or slots k no_stretch ∷ drop (suc k) slots = drop-cons slots k no_stretch (omega arith) in
+      let c : drop k slots ≡ get_or slots k empty_stretch ∷ drop (suc k) slots = drop-cons slots k empty_stretch (omega arith) in
       ap (λ (l : List Stretch). map (octets_at table request) (take (suc n) l)) c
-      ∙ ap (λ (l : List (List ℕ)). octets_at table request (get_or slots k no_stretch) ∷ l) (slot_texts (suc k) n (omega arith))
+      ∙ ap (λ (l : List (List ℕ)). octets_at table request (get_or slots k empty_stretch) ∷ l) (slot_texts (suc k) n (omega arith))
 
-  pub slots_planned : (n head at : ℕ) (planned : NamesPlan) → n ≤ length slots → at ≡ head → PlansOf table request slots n at planned
+  pub slots_planned : (n head at : ℕ) (planned : NamesPlan) → n ≤ length slots → at ≡ head → PlansOf table request (take n slots) at planned
       → write_names [] head (texts_from 0 n) ≡ writings_of table request (take n planned.«names»)
   slots_planned n head at planned h e p =
+      let k : length (take n slots) ≡ n = length-take-le n slots h in
       ap (λ (k : ℕ). write_names [] k (texts_from 0 n)) (sym e)
       ∙ ap (λ (ts : List (List ℕ)). write_names [] at ts) (sym (slot_texts 0 n (omega arith)))
       ∙ p.writes
+      ∙ ap (λ (m : ℕ). writings_of table request (take m planned.«names»)) k

@@ -10,37 +10,22 @@ use Rattle.reply_older.proofs.older.put_opening.Goals.{Start}
 
 module _ (c : Start) where
   abbrev reply : Reply
-  reply = reply_in c.args.table.now c.args.request.now c.args.raw
+  reply = reply_in c.args.lent.table.now c.args.lent.request.now c.args.raw.now
 
   room : 2 + length (text16 reply.server) + length (text16 reply.user) + length (text16 reply.netbios) ≤ length c.args.out.now
-  room = omega (arith, opening-length reply, c.requires.raw_in_bounds)
+  room = omega (arith, opening-length reply, c.requires)
 
 pub put_u16_at-at-requires : goal.put_u16_at-at-requires
 put_u16_at-at-requires c = omega (arith, room (goal.at.put_u16_at-at-requires c).Start)
 
-pub put_slot_at-at-requires : goal.put_slot_at-at-requires
-put_slot_at-at-requires c =
-    let s = c in
-    record {
-      short = (s.requires.short, omega arith);
-      slot_in_bounds = omega (arith, room (goal.at.put_slot_at-at-requires s).Start);
-    }
+pub put_text_at-at-requires : goal.put_text_at-at-requires
+put_text_at-at-requires c = omega (arith, room (goal.at.put_text_at-at-requires c).Start, ap size c.text.ensures)
 
-pub put_slot_at-at-requires-2 : goal.put_slot_at-at-requires-2
-put_slot_at-at-requires-2 c =
-    let s = c in
-    record {
-      short = (s.requires.short, omega arith);
-      slot_in_bounds = omega (arith, room (goal.at.put_slot_at-at-requires-2 s).Start);
-    }
+pub put_text_at-at-requires-2 : goal.put_text_at-at-requires-2
+put_text_at-at-requires-2 c = omega (arith, room (goal.at.put_text_at-at-requires-2 c).Start, ap size c.text.ensures, ap size c.text-2.ensures)
 
-pub put_slot_at-requires : goal.put_slot_at-requires
-put_slot_at-requires c =
-    let s = c in
-    record {
-      short = (s.requires.short, omega arith);
-      slot_in_bounds = omega (arith, room (goal.at.put_slot_at-requires s).Start);
-    }
+pub put_text_at-requires : goal.put_text_at-requires
+put_text_at-requires c = ?
 
 pub returns : goal.returns
 unfolding opening
