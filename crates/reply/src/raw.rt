@@ -1,5 +1,5 @@
 // What a reply says, its texts as stretches of the table image or of the ping's source.
-ghost use Rattle.std.specs.Prelude.{◌≡◌, ◌<◌, get_or};
+ghost use Rattle.std.specs.Prelude.{◌≡◌, ◌<◌, ◌≤◌, length, get_or, take};
 ghost use Rattle.lent.specs.Internal.Stretch.{empty_stretch};
 
 use lent::stretch::Stretch;
@@ -34,5 +34,13 @@ impl RawReply {
         ensures { result ≡ get_or self.now.slots slot empty_stretch }
     {
         self.slots[slot]
+    }
+
+    // The same of the first `count` slots.
+    pub fn first(&self, count: usize) -> &[Stretch]
+        requires { count ≤ 9 }
+        ensures { (result.now ≡ take count self.now.slots) × (length result.now ≡ count) }
+    {
+        &self.slots[..count]
     }
 }

@@ -36,8 +36,9 @@ fn plan_response<'a>(lent: Lent<'a>, raw: &RawReply) -> Plan
 {
     let head = opening_size(lent, raw) + stretch_size(lent, raw.guid) + GUID_SIZE;
     let planned = plan_names(lent, &raw.slots[..CONTEXT_NETBIOS], head);
+    let names = planned.names;
     Plan {
-        names: planned.names,
+        names,
         length: planned.end + stretch_size(lent, raw.ipv4) + FLAGS_SIZE + ENDING_SIZE,
     }
 }

@@ -4,7 +4,6 @@ use mathlib.Core.List.{List}
 use Prim.Native.Nat.{ℕ, ◌+◌, ◌<◌}
 use native.Mathlib.Omega.{arith}
 use lib.ListN.{length, set}
-use borrow.Author.Tests.{not-true, not-false}
 use Rattle.names.specs.Internal.Plan.{name_octets}
 use Rattle.names.proofs.Laws.Plan.{name-length, literal_short}
 use Rattle.reply.specs.declared.plan.Plan.{Plan}
@@ -23,7 +22,7 @@ returns-then-not-with_next_site c =
     let a = c.args in
     let T : List ℕ = a.lent.table.now in
     let R : List ℕ = a.lent.request.now in
-    let e : false ≡ a.with_next_site = sym (not-true a.with_next_site c.if-not-with_next_site.true) in
+    let e : false ≡ a.with_next_site = sym c.if-not-with_next_site.true in
     let r : Plan = record { «names» = a.names; «length» = a.front + 8 } in
     subst (λ b. LastPlan T R a.names b a.next_site a.front r) e (last_none T R a.names a.next_site a.front)
 
@@ -42,7 +41,7 @@ returns c =
     let T : List ℕ = a.lent.table.now in
     let R : List ℕ = a.lent.request.now in
     let n = c.plan_name-name in
-    let e : true ≡ a.with_next_site = sym (not-false a.with_next_site c.if-not-with_next_site.false) in
+    let e : true ≡ a.with_next_site = sym c.if-not-with_next_site.false in
     let r : Plan = record { «names» = set a.names 8 n.result; «length» = a.front + c.size.result + 8 } in
     let l : 8 < length a.names = omega arith in
     subst (λ b. LastPlan T R a.names b a.next_site a.front r) e
