@@ -52,7 +52,7 @@ fn put_last_at<'a>(out: &mut [u8], at: usize, lent: Lent<'a>, raw: &RawReply, pl
     ensures { out.new ≡ over_at at (last_octets lent.entry.table.now lent.entry.request.now raw.now.with_next_site (last_name plan.now.names)) out.old }
 {
     if raw.with_next_site {
-        let at = put_name_at(out, at, lent, &plan.names[NEXT_SITE]);
+        let at = put_name_at(out, at, lent, plan.last_name());
         put_ending_at(out, at, EX_VERSION_WITH_NEXT_SITE);
     } else {
         put_ending_at(out, at, EX_VERSION);

@@ -35,7 +35,7 @@ fn plan_response<'a>(lent: Lent<'a>, raw: &RawReply) -> Plan
     ensures { PlanOf lent.entry.table.now lent.entry.request.now Response raw.now result }
 {
     let head = opening_size(lent, raw) + stretch_size(lent, raw.guid) + GUID_SIZE;
-    let planned = plan_names(lent, &raw.slots[..CONTEXT_NETBIOS], head);
+    let planned = plan_names(lent, raw.first(CONTEXT_NETBIOS), head);
     let names = planned.names;
     Plan {
         names,
@@ -73,7 +73,7 @@ fn plan_ex<'a>(lent: Lent<'a>, raw: &RawReply) -> Plan
     ensures { PlanOf lent.entry.table.now lent.entry.request.now Ex raw.now result }
 {
     let head = EX_NUMBERS_SIZE + stretch_size(lent, raw.guid);
-    let planned = plan_names(lent, &raw.slots[..NEXT_SITE], head);
+    let planned = plan_names(lent, raw.first(NEXT_SITE), head);
     let front = planned.end + address_size(lent, raw.with_address, raw.ipv4);
     plan_last(
         lent,

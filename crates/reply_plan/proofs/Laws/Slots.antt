@@ -1,10 +1,10 @@
 -- Laws of a raw reply's slots: the first ones are a form's names, in order.
 use mathlib.Core.Path.{◌≡◌, refl, sym, ap, subst, ◌∙◌}
 use mathlib.Core.List.{List, [], ◌∷◌, map}
-use Prim.Native.Nat.{ℕ, zero, suc, ◌+◌, ◌*◌, ◌≤◌}
+use Prim.Native.Nat.{ℕ, zero, suc, ◌+◌, ◌*◌, ◌≤◌, min}
 use native.Mathlib.Omega.{arith}
-use lib.ListN.{length, get_or, take, drop}
-use lib.Seq.{drop-cons, length-take-le}
+use lib.ListN.{length, get_or, take, drop, length-take}
+use lib.Seq.{drop-cons}
 use Rattle.lent.specs.declared.stretch.Stretch.{Stretch}
 use Rattle.lent.specs.Internal.Stretch.{octets_at, empty_stretch}
 use Rattle.names.specs.declared.plan.NamesPlan.{NamesPlan}
@@ -32,12 +32,13 @@ module _ (table request : List ℕ) (slots : List Stretch) where
     pub ends : planned.«end» ≡ at + length (names_octets table request (take n planned.«names»))
     pub small : planned.«end» ≤ at + 257 * n
 
-  pub first_planned : (n at : ℕ) (planned : NamesPlan) → n ≤ length slots → PlansOf table request (take n slots) at planned → FirstPlanned n at planned
-  first_planned n at planned h p =
-      let k : length (take n slots) ≡ n = length-take-le n slots h in
+  pub first_planned : (n at : ℕ) (planned : NamesPlan) (texts : List Stretch) → (texts ≡ take n slots) × (length texts ≡ n) → PlansOf table request texts at planned → FirstPlanned n at planned
+  first_planned n at planned texts e p =
+      let l : length texts ≡ min n (length slots) = ap length e.0 ∙ length-take n slots in
+      let k : length texts ≡ n = e.1 in
       record {
         fit = subst (λ (m : ℕ). AllFit table request (take m planned.«names»)) k p.fit;
-        writes = ap (write_names [] at) (sym (slot_texts 0 n (omega arith))) ∙ p.writes ∙ ap (λ (m : ℕ). writings_of table request (take m planned.«names»)) k;
+        writes = ap (write_names [] at) (sym (slot_texts 0 n (omega arith)) ∙ ap (map (octets_at table request)) (sym e.0)) ∙ p.writes ∙ ap (λ (m : ℕ). writings_of table request (take m planned.«names»)) k;
         ends = subst (λ (m : ℕ). planned.«end» ≡ at + length (names_octets table request (take m planned.«names»))) k p.ends;
         small = subst (λ (m : ℕ). planned.«end» ≤ at + 257 * m) k p.small;
       }

@@ -5,7 +5,6 @@ use Prim.Native.Nat.{ℕ, ◌+◌, ◌≤◌}
 use native.Mathlib.Nat.{add-zero}
 use native.Mathlib.Omega.{arith}
 use lib.ListN.{length}
-use borrow.Author.Tests.{not-true, not-false}
 use Rattle.answers.specs.Wire.{DcSockAddrSize, sin_family, sin_zero}
 use Rattle.lent.specs.Internal.OverAt.{over_at}
 use Rattle.lent.specs.Internal.Stretch.{octets_at}
@@ -19,7 +18,7 @@ abbrev ipv4 : Else-not-raw → List ℕ
 ipv4 c = octets_at c.args.lent.table.now c.args.lent.request.now c.args.raw.now.«ipv4»
 
 asked : (c : Else-not-raw) → true ≡ c.args.raw.now.with_address
-asked c = sym (not-false c.args.raw.now.with_address c.if-not-raw.false)
+asked c = sym c.if-not-raw.false
 
 room : (c : Else-not-raw) → c.args.at + length (ipv4 c) + 13 ≤ length c.args.out.now
 room c =
@@ -29,7 +28,7 @@ room c =
 pub returns-then-not-raw : goal.returns-then-not-raw
 returns-then-not-raw c =
     let a = c.args in
-    let e : a.raw.now.with_address ≡ false = not-true a.raw.now.with_address c.if-not-raw.true in
+    let e : a.raw.now.with_address ≡ false = c.if-not-raw.true in
     rw e (record { value = sym (add-zero a.at); out_after = (laid_none a.at a.out.now (omega arith)).buffer })
 
 pub put_octets_at-at-requires : goal.put_octets_at-at-requires

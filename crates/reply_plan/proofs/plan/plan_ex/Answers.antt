@@ -2,7 +2,7 @@ use mathlib.Core.Path.{◌≡◌, sym, ap, subst, ◌∙◌}
 use mathlib.Core.List.{List, []}
 use Prim.Native.Nat.{ℕ, ◌+◌, ◌≤◌}
 use native.Mathlib.Omega.{arith}
-use lib.ListN.{length, length-append, length-take}
+use lib.ListN.{length, length-append}
 use Rattle.lent.specs.declared.stretch.Stretch.{Stretch}
 use Rattle.lent.specs.Internal.Stretch.{octets_at}
 use Rattle.names.specs.declared.plan.PlannedName.{PlannedName}
@@ -21,11 +21,10 @@ use Rattle.reply_plan.proofs.plan.plan_ex.Goals.{After-plan_names-planned}
 eight : (c : After-plan_names-planned) → FirstPlanned c.args.lent.table.now c.args.lent.request.now c.args.raw.now.«slots» 8 (8 + c.stretch_size-head.result) c.plan_names-planned.result
 eight c =
     let a = c.args in
-    let l : 8 ≤ length a.raw.now.«slots» = omega arith in
-    first_planned a.lent.table.now a.lent.request.now a.raw.now.«slots» 8 (8 + c.stretch_size-head.result) c.plan_names-planned.result l c.plan_names-planned.ensures
+    first_planned a.lent.table.now a.lent.request.now a.raw.now.«slots» 8 (8 + c.stretch_size-head.result) c.plan_names-planned.result c.first.result.now c.first.ensures c.plan_names-planned.ensures
 
 pub plan_names-planned-requires : goal.plan_names-planned-requires
-plan_names-planned-requires c = (simp length-take (omega arith), omega arith)
+plan_names-planned-requires c = (omega (arith, c.first.ensures.1), omega arith)
 
 pub plan_last-requires : goal.plan_last-requires
 plan_last-requires c =
