@@ -8,36 +8,30 @@ use Rattle.octets.proofs.Laws.Buffer.{lent_back}
 use Rattle.lent.specs.Internal.OverAt.{over_at}
 use Rattle.lent.proofs.Laws.Stretch.{stretch_short}
 use Rattle.reply.specs.Reply.{text16}
-use Rattle.reply.specs.Internal.RawReply.{no_stretch, slot_text}
-use Rattle.reply.proofs.text.put_slot_at.Goals as goal
-
-pub offset_bounds-slots-slot : goal.offset_bounds-slots-slot
-offset_bounds-slots-slot c = omega arith
-
-pub bounds-slots-slot : goal.bounds-slots-slot
-bounds-slots-slot c = omega arith
+use Rattle.lent.specs.Internal.Stretch.{octets_at}
+use Rattle.reply.proofs.text.put_text_at.Goals as goal
 
 pub put_text-requires : goal.put_text-requires
 put_text-requires c =
     let a = c.args in
-    let e = c.slot_text.ensures in
-    let s = stretch_short a.table.now a.request.now (get_or a.raw.«slots» a.slot no_stretch) in (
-      omega (arith, ap length e, c.requires.short.0.slots a.slot),
-      simp (length-take, length-drop) (omega (arith, ap (λ (x : List ℕ). length (text16 x)) e, c.requires.slot_in_bounds)),
+    let e = c.text.ensures in
+    let s = stretch_short a.lent.table.now a.lent.request.now a.slot in (
+      omega (arith, ap length e, s),
+      simp (length-take, length-drop) (omega (arith, ap (λ (x : List ℕ). length (text16 x)) e, c.requires)),
     )
 
 pub overflow_add-result : goal.overflow_add-result
 overflow_add-result c =
-    let e = ap (λ (x : List ℕ). length (text16 x)) c.slot_text.ensures in
-    omega (arith, c.put_text.ensures.value, c.requires.slot_in_bounds)
+    let e = ap (λ (x : List ℕ). length (text16 x)) c.text.ensures in
+    omega (arith, c.put_text.ensures.value, c.requires)
 
 pub returns : goal.returns
 unfolding over_at
 returns c =
     let a = c.args in
-    let e = c.slot_text.ensures in
+    let e = c.text.ensures in
     let w = c.put_text in
-    let x : List ℕ = text16 (slot_text a.table.now a.request.now a.raw.«slots» a.slot) in
+    let x : List ℕ = text16 (octets_at a.lent.table.now a.lent.request.now a.slot) in
     let d : List ℕ = a.out.now in
     record {
       value = ap (λ (k : ℕ). a.at + k) (w.ensures.value ∙ ap (λ (y : List ℕ). length (text16 y)) e);
