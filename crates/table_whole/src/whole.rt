@@ -11,7 +11,7 @@ use table::record::RecordKind;
 use table::{account, context, server, site, subnet};
 use table_records::alike::{Contexts, all_unique};
 use table_records::offset::offsets_of;
-use table_refer::mark::{MARKS_SIZE, is_marked, mark_sites};
+use table_refer::mark::{Marks, mark_sites};
 use table_refer::refer::{all_sites_refer, all_subnets_refer, are_in_contexts, has_context};
 use table_unique::unique::{are_accounts_unique, are_networks_unique};
 
@@ -71,12 +71,12 @@ fn is_context_half_good(image: &[u8]) -> bool
 }
 
 // The server's own site exists, each next closest one exists and is another, and subnets refer rightly.
-fn are_sites_referred(image: &[u8], sites: &[u16], marks: &[u8]) -> bool
+fn are_sites_referred(image: &[u8], sites: &[u16], marks: &Marks) -> bool
     requires block_size_in_bounds { (block_size ≤ length image.now) × (length image.now ≤ image_most) }
     requires all_of { AllOf kind.Site image.now sites.now × SiteMarks marks.now (table_from image.now) }
     ensures { result ≡ good_references (table_from image.now) }
 {
-    is_marked(marks, server::own_site(server::server_of(image)))
+    marks.is_marked(server::own_site(server::server_of(image)))
         & all_sites_refer(image, sites, marks)
         & all_subnets_refer(image, marks)
 }
@@ -86,7 +86,7 @@ fn are_sites_good(image: &[u8], sites: &[u16]) -> bool
     requires { (block_size ≤ length image.now) × (length image.now ≤ image_most) × AllOf kind.Site image.now sites.now }
     ensures { result ≡ good_sites (table_from image.now) }
 {
-    let mut marks = [0u8; MARKS_SIZE];
+    let mut marks = Marks::new();
     if !mark_sites(image, sites, &mut marks) {
         return false;
     }

@@ -32,6 +32,7 @@ use Rattle.table.specs.Internal.RecordAt.{record_at}
 use Rattle.table_records.specs.Internal.Alike.{contexts_alike, contexts_alike_at, accounts_alike_at, subnets_alike_at}
 use Rattle.table_whole.specs.Whole.{contexts_unique, accounts_unique, sites_unique, subnets_unique, has_context, has_site, refers_rightly, good_whole}
 use Rattle.table_whole.specs.Internal.Half.{AllOf, SiteMarks, good_accounts, good_contexts, context_half, good_next, good_subnets, good_references, good_sites, site_half}
+use Rattle.table_refer.specs.declared.mark.Marks.{Marks}
 use Rattle.table_refer.specs.Internal.Mark.{Marked, same_site_at}
 use Rattle.table_refer.specs.Internal.Refer.{has_number, in_contexts, is_marked_or_none, is_other_or_none, site_refers_at, subnet_refers, subnets_refer}
 
@@ -89,17 +90,17 @@ module _ (image contexts : List ℕ) (e : AllOf kind.Context image contexts) whe
   some-contexts n h = rw (contexts_count, le-leb (length contexts) 16 h, le-leb 1 (length contexts) (omega arith))
 
 -- sites referred to, where there is one
-module _ (marks : List ℕ) (t : Table) (m : SiteMarks marks t) where
+module _ (marks : Marks) (t : Table) (m : SiteMarks marks t) where
   none_or_marked : (o : Option SiteNumber) → is_marked_or_none marks o ≡ none_or (has_site t) o
   none_or_marked None = refl
-  none_or_marked (Some n) = m.say n
+  none_or_marked (Some n) = m n
 
 other_or_none : (own : SiteNumber) (o : Option SiteNumber) → is_other_or_none own o ≡ not (holds (same_site_lem own) o)
 other_or_none own None = refl
 other_or_none own (Some n) = refl
 
 -- an unused record refers to no site, and so refers rightly
-unused_refers : (marks r : List ℕ) → (not (is_used r) || subnet_refers marks r) ≡ subnet_refers marks r
+unused_refers : (marks : Marks) (r : List ℕ) → (not (is_used r) || subnet_refers marks r) ≡ subnet_refers marks r
 unfolding subnet_of
 unused_refers marks r = go (all_zero r) refl
   where
@@ -110,7 +111,7 @@ unused_refers marks r = go (all_zero r) refl
     go false e = refl
 
 -- subnets, block by block
-pub subnets_refer_lem : (marks image : List ℕ) → SiteMarks marks (table_from image) → all (subnets_refer marks) (blocks_of image) ≡ good_subnets (table_from image)
+pub subnets_refer_lem : (marks : Marks) (image : List ℕ) → SiteMarks marks (table_from image) → all (subnets_refer marks) (blocks_of image) ≡ good_subnets (table_from image)
 unfolding table_of records_of bodies good_subnets
 subnets_refer_lem marks image m =
     let t = table_from image in
@@ -127,11 +128,11 @@ subnets_refer_lem marks image m =
 
 -- sites
 module _ (image sites : List ℕ) (e : AllOf kind.Site image sites) where
-  pub site_marks : (marks : List ℕ) → length marks ≡ 8192 → Marked marks image sites → SiteMarks marks (table_from image)
+  pub site_marks : (marks : Marks) → Marked marks image sites → SiteMarks marks (table_from image)
   unfolding table_of has_site
-  site_marks marks size seen = record { size = size; say = λ n. seen n ∙ any_at site_of kind.Site image sites e (λ s. same_site_lem s.number n) }
+  site_marks marks seen n = seen n ∙ any_at site_of kind.Site image sites e (λ s. same_site_lem s.number n)
 
-  pub sites_refer : (marks : List ℕ) → SiteMarks marks (table_from image) → all (site_refers_at marks image) sites ≡ good_next (table_from image)
+  pub sites_refer : (marks : Marks) → SiteMarks marks (table_from image) → all (site_refers_at marks image) sites ≡ good_next (table_from image)
   unfolding table_of good_next
   sites_refer marks m =
       let t = table_from image in
