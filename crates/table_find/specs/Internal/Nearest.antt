@@ -22,5 +22,5 @@ nearest_over address best (r ∷ rs) = nearest_over address (nearer_held address
 unfoldable pub nearest_in_body : ℕ → Option Subnet → List ℕ → Option Subnet
 nearest_in_body address best b = nearest_over address best (records_in subnet_format b)
 
-unfoldable pub nearest_in_lem : ℕ → Option Subnet → List (List ℕ) → Option Subnet
-nearest_in_lem address best blocks = nearest_over address best (flat_map (records_in subnet_format) (bodies subnet_format.kind blocks))
+unfoldable pub nearest_in : ℕ → Option Subnet → List (List ℕ) → Option Subnet
+nearest_in address best blocks = nearest_over address best (flat_map (records_in subnet_format) (bodies subnet_format.kind blocks))

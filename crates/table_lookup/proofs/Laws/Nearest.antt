@@ -15,7 +15,7 @@ use Rattle.table.specs.Subnet.{Subnet, subnet_format, subnet_of}
 use Rattle.table.specs.Table.{is_used, bodies, records_of, table_of}
 use Rattle.table_find.specs.Find.{in_subnet}
 use Rattle.table_lookup.specs.Lookup.{nearer, nearest, subnet_for}
-use Rattle.table_find.specs.Internal.Nearest.{longer, nearer_held, nearest_over, nearest_in_lem}
+use Rattle.table_find.specs.Internal.Nearest.{longer, nearer_held, nearest_over, nearest_in}
 
 -- the nearer of two, where there are two; the first of equal ones
 abbrev nearer_of : Option Subnet → Option Subnet → Option Subnet
@@ -62,6 +62,6 @@ module _ (address : ℕ) where
       go true true e = rw e (in_turn best (subnet_of r) (nearest (held rs)))
       go true false e = rw e
 
-pub subnet_found : (caller : Caller) (blocks : List (List ℕ)) → nearest_in_lem (address_number caller.address) None blocks ≡ subnet_for (table_of blocks) caller
-unfolding nearest_in_lem subnet_for table_of records_of
+pub subnet_found : (caller : Caller) (blocks : List (List ℕ)) → nearest_in (address_number caller.address) None blocks ≡ subnet_for (table_of blocks) caller
+unfolding nearest_in subnet_for table_of records_of
 subnet_found caller blocks = over_held (address_number caller.address) None (flat_map (records_in subnet_format) (bodies subnet_format.kind blocks))
