@@ -10,7 +10,7 @@ use reader::field::Read;
 // The most names that stand one after the other: name 8 comes after the address.
 pub const NAMES_IN_A_ROW: usize = 8;
 
-// As many names as were asked for, at their places.
+// As many names as were asked for, at their places: room for the most of them, since the locator has no heap.
 pub fn read_names(
     reply: &[u8],
     start: usize,
