@@ -1,5 +1,5 @@
 // What the words of a line stand for. A word of another shape stands for nothing.
-ghost use Rattle.std.specs.Prelude.{◌≤◌, ◌<◌, ◌^◌, IfOk, IfSome, vec_len};
+ghost use Rattle.std.specs.Prelude.{◌≡◌, ◌+◌, ◌*◌, ◌≤◌, IfOk, IfSome, OnSome, length, vec_len};
 
 use console::hex::hex_octets;
 use octets::part::Stretch;
@@ -13,7 +13,9 @@ fn are_hex_digits(word: &str) -> bool {
     word.bytes().all(|x| matches!(x, b'0'..=b'9' | b'a'..=b'f'))
 }
 
-fn octets_of_digits(alloc: Global, digits: &str) -> Result<Option<Vec<u8>>, AllocError> {
+fn octets_of_digits(alloc: Global, digits: &str) -> Result<Option<Vec<u8>>, AllocError>
+    ensures { IfOk result (λ found. IfSome found (λ octets. 2 * vec_len octets ≡ length digits.now)) }
+{
     if !are_hex_digits(digits) {
         return Ok(None);
     }
@@ -21,7 +23,9 @@ fn octets_of_digits(alloc: Global, digits: &str) -> Result<Option<Vec<u8>>, Allo
 }
 
 // Octets: `-` for none, else two digits for each.
-pub fn octets_of(alloc: Global, word: &str) -> Result<Option<Vec<u8>>, AllocError> {
+pub fn octets_of(alloc: Global, word: &str) -> Result<Option<Vec<u8>>, AllocError>
+    ensures { IfOk result (λ found. IfSome found (λ octets. 2 * vec_len octets ≤ length word.now)) }
+{
     match word {
         "" => Ok(None),
         "-" => Ok(Some(Vec::new(alloc))),
@@ -30,7 +34,9 @@ pub fn octets_of(alloc: Global, word: &str) -> Result<Option<Vec<u8>>, AllocErro
 }
 
 // Bits, or a client's address: eight digits, the most significant first.
-pub fn bits_of(word: &str) -> Option<u32> {
+pub fn bits_of(word: &str) -> Option<u32>
+    ensures { OnSome result (length word.now ≡ 8) }
+{
     if (word.len() != 8) | !are_hex_digits(word) {
         return None;
     }
@@ -38,7 +44,9 @@ pub fn bits_of(word: &str) -> Option<u32> {
 }
 
 // A number of up to ten decimal digits.
-pub fn number_of(word: &str) -> Option<u64> {
+pub fn number_of(word: &str) -> Option<u64>
+    ensures { OnSome result (length word.now ≤ 10) }
+{
     // std takes a sign in front too.
     if (10 < word.len()) | word.starts_with('+') {
         return None;
@@ -57,7 +65,9 @@ pub fn buffer_of(alloc: Global, room: &str) -> Result<Option<Vec<u8>>, AllocErro
 }
 
 // A text: `=` and two digits for each octet. Its octets are put at the end of the source.
-pub fn text_of(source: &mut Vec<u8>, word: &str) -> Result<Option<Stretch>, AllocError> {
+pub fn text_of(source: &mut Vec<u8>, word: &str) -> Result<Option<Stretch>, AllocError>
+    ensures { IfOk result (λ found. IfSome found (λ text. text.start + text.len ≡ vec_len source.new)) }
+{
     let Some(digits) = word.strip_prefix('=') else {
         return Ok(None);
     };
