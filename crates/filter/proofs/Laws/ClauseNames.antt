@@ -4,19 +4,18 @@ use mathlib.Core.Path.{◌≡◌, refl, sym, ap, fun_ext, ◌∙◌}
 use mathlib.Core.Bool.{Bool, true, false}
 use Prim.Native.Nat.{ℕ, ◌<◌}
 use native.Mathlib.Omega.{arith}
-use lib.ListN.{length}
+use lib.ListN.{length, get_or}
 use Rattle.octets.specs.Lists.{any, first}
 use Rattle.octets.proofs.Laws.Lists.{any_false, first_holds}
 use Rattle.octets.specs.Text.{same, lower}
 use Rattle.octets.proofs.Laws.Text.{folded_left}
-use Rattle.filter.specs.declared.request.Clause.{Clause}
 use Rattle.filter.specs.declared.request.ClauseName.{ClauseName}
 use Rattle.filter.specs.declared.request.ClauseName.TheVariants.{DnsDomain, Host, DnsHostName, User, Aac, DomainSid, DomainGuid, NtVer}
-use Rattle.filter.specs.Request.{clause_names, spelling, clause, request_by}
-use Rattle.filter.specs.Internal.ClauseNames.{clause_name_at, is_same_name}
+use Rattle.filter.specs.Request.{Clause, clause_names, spelling, clause, request_by}
+use Rattle.filter.specs.Internal.ClauseNames.{is_same_name}
 
 -- the number of a name
-numbered : (n : ClauseName) → (i : ℕ) × (i < length clause_names) × (clause_name_at i ≡ n)
+numbered : (n : ClauseName) → (i : ℕ) × (i < length clause_names) × (get_or clause_names i NtVer ≡ n)
 numbered DnsDomain = (0, omega arith, refl)
 numbered Host = (1, omega arith, refl)
 numbered DnsHostName = (2, omega arith, refl)
