@@ -2,6 +2,7 @@
 ghost use Rattle.std.specs.Prelude.{◌≡◌, ◌+◌, ◌*◌, ◌≤◌, IfOk, IfSome, OnSome, length, vec_len};
 
 use console::hex::hex_octets;
+use console::source::append;
 use octets::part::Stretch;
 use std::alloc::{AllocError, Global};
 
@@ -74,10 +75,7 @@ pub fn text_of(source: &mut Vec<u8>, word: &str) -> Result<Option<Stretch>, Allo
     let Some(octets) = octets_of_digits(*source.allocator(), digits)? else {
         return Ok(None);
     };
-    let start = source.len();
-    source.extend_from_slice(&octets)?;
-    let len = octets.len();
-    Ok(Some(Stretch { start, len }))
+    Ok(Some(append(source, &octets)?))
 }
 
 #[cfg(test)]
