@@ -4,8 +4,10 @@ use Rattle.answers.specs.declared.Refusal.TheVariants.{MailslotShape, NoRoom}
 use Rattle.answers.specs.Try.{Try, refused_if, ◌>>=◌}
 use Rattle.answers.specs.Wire.{logon_sam_logon_request}
 use Rattle.octets.specs.{Lists.all, Lists.holds, NameRule.sized, NameRule.without, Number.little, Sid.sid_length, Text.within}
-use Rattle.reader.specs.{declared.field.Stretch.Stretch, Reader.read_constant, Reader.read_number, Reader.read_tokens, Text.read_text}
-use Rattle.reader.specs.Field.{Read, stretch_of, read_octets, read_stretch}
+use Rattle.reader.specs.{Reader.read_constant, Reader.read_number, Reader.read_tokens, Text.read_text}
+use Rattle.octets.specs.{declared.part.Stretch.Stretch, Stretch.stretch_of}
+use Rattle.reader.specs.declared.field.Read.{Read}
+use Rattle.reader.specs.Field.{read_octets, read_stretch}
 use Rattle.reply.specs.Reply.{u16, u32, ending}
 use Rattle.unicode_text.specs.{UserName.is_user_name, Utf16.points_of16, Utf16.utf8_from16}
 use Rattle.mailslot.specs.declared.message.Message.{Message}

@@ -3,7 +3,7 @@ use Rattle.std.specs.Prelude.{List, [], ◌∷◌, ℕ, Ok, Option, None, Some, 
 use Rattle.answers.specs.Try.{Try, ◌>>=◌}
 use Rattle.filter_read.specs.Value.{Ping}
 use Rattle.mailslot.specs.{declared.message.Message.Message, Message.message_in}
-use Rattle.reader.specs.Field.{stretch_of}
+use Rattle.octets.specs.Stretch.{stretch_of}
 use Rattle.unicode_text.specs.Utf16.{utf8_from16}
 
 -- unlike in a filter, an empty user is no user; and a SID of size 0 is none

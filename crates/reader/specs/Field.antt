@@ -3,15 +3,8 @@ use Rattle.std.specs.Prelude.{not, List, ℕ, ◌+◌, ltb, length, Ok}
 use Rattle.answers.specs.declared.Refusal.TheVariants.{ReplyCut, ReplyFixed}
 use Rattle.answers.specs.Try.{Try, refused_if, ◌>>=◌}
 use Rattle.octets.specs.{Lists.cut, Text.same}
-use Rattle.reader.specs.declared.field.Stretch.{Stretch}
-
--- the octets of a stretch, those of it that are there
-abbrev pub stretch_of : List ℕ → Stretch → List ℕ
-stretch_of s t = cut s t.start t.len
-
-pub record Read (A : Type 0) : Type 0 where
-  pub value : A
-  pub next : ℕ
+use Rattle.octets.specs.declared.part.Stretch.{Stretch}
+use Rattle.reader.specs.declared.field.Read.{Read}
 
 -- n octets from `at`; 31 if they are not all there
 unfoldable pub read_octets : List ℕ → ℕ → ℕ → Try (Read (List ℕ))
@@ -28,3 +21,9 @@ unfoldable pub read_fixed : List ℕ → ℕ → List ℕ → Try (Read (List �
 read_fixed s at octets = do
   f ← read_octets s at (length octets)
   refused_if (not (same f.value octets)) ReplyFixed (Ok f)
+
+-- a value that is known, where the next field starts or a refusal is
+abbrev pub valued : {A : Type 0} → A → Try ℕ → Try (Read A)
+valued value end = do
+  next ← end
+  Ok (record { value = value; next = next })

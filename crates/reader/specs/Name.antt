@@ -4,7 +4,7 @@ use Rattle.answers.specs.declared.Refusal.{Refusal}
 use Rattle.answers.specs.declared.Refusal.TheVariants.{ReplyCut, ReplyText}
 use Rattle.answers.specs.Try.{Try, refused_if, ◌>>=◌}
 use Rattle.names.specs.Walk.{look_at, on_look, label_at, WalkedName, with_label, steps}
-use Rattle.reader.specs.Field.{Read}
+use Rattle.reader.specs.declared.field.Read.{Read}
 
 -- the most octets of a name written out, its final zero counted, and the most pointers
 abbrev pub written_most : ℕ

@@ -8,8 +8,10 @@ use Rattle.answers.specs.Wire.{netlogon_nt_version_5ex_with_ip, netlogon_nt_vers
 use Rattle.names.specs.Walk.{WalkedName}
 use Rattle.octets.specs.{Label.joined, Sid.guid_size, Sid.ipv4_size}
 use Rattle.octets.specs.Number.{little, little_octets, u32_at, has}
-use Rattle.reader.specs.{declared.field.Stretch.Stretch, Name.read_name, Text.read_text}
-use Rattle.reader.specs.Field.{Read, read_octets, read_stretch, read_fixed}
+use Rattle.octets.specs.declared.part.Stretch.{Stretch}
+use Rattle.reader.specs.{Name.read_name, Text.read_text}
+use Rattle.reader.specs.declared.field.Read.{Read}
+use Rattle.reader.specs.Field.{read_octets, read_stretch, read_fixed}
 
 -- a name as it is given back: its labels joined by dots, with its pointer count; and its first offset
 pub record NameRead : Type 0 where

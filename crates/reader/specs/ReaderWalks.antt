@@ -3,7 +3,7 @@ use Rattle.std.specs.Prelude.{◌≡◌, ℕ, ◌+◌, ◌≤◌, length, Ok, So
 use mathlib.Core.List.{List, [], ◌∷◌, ◌++◌, flat_map}
 use Rattle.names.specs.{Name.literal_label, WalkRelation.Walks}
 use Rattle.names.specs.Walk.{WalkedName, walk, steps}
-use Rattle.reader.specs.{Field.Read, Name.read_name_from, Name.read_name}
+use Rattle.reader.specs.{declared.field.Read.Read, Name.read_name_from, Name.read_name}
 
 -- where it accepts a name at an offset, its labels and its count are the walk's from there
 abbrev pub ReaderWalks : Type 0

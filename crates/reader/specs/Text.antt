@@ -4,7 +4,8 @@ use Rattle.answers.specs.declared.Refusal.TheVariants.{ReplyCut, ReplyText}
 use Rattle.answers.specs.Try.{Try, ◌>>=◌}
 use Rattle.octets.specs.Number.{little}
 use Rattle.unicode_text.specs.Utf16.{is_high, is_low}
-use Rattle.reader.specs.{declared.field.Stretch.Stretch, declared.text.Unit16.Unit16, declared.text.Turn.Turn, Field.Read, Field.read_octets}
+use Rattle.octets.specs.declared.part.Stretch.{Stretch}
+use Rattle.reader.specs.{declared.text.Unit16.Unit16, declared.text.Turn.Turn, declared.field.Read.Read, Field.read_octets}
 use Rattle.reader.specs.declared.text.Unit16.TheVariants.{Ends, Plain, High, Low}
 use Rattle.reader.specs.declared.text.Turn.TheVariants.{Stop, Go, Wrong}
 

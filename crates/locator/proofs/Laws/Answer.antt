@@ -20,12 +20,11 @@ use Rattle.table.specs.declared.Caller.{Caller}
 use Rattle.table.specs.Context.{Context}
 use Rattle.table.specs.Table.{Table}
 use Rattle.table_whole.specs.Judgement.{table_in}
-use Rattle.locator.specs.declared.Answer.{Answer}
-use Rattle.locator.specs.declared.Answer.TheVariants as answer
-use Rattle.locator.specs.Answer.{Outcome, wrong_user, reply_to, answer_over, answer_by, answer_as, octets_written, answer_number, answer_length, answer_context, answer_form, AnswerOf}
+use Rattle.locator.specs.declared.Answered.{Answered}
+use Rattle.locator.specs.Answer.{Outcome, wrong_user, reply_to, answer_over, answer_by, answer_as, octets_written, answer_length, answer_context, answer_form, AnswerOf}
 
 -- a refusal, and the buffer as it was
-pub refusal-given : (a : Try Outcome) (x : Refusal) (d : List ℕ) → a ≡ Err x → (answer.Refused x ≡ answer_as a) × (d ≡ over (octets_written a) d)
+pub refusal-given : (a : Try Outcome) (x : Refusal) (d : List ℕ) → a ≡ Err x → (Err x ≡ answer_as a) × (d ≡ over (octets_written a) d)
 refusal-given a x d e = (ap answer_as (sym e), sym (over_none d) ∙ ap (λ (o : Try Outcome). over (octets_written o) d) (sym e))
 
 -- 18 and 19, for the form and the reply chosen
@@ -75,15 +74,15 @@ module _ (way : List ℕ → Try Ping) (image : List ℕ) (caller : Caller) (oct
   ping_answered t p e f = ap (λ (y : Try Table). y >>= next) e ∙ ap (λ (y : Try Ping). y >>= λ q. answer_over t caller q room) f
 
 -- an answer carried over to what it is the answer of
-pub answer_of_lem : (a b : Try Outcome) (r : Answer) (d e : List ℕ) → b ≡ a → (r ≡ answer_as a) × (e ≡ over (octets_written a) d) → (r ≡ answer_as b) × (e ≡ over (octets_written b) d)
+pub answer_of_lem : (a b : Try Outcome) (r : Try Answered) (d e : List ℕ) → b ≡ a → (r ≡ answer_as a) × (e ≡ over (octets_written a) d) → (r ≡ answer_as b) × (e ≡ over (octets_written b) d)
 answer_of_lem a b r d e q h = (h.0 ∙ ap answer_as (sym q), h.1 ∙ ap (λ (o : Try Outcome). over (octets_written o) d) (sym q))
 
--- what is promised to be returned, by the enum, beside what is left
-pub answer_promised : {Left : Type 0} (o : Try Outcome) (r : Answer) → (r ≡ answer_as o) × Left → AnswerOf o r × Left
+-- what is promised to be returned, beside what is left
+pub answer_promised : {Left : Type 0} (o : Try Outcome) (r : Try Answered) → (r ≡ answer_as o) × Left → AnswerOf o r × Left
 answer_promised o r (e, left) =
-    (record { same = e; numbered = ap answer_number e ∙ numbers o; sized = ap answer_length e ∙ sizes o; used = ap answer_context e ∙ uses o; formed = ap answer_form e ∙ forms o }, left)
+    (record { same = e; numbered = ap number_of e ∙ numbers o; sized = ap answer_length e ∙ sizes o; used = ap answer_context e ∙ uses o; formed = ap answer_form e ∙ forms o }, left)
   where
-    numbers : (o : Try Outcome) → answer_number (answer_as o) ≡ number_of o
+    numbers : (o : Try Outcome) → number_of (answer_as o) ≡ number_of o
     numbers (Err x) = refl
     numbers (Ok a) = refl
 

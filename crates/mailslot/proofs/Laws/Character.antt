@@ -136,7 +136,7 @@ module _ (s : List ℕ) (at : ℕ) where
 
         stood : Character s at 2 w
         stood = record {
-          Some = λ q. omega arith;
+          some = λ q. omega arith;
           to = h;
           inside = λ size m a b. let one : m ≡ 1 = omega arith in rw one (one_octet size (omega arith));
           after = λ size m. left_unit u size m e h ∙ rw (lead_plain u k) (left-point size u w (points_of16 (cut s (at + 2) m)) z n);
@@ -170,7 +170,7 @@ module _ (s : List ℕ) (at u : ℕ) (e : u ≡ u16_at s at) (h : at + 4 ≤ len
   stood a b =
       let c : ℕ = (0x40 + u % 1024) * 1024 + v % 1024 in
       record {
-        Some = λ q. omega arith;
+        some = λ q. omega arith;
         to = h;
         inside = λ size m p q. go size m (ltb m 2) refl p q;
         after = λ size m. left_both size m ∙ rw (follow-low u v a b) (left-point size c 4 (points_of16 (cut s (at + 4) m)) (omega arith) (four_octets c (omega arith)));

@@ -18,8 +18,10 @@ use Rattle.octets.proofs.Laws.Text.{within_low}
 use Rattle.unicode_text.specs.Utf8.{Decoder, between, partway, on_decoded}
 use Rattle.unicode_text.specs.Utf16.{is_high, is_low, lead16, follow16, decode16, points_from16}
 use Rattle.unicode_text.proofs.Laws.OneText.{after_high_lem}
-use Rattle.reader.specs.Field.{Read, stretch_of, read_octets, read_stretch}
-use Rattle.reader.specs.declared.field.Stretch.{Stretch}
+use Rattle.octets.specs.{declared.part.Stretch.Stretch, Stretch.stretch_of}
+use Rattle.reader.specs.declared.field.Read.{Read}
+use Rattle.reader.specs.Field.{read_octets, read_stretch}
+use Rattle.octets.specs.declared.part.Stretch.{Stretch}
 use Rattle.reader.specs.declared.text.Unit16.TheVariants.{Ends, Plain, High, Low}
 use Rattle.reader.specs.Text.{unit_of, turn, on_turn, read_text_from, read_text}
 use Rattle.mailslot.specs.Message.{is_text16, is_mailslot_name, before_zero, read_zero_ended}

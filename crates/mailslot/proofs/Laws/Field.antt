@@ -18,8 +18,10 @@ use Rattle.octets.specs.Text.{same}
 use Rattle.octets.proofs.Laws.Lists.{Every, every_at, cut-cons}
 use Rattle.octets.proofs.Laws.Number.{length-little, little-back, u16-octets}
 use Rattle.octets.proofs.Laws.Text.{same_equal, same_self}
-use Rattle.reader.specs.{declared.field.Stretch.Stretch, Reader.read_constant, Reader.read_number, Reader.read_tokens}
-use Rattle.reader.specs.Field.{Read, read_octets, read_stretch, read_fixed}
+use Rattle.reader.specs.{Reader.read_constant, Reader.read_number, Reader.read_tokens}
+use Rattle.octets.specs.declared.part.Stretch.{Stretch}
+use Rattle.reader.specs.declared.field.Read.{Read}
+use Rattle.reader.specs.Field.{read_octets, read_stretch, read_fixed}
 
 abbrev pub Octets : List ℕ → Type 0
 Octets s = Every (λ x. x < 256) s

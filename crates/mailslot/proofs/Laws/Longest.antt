@@ -12,7 +12,7 @@ use Rattle.octets.specs.{Lists.all, Lists.cut, Lists.holds, NameRule.without, Te
 use Rattle.octets.specs.Number.{u32_at, little_octets}
 use Rattle.octets.proofs.Laws.Lists.{both_left, cut-length, true_not_false}
 use Rattle.octets.proofs.Laws.Text.{within-high}
-use Rattle.reader.specs.Field.{stretch_of}
+use Rattle.octets.specs.Stretch.{stretch_of}
 use Rattle.reply.specs.Reply.{ending}
 use Rattle.unicode_text.specs.{UserName.is_user_name, Utf8.is_utf8, Utf16.utf8_from16}
 use Rattle.transcode.proofs.Laws.Length.{one_a_unit}

@@ -16,7 +16,8 @@ use Rattle.octets.specs.Lists.{cut}
 use Rattle.octets.specs.Number.{little_octets, u16_at, u32_at}
 use Rattle.octets.proofs.Laws.Lists.{both_left, both_right, every_at}
 use Rattle.octets.proofs.Laws.Number.{u16-octets, u32_halves}
-use Rattle.reader.specs.Field.{stretch_of, read_octets}
+use Rattle.octets.specs.Stretch.{stretch_of}
+use Rattle.reader.specs.Field.{read_octets}
 use Rattle.reader.specs.Reader.{read_constant, read_number}
 use Rattle.reader.specs.Text.{read_text}
 use Rattle.mailslot.specs.declared.message.Message.{Message}

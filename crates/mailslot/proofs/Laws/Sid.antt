@@ -13,8 +13,9 @@ use borrow.Author.Tests.{ne_eqb, eqb-true, ltb-true, ltb-false}
 use Rattle.octets.specs.Lists.{cut}
 use Rattle.octets.proofs.Laws.Lists.{cut-length}
 use Rattle.octets.proofs.Laws.Text.{without_range}
-use Rattle.reader.specs.Field.{Read, read_octets}
-use Rattle.reader.specs.declared.field.Stretch.{Stretch}
+use Rattle.reader.specs.declared.field.Read.{Read}
+use Rattle.reader.specs.Field.{read_octets}
+use Rattle.octets.specs.declared.part.Stretch.{Stretch}
 use Rattle.mailslot.specs.Message.{is_message_sid, padding, read_sid}
 use Rattle.mailslot.specs.Internal.Shape.{sid_padding, is_sid_size}
 use Rattle.mailslot.proofs.Laws.Field.{then_known, octets_there, octets-read, stretch_there, stretch_read}

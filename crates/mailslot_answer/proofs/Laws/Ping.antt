@@ -10,20 +10,17 @@ use lib.ListN.{length, drop}
 use borrow.Author.Tests.{leb-true, not-false}
 use Rattle.answers.specs.Try.{Try, ◌>>=◌}
 use Rattle.answers.proofs.Laws.Try.{good-same, good_then, refused_if-good}
-use Rattle.filter.specs.declared.request.Clause.{Clause}
-use Rattle.filter.specs.declared.request.Clause.TheVariants.{Absent, Present}
+use Rattle.octets.specs.declared.part.Stretch.{Stretch}
 use Rattle.filter.specs.Request.{octets_of}
 use Rattle.filter_read.specs.Internal.RawPing.{ping_at}
 use Rattle.lent.specs.Internal.OverAt.{over_at}
 use Rattle.lent.proofs.Laws.OverAt.{laid_over, laid_more, over_laid}
 use Rattle.octets.specs.{Buffer.over, Lists.cut, Lists.holds, NameRule.without, NameRule.user_name_most}
 use Rattle.octets.proofs.Laws.Lists.{both_left, true_not_false, cut-after}
-use Rattle.reader.specs.Field.{stretch_of}
+use Rattle.octets.specs.Stretch.{stretch_of}
 use Rattle.unicode_text.specs.{UserName.is_user_name, Utf8.is_utf8, Utf16.utf8_from16}
 use Rattle.answers.specs.declared.Refusal.{Refusal}
 use Rattle.mailslot.specs.declared.message.Message.{Message}
-use Rattle.mailslot.specs.declared.message.MessageRead.TheVariants as read
-use Rattle.mailslot.specs.Read.{message_as}
 use Rattle.mailslot.specs.Message.{is_message_user, good_message, read_fields, as_shape, message_in}
 use Rattle.mailslot.proofs.Laws.Longest.{sid-most}
 use Rattle.mailslot.proofs.Laws.Shape.{good-parts, good_numbers}
@@ -97,26 +94,17 @@ module _ (s : List ℕ) (m : Message) (e : message_in s ≡ Ok m) where
   unfolding mailslot_ping
   pinged = ap (λ (o : Try Message). o >>= λ (x : Message). Ok (message_ping s x)) e
 
--- what reading gave, by the enum
-pub read-good : (t : Try Message) (m : Message) → read.Read m ≡ message_as t → t ≡ Ok m
-read-good (Err x) m e = let z : ◌≡◌ {A = ℕ} 0 1 = cc in absurd (omega arith)
-read-good (Ok a) m e = let k : m ≡ a = cc in ap Ok (sym k)
-
-pub read-refused : (t : Try Message) (x : Refusal) → read.Refused x ≡ message_as t → t ≡ Err x
-read-refused (Err y) x e = let k : x ≡ y = cc in ap Err (sym k)
-read-refused (Ok a) x e = let z : ◌≡◌ {A = ℕ} 0 1 = cc in absurd (omega arith)
-
 pub not_pinged : (s : List ℕ) (x : Refusal) → message_in s ≡ Err x → mailslot_ping s ≡ Err x
 unfolding mailslot_ping
 not_pinged s x e = ap (λ (o : Try Message). o >>= λ (m : Message). Ok (message_ping s m)) e
 
 -- a clause by its length, as the code makes it
 module _ (start len : ℕ) where
-  pub absent-clause : len ≡ 0 → ClauseAt start len Absent
+  pub absent-clause : len ≡ 0 → ClauseAt start len None
   absent-clause e s [] q l = refl
   absent-clause e s (y ∷ ys) q l = absurd (omega arith)
 
-  pub present_clause : (len ≡ 0 → ⊥) → ClauseAt start len (Present start len)
+  pub present_clause : (len ≡ 0 → ⊥) → ClauseAt start len (Some (record { start = start; len = len }))
   present_clause n s [] q l = absurd (n (sym l))
   present_clause n s (y ∷ ys) q l = ap Some q
 
@@ -133,11 +121,11 @@ module _ (t x d : List ℕ) (now : List ℕ) (e : now ≡ over (t ++ x) d) where
   back_cut = ap (λ (y : List ℕ). cut y (length t) (length x)) laid_out ∙ cut-after t x (drop (length (t ++ x)) d)
 
 -- what was put makes the ping: the user as UTF-8, then the SID, by the stretches that hold them
-pub ping_made : (s : List ℕ) (m : Message) (units sid d now now' : List ℕ) (n n' : ℕ) (userClause sidClause : Clause)
+pub ping_made : (s : List ℕ) (m : Message) (units sid d now now' : List ℕ) (n n' : ℕ) (userClause sidClause : Option Stretch)
     → units ≡ stretch_of s m.user → sid ≡ stretch_of s m.sid
     → n ≡ length (utf8_text units) → now ≡ over (utf8_text units) d → n' ≡ n + length sid → now' ≡ over_at n sid now
     → ClauseAt 0 n userClause → ClauseAt n (n' - n) sidClause
-    → ping_at now' (record { dns_domain = Absent; «user» = userClause; «aac» = m.bits; domain_sid = sidClause; domain_guid = Absent; «version» = m.version }) ≡ message_ping s m
+    → ping_at now' (record { dns_domain = None; «user» = userClause; «aac» = m.bits; domain_sid = sidClause; domain_guid = None; «version» = m.version }) ≡ message_ping s m
 ping_made s m units sid d now now' n n' userClause sidClause p q e f e' f' user-at sid-at =
     let t : List ℕ = utf8_text units in
     let l : now' ≡ over (t ++ sid) d = over_laid (laid_more sid (laid_over f e) e' f') in

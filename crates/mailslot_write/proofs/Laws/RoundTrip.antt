@@ -10,22 +10,19 @@ use native.Mathlib.Omega.{arith}
 use lib.Dec.{eqb, ltb}
 use lib.ListN.{length, take}
 use Rattle.answers.specs.declared.Refusal.TheVariants.{MailslotShape, NoRoom}
-use Rattle.answers.specs.declared.written.Written.TheVariants as written
 use Rattle.answers.specs.Try.{Try, refused_if}
 use Rattle.answers.specs.Wire.{logon_sam_logon_request}
 use Rattle.answers.specs.Written.{written_as, written_octets}
 use Rattle.octets.specs.Buffer.{over}
 use Rattle.octets.proofs.Laws.Buffer.{over_front}
 use Rattle.octets.proofs.Laws.Number.{length-little, little-back}
-use Rattle.reader.specs.Field.{stretch_of}
+use Rattle.octets.specs.Stretch.{stretch_of}
 use Rattle.reader.specs.Text.{read_text}
 use Rattle.reader.proofs.Laws.Field.{Left, left-start, left_after, left-same, octets_here}
 use Rattle.reader.proofs.Laws.Reader.{tokens, constant_here, number_here, number-after, tokens_here}
 use Rattle.reply.specs.Reply.{u16, u32, ending}
 use Rattle.mailslot.specs.declared.message.Message.{Message}
-use Rattle.mailslot.specs.declared.message.MessageRead.TheVariants as read
 use Rattle.mailslot.specs.Message.{good_message, read_zero_ended, read_sid, read_fields, message_in, message_head, padded_sid, message_octets, message_for}
-use Rattle.mailslot.specs.Read.{message_as}
 use Rattle.mailslot.proofs.Laws.Longest.{longest_message}
 use Rattle.mailslot.proofs.Laws.Shape.{GoodParts, good-parts, good_numbers}
 use Rattle.mailslot.proofs.Laws.User.{computer-text, user-text}
@@ -191,14 +188,14 @@ round_trip source m room octets e =
 pub calls_round_trip : CallsRoundTrip
 calls_round_trip source m before after w n r wrote laid answer took = by (message_for source m (length before)) refl
   where
-    by : (o : Try (List ℕ)) → message_for source m (length before) ≡ o → (q : Message) × (r ≡ read.Read q) × SameMessage (take n after) q source m
+    by : (o : Try (List ℕ)) → message_for source m (length before) ≡ o → (q : Message) × (r ≡ Ok q) × SameMessage (take n after) q source m
     by (Err x) e =
-        let f : written.Refused x ≡ written.Length n = sym (ap written_as e) ∙ sym wrote.same ∙ answer in
+        let f : ◌≡◌ {A = Try ℕ} (Err x) (Ok n) = sym (ap written_as e) ∙ sym wrote.same ∙ answer in
         let z : ◌≡◌ {A = ℕ} 0 1 = cc in
         absurd (omega arith)
     by (Ok octets) e =
-        let f : written.Length (length octets) ≡ written.Length n = sym (ap written_as e) ∙ sym wrote.same ∙ answer in
+        let f : ◌≡◌ {A = Try ℕ} (Ok (length octets)) (Ok n) = sym (ap written_as e) ∙ sym wrote.same ∙ answer in
         let l : length octets ≡ n = cc in
         let t : take n after ≡ octets = ap (take n) (laid ∙ ap (λ (x : Try (List ℕ)). over (written_octets x) before) e) ∙ over_front octets before n l in
         let b = round_trip source m (length before) octets e in
-        (b.0, took.same ∙ ap (λ (x : List ℕ). message_as (message_in x)) t ∙ ap message_as b.1, subst (λ (x : List ℕ). SameMessage x b.0 source m) (sym t) b.2)
+        (b.0, took ∙ ap message_in t ∙ b.1, subst (λ (x : List ℕ). SameMessage x b.0 source m) (sym t) b.2)

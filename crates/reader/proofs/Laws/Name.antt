@@ -19,7 +19,7 @@ use Rattle.names.specs.WalkRelation.{Walks, ends, reads, points}
 use Rattle.names.proofs.Laws.Walk.{walk_inside, finds, bound, bound_read, bound_jump, bound_steps}
 use Rattle.octets.proofs.Laws.Label.{size, size_positive}
 use Rattle.octets.proofs.Laws.Lists.{cut-length, neither_left, neither_right}
-use Rattle.reader.specs.Field.{Read}
+use Rattle.reader.specs.declared.field.Read.{Read}
 use Rattle.reader.specs.Name.{written_most, pointers_most, cut_after, label_before, ending_at, read_name_from, read_name}
 use Rattle.reader.specs.ReaderWalks.{ReaderWalks, written_out, ReaderLimits, ReaderAccepts, ReaderStepsEnough}
 

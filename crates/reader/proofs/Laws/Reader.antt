@@ -22,7 +22,7 @@ use Rattle.unicode_text.proofs.Laws.Utf16.{Spoken}
 use Rattle.reader.proofs.Laws.Field.{Left, left-start, left_after, left-next, left-length, left_cut, left-same, octets_here, stretch_here, fixed_here}
 use Rattle.reader.specs.Name.{read_name}
 use Rattle.reader.proofs.Laws.Name.{name_here}
-use Rattle.reader.specs.declared.field.Stretch.{Stretch}
+use Rattle.octets.specs.declared.part.Stretch.{Stretch}
 use Rattle.reader.specs.Text.{read_text}
 use Rattle.reader.proofs.Laws.Text.{text_here, text-after}
 use Rattle.reader.specs.Reader.{NameRead, ExFields, Fields, nt40, response, ex, read_opcode, read_number, read_names, read_constant, read_tokens, read_opening, read_nt40, read_response, read_address, has_next_site, Last, read_last, read_ex}

@@ -15,16 +15,17 @@ use Rattle.octets.specs.Number.{little, little_octets}
 use Rattle.unicode_text.proofs.Laws.Utf8.{Scalar}
 use Rattle.unicode_text.specs.Utf16.{high_unit, low_unit, point_octets, points_octets, is_high, is_low}
 use Rattle.unicode_text.proofs.Laws.Utf16.{one_unit, two-units}
-use Rattle.reader.specs.Field.{Read, read_octets}
+use Rattle.reader.specs.declared.field.Read.{Read}
+use Rattle.reader.specs.Field.{read_octets}
 use Rattle.reader.proofs.Laws.Field.{Left, octets_here, left_after, left-next, left-length}
-use Rattle.reader.specs.declared.field.Stretch.{Stretch}
+use Rattle.octets.specs.declared.part.Stretch.{Stretch}
 use Rattle.reader.specs.declared.text.Unit16.TheVariants.{Ends, Plain, High, Low}
 use Rattle.reader.specs.declared.text.Turn.{Turn}
 use Rattle.reader.specs.declared.text.Turn.TheVariants.{Stop, Go, Wrong}
 use Rattle.reader.specs.declared.text.UnitStep.{UnitStep}
 use Rattle.reader.specs.declared.text.UnitStep.TheVariants as step
 use Rattle.reader.specs.Text.{unit_of, turn, on_turn, read_text_from, read_text}
-use Rattle.reader.specs.Internal.Text.{step_to, on_unit, unit_step}
+use Rattle.reader.specs.Internal.Text.{step_to, unit_step}
 
 -- ---- units
 
@@ -108,7 +109,7 @@ module _ {s : List ℕ} (start : ℕ) where
       one h d =
           let u = one_unit c h in
           let m : Left s at ((u.0 ∷ u.1 ∷ []) ++ after) = rw u.2 at here in
-          let t : turn false (unit_of c) ≡ Go false = rw (plain_unit c ok.0.some ok.0.unique) in
+          let t : turn false (unit_of c) ≡ Go false = rw (plain_unit c ok.0.Some ok.0.unique) in
           let n : length (point_octets c) ≡ 2 = ap length u.2 in
           let fewer : length (points_octets cs) < k = omega (arith, length-append (point_octets c) (points_octets cs)) in
           unit_step_lem k at u.0 u.1 c after false false m u.3 t ∙ d k (at + 2) fewer (left-next (u.0 ∷ u.1 ∷ []) after 2 refl m) ∙ moved 2 n
@@ -154,10 +155,10 @@ text-after x rest l = left-next (little_octets 2 0) rest 2 refl (left_after x (l
 
 module _ (s : List ℕ) (start : ℕ) where
   -- what is left of the reading after a unit at an offset
-  abbrev after : ℕ → ℕ → UnitStep → Try (Read Stretch)
-  after k at (step.Stop next) = Ok (record { value = record { start = start; len = at - start }; next = next })
-  after k at (step.Go after_high_lem next) = read_text_from k s start next after_high_lem
-  after k at (step.Refused r) = Err r
+  abbrev after : ℕ → ℕ → Try UnitStep → Try (Read Stretch)
+  after k at (Ok (step.Stop next)) = Ok (record { value = record { start = start; len = at - start }; next = next })
+  after k at (Ok (step.Go after_high_lem next)) = read_text_from k s start next after_high_lem
+  after k at (Err r) = Err r
 
   one-turn : (k at : ℕ) (h : Bool) → read_text_from (suc k) s start at h ≡ after k at (unit_step s at h)
   unfolding read_text_from unit_step
@@ -170,7 +171,7 @@ module _ (s : List ℕ) (start : ℕ) where
 
       go : (u : Try (Read (List ℕ)))
           → (u >>= λ x. on_turn (turn h (unit_of (little x.value))) (Ok (record { value = record { start = start; len = at - start }; next = x.next })) (λ g. read_text_from k s start x.next g))
-          ≡ after k at (on_unit h u)
+          ≡ after k at (u >>= λ x. step_to x.next (turn h (unit_of (little x.value))))
       go (Err r) = refl
       go (Ok x) = turned x.next (turn h (unit_of (little x.value)))
 
@@ -195,13 +196,13 @@ module _ (s : List ℕ) (start : ℕ) where
       go (suc k) e = (k, e, sym (one-turn k at h) ∙ sym (ap (λ (n : ℕ). read_text_from n s start at h) e) ∙ t.left)
 
   module _ {at : ℕ} {h : Bool} (t : TextLeft at h) where
-    pub text_stop : (next : ℕ) → unit_step s at h ≡ step.Stop next → read_text s start ≡ Ok (record { value = record { start = start; len = at - start }; next = next })
+    pub text_stop : (next : ℕ) → unit_step s at h ≡ Ok (step.Stop next) → read_text s start ≡ Ok (record { value = record { start = start; len = at - start }; next = next })
     text_stop next e = let l = leads at h t in sym l.2 ∙ ap (after l.0 at) e
 
-    pub text-refused : (r : Refusal) → unit_step s at h ≡ step.Refused r → read_text s start ≡ Err r
+    pub text-refused : (r : Refusal) → unit_step s at h ≡ Err r → read_text s start ≡ Err r
     text-refused r e = let l = leads at h t in sym l.2 ∙ ap (after l.0 at) e
 
-    pub text_go : (g : Bool) (next : ℕ) → unit_step s at h ≡ step.Go g next → next ≡ at + 2 → next ≤ length s → TextLeft next g
+    pub text_go : (g : Bool) (next : ℕ) → unit_step s at h ≡ Ok (step.Go g next) → next ≡ at + 2 → next ≤ length s → TextLeft next g
     text_go g next e two within =
         let l = leads at h t in
         record {

@@ -11,8 +11,9 @@ use lib.Seq.{drop_at}
 use Rattle.answers.specs.Try.{Try}
 use Rattle.octets.specs.{Lists.all, Number.little_octets}
 use Rattle.octets.proofs.Laws.Lists.{both_right}
-use Rattle.reader.specs.declared.field.Stretch.{Stretch}
-use Rattle.reader.specs.Field.{Read, stretch_of}
+use Rattle.octets.specs.declared.part.Stretch.{Stretch}
+use Rattle.octets.specs.Stretch.{stretch_of}
+use Rattle.reader.specs.declared.field.Read.{Read}
 use Rattle.reader.specs.Text.{read_text}
 use Rattle.reader.proofs.Laws.Field.{Left, left_after, left-next, left_cut, left-length, octets_here, stretch_here}
 use Rattle.reader.proofs.Laws.Text.{text-after}
