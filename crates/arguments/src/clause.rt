@@ -94,3 +94,25 @@ pub fn read_clause(
     let octets = value_of(*source.allocator(), name, value)?;
     Ok(request.with(name, Some(append(source, &octets)?)))
 }
+
+#[cfg(test)]
+mod tests {
+    use super::*;
+    use filter::request::no_clauses;
+    use std::test::Fail;
+
+    #[test]
+    fn clauses_are_read(rt: HostRuntime) -> Result<(), Fail> {
+        let mut source = Vec::new(rt.alloc());
+        let Ok(request) = read_clause(b"ntver=6", &mut source, no_clauses()) else {
+            panic!(rt; "NtVer is a number");
+        };
+        let Ok(request) = read_clause(b"User=a\\00", &mut source, request) else {
+            panic!(rt; "User has octets");
+        };
+        assert_eq!(rt; source.as_slice(), [6, 0, 0, 0, b'a', 0].as_slice());
+        assert_eq!(rt; request.user.map(|user| user.start), Some(4));
+        assert_eq!(rt; read_clause(b"USER=b", &mut source, request).is_err(), true);
+        Ok(())
+    }
+}

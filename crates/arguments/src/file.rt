@@ -39,3 +39,22 @@ pub fn read_table<E: Env + Files + AllocGlobal>(env: &E) -> Result<Vec<u8>, Faul
         Err(error) => Err(Fault::File(error, path)),
     }
 }
+
+#[cfg(test)]
+mod tests {
+    use super::*;
+    use std::fs;
+    use std::test::Fail;
+
+    #[test]
+    fn a_file_is_read_up_to_a_limit(rt: HostRuntime) -> Result<(), Fail> {
+        fs::write(&rt, "read_file.octets", [1u8, 2, 3].as_slice())?;
+        let whole = read_file(&rt, b"read_file.octets", 4)?;
+        let cut = read_file(&rt, b"read_file.octets", 2)?;
+        fs::remove_file(&rt, "read_file.octets")?;
+        assert_eq!(rt; whole.as_slice(), [1, 2, 3].as_slice());
+        assert_eq!(rt; cut.as_slice(), [1, 2].as_slice());
+        assert_eq!(rt; read_file(&rt, b"read_file.octets", 4).is_err(), true);
+        Ok(())
+    }
+}

@@ -75,7 +75,7 @@ enum Word {
 }
 
 // The words that are given, their octets as stretches of a source.
-#[derive(Clone, Copy)]
+#[derive(Clone, Copy, Default)]
 pub struct Words {
     pub repeat: Option<u16>,
     pub computer: Option<Stretch>,
@@ -84,18 +84,6 @@ pub struct Words {
     pub bits: Option<u32>,
     pub sid: Option<Stretch>,
     pub version: Option<u32>,
-}
-
-pub fn no_words() -> Words {
-    Words {
-        repeat: None,
-        computer: None,
-        user: None,
-        mailslot: None,
-        bits: None,
-        sid: None,
-        version: None,
-    }
 }
 
 impl Words {
@@ -176,4 +164,37 @@ pub fn read_word(text: &[u8], source: &mut Vec<u8>, words: &mut Words) -> Result
         Word::Version => words.version = Some(number_word(value)?),
     }
     Ok(())
+}
+
+#[cfg(test)]
+mod tests {
+    use super::*;
+    use std::test::Fail;
+
+    #[test]
+    fn words_are_read(rt: HostRuntime) -> Result<(), Fail> {
+        let mut source = Vec::new(rt.alloc());
+        let mut words = Words::default();
+        assert_eq!(rt; read_word(b"user=a", &mut source, &mut words).is_ok(), true);
+        assert_eq!(rt;
+            read_word(b"Sid=\\01", &mut source, &mut words).is_ok(),
+            true
+        );
+        assert_eq!(rt;
+            read_word(b"Repeat=0x10", &mut source, &mut words).is_ok(),
+            true
+        );
+        assert_eq!(rt; source.as_slice(), [b'a', 0, 1].as_slice());
+        assert_eq!(rt; words.sid.map(|sid| sid.start), Some(2));
+        assert_eq!(rt; words.repeat, Some(16));
+        assert_eq!(rt;
+            read_word(b"User=b", &mut source, &mut words).is_err(),
+            true
+        );
+        assert_eq!(rt;
+            read_word(b"Computer=\xff", &mut source, &mut words).is_err(),
+            true
+        );
+        Ok(())
+    }
 }

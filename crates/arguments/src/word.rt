@@ -1,4 +1,6 @@
 // An argument as it was given.
+ghost use Rattle.std.specs.Prelude.{◌≡◌, ◌+◌, ◌≤◌, IfOk, IfSome, length, vec_len};
+
 use crate::fault::Fault;
 use std::env::{Env, FillError};
 
@@ -16,7 +18,9 @@ pub fn take_word<E: Env + AllocGlobal>(
     number: usize,
     name: &'static str,
     most: usize,
-) -> Result<Vec<u8>, Fault> {
+) -> Result<Vec<u8>, Fault>
+    ensures { IfOk result (λ word. vec_len word ≤ most) }
+{
     let mut word = vec![in env.alloc(); 0; most]?;
     match env.arg(number, &mut word) {
         Ok(len) => {
@@ -29,7 +33,24 @@ pub fn take_word<E: Env + AllocGlobal>(
 }
 
 // What stands before and behind the first `=`.
-pub fn split_word(text: &[u8]) -> Option<(&[u8], &[u8])> {
+pub fn split_word(text: &[u8]) -> Option<(&[u8], &[u8])>
+    ensures { IfSome result (λ parts. length parts.0.now + 1 + length parts.1.now ≡ length text.now) }
+{
     let equals = text.iter().position(|x| *x == b'=')?;
     Some((&text[..equals], &text[equals + 1..]))
+}
+
+#[cfg(test)]
+mod tests {
+    use super::*;
+
+    #[test]
+    fn the_program_has_a_name(rt: HostRuntime) {
+        assert_eq!(rt; has_word(&rt, 0), true);
+        assert_eq!(rt;
+            take_word(&rt, 0, "NAME", 4096).is_ok_and(|name| !name.is_empty()),
+            true
+        );
+        assert_eq!(rt; take_word(&rt, 1000, "NAME", 4096).is_err(), true);
+    }
 }

@@ -34,6 +34,14 @@ pub fn octets_of(alloc: Global, word: &str) -> Result<Option<Vec<u8>>, AllocErro
     }
 }
 
+// The octets of a line that has one word behind its kind.
+pub fn only_octets(alloc: Global, fields: &[&str]) -> Result<Option<Vec<u8>>, AllocError> {
+    match fields {
+        [word] => octets_of(alloc, word),
+        _ => Ok(None),
+    }
+}
+
 // Bits, or a client's address: eight digits, the most significant first.
 pub fn bits_of(word: &str) -> Option<u32>
     ensures { OnSome result (length word.now ≡ 8) }

@@ -1,7 +1,7 @@
 // The mailslot message that the arguments after --mailslot ask with: written from words, or given as it is.
 use crate::asked::{AFTER_CLIENT, WORD_SIZE, octets_asked, too_long};
 use arguments::fault::Fault;
-use arguments::message_word::{Words, no_words, read_word};
+use arguments::message_word::{Words, read_word};
 use arguments::word::{has_word, take_word};
 use mailslot::message::Message;
 use mailslot_write::write::write_message;
@@ -25,7 +25,7 @@ fn add_word<E: Env + AllocGlobal>(
 }
 
 fn words_asked<E: Env + AllocGlobal>(env: &E, source: &mut Vec<u8>) -> Result<Words, Fault> {
-    let mut words = no_words();
+    let mut words = Words::default();
     for i in FIRST_WORD..usize::MAX {
         if !has_word(env, i) {
             break;
@@ -65,9 +65,7 @@ fn written_message<E: Env + AllocGlobal>(env: &E) -> Result<Vec<u8>, Fault> {
 
 pub fn message_asked<E: Env + AllocGlobal>(env: &E) -> Result<Vec<u8>, Fault> {
     if !has_word(env, FIRST_WORD) {
-        return Err(Fault::Slip(
-            "neither HEX nor WORD=VALUE is given after --mailslot",
-        ));
+        return Err(Fault::Slip("neither HEX nor WORD=VALUE is given after --mailslot"));
     }
     let first = take_word(env, FIRST_WORD, "HEX", WORD_SIZE)?;
     if first.contains(&b'=') {

@@ -1,7 +1,7 @@
 // `mailslot` lines: a mailslot message is read.
 use answers::number_in;
 use line_words::answer::{Text, say_unknown};
-use line_words::word::octets_of;
+use line_words::word::only_octets;
 use mailslot::message::Message;
 use mailslot_read::read::read_message;
 use std::alloc::Global;
@@ -24,10 +24,7 @@ fn say_message<W: Write>(to: &mut W, octets: &[u8], message: Message) -> io::Res
 
 // A refusal has no fields.
 pub fn answer_mailslot<W: Write>(to: &mut W, alloc: Global, fields: &[&str]) -> io::Result<()> {
-    let [message] = fields else {
-        return say_unknown(to);
-    };
-    let Some(octets) = octets_of(alloc, message)? else {
+    let Some(octets) = only_octets(alloc, fields)? else {
         return say_unknown(to);
     };
     let read = read_message(&octets);

@@ -1,5 +1,5 @@
 // `walk` lines: document 01's walk over a reply's octets, from an offset. It knows no limit but the octets.
-ghost use Rattle.std.specs.Prelude.{◌≡◌, ◌+◌, length, nat_le, IfSome};
+ghost use Rattle.std.specs.Prelude.{length, IfSome};
 ghost use Rattle.reply_lines.specs.Internal.Walk.{StepWithin};
 
 use console::hex::Hex;
@@ -26,20 +26,13 @@ struct Name<'a> {
     labels: Vec<&'a [u8]>,
 }
 
-// Whether the octets of a label at an offset are all there.
-fn is_whole(reply: &[u8], at: usize, len: usize) -> bool
-    ensures { result ≡ nat_le (at + 1 + len) (length reply.now) }
-{
-    (at < reply.len()) && (len < reply.len() - at)
-}
-
 // The step at an offset, in a run that starts at `run`.
 fn walk_step(reply: &[u8], run: usize, at: usize) -> Option<WalkStep>
     ensures { IfSome result (StepWithin (length reply.now) run at) }
 {
     match look_at(reply, at) {
         Look::End => Some(WalkStep::Ends),
-        Look::Label(len) if is_whole(reply, at, len) => Some(WalkStep::Label(len)),
+        Look::Label(len) if len < reply.len().saturating_sub(at) => Some(WalkStep::Label(len)),
         Look::Pointer(aim) if aim < run => Some(WalkStep::Pointer(aim)),
         _ => None,
     }

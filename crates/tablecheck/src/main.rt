@@ -23,7 +23,10 @@ fn say_first_wrong<W: Write>(to: &mut W, image: &[u8], rule: BlockRule) -> io::R
         return Ok(());
     }
     let first = first_wrong(image, rule);
-    writeln!(to, "block     {first} is the first wrong one, counted from 0")
+    writeln!(
+        to,
+        "block     {first} is the first wrong one, counted from 0"
+    )
 }
 
 fn show_judgement<W: Write>(to: &mut W, image: &[u8]) -> io::Result<()> {
