@@ -1,15 +1,34 @@
 // The clause name that octets spell, told by how many they are and then letter by letter: no octet waits for another.
 ghost use Rattle.std.specs.Prelude.{◌≡◌, cond, [], ◌∷◌, ◌+◌, ◌≤◌, eqb, length};
-ghost use Rattle.octets.specs.Lists.{cut};
+ghost use Rattle.octets.specs.Stretch.{stretch_of};
 ghost use Rattle.octets.specs.Text.{lower};
 ghost use Rattle.filter_gather.specs.Internal.Gather.{name_spelled};
 ghost use Rattle.filter_gather.specs.Internal.Letters.{letters_at, small_letters};
 ghost use Rattle.filter.specs.declared.request.ClauseName.TheVariants.{DnsDomain, DnsHostName, DomainSid, DomainGuid, NtVer};
 ghost use Rattle.filter_gather.specs.Internal.Seen.{place_as};
 
-use crate::seen::{AAC, DNS_DOMAIN, DNS_HOST_NAME, DOMAIN_GUID, DOMAIN_SID, HOST, NT_VER, USER};
-use filter::request::CLAUSE_COUNT;
+use crate::seen::CLAUSE_COUNT;
+use filter::request::ClauseName;
+use octets::part::Stretch;
 use octets::text::folded;
+
+// The places of the clause names, in document 01's order. They go as numbers, as they are indices and a name that may be missing would be
+// handed back in memory.
+const DNS_DOMAIN: usize = ClauseName::DnsDomain as usize;
+
+const HOST: usize = ClauseName::Host as usize;
+
+const DNS_HOST_NAME: usize = ClauseName::DnsHostName as usize;
+
+const USER: usize = ClauseName::User as usize;
+
+const AAC: usize = ClauseName::Aac as usize;
+
+const DOMAIN_SID: usize = ClauseName::DomainSid as usize;
+
+const DOMAIN_GUID: usize = ClauseName::DomainGuid as usize;
+
+const NT_VER: usize = ClauseName::NtVer as usize;
 
 // Whether an octet is a letter, ASCII case ignored.
 fn is_letter(x: u8, small: u8) -> bool
@@ -91,11 +110,13 @@ fn place_if(spelled: bool, place: usize) -> usize
     CLAUSE_COUNT
 }
 
-// The place of the clause name that octets spell: 8 where they spell none.
-pub fn place_of(s: &[u8], at: usize, len: usize) -> usize
-    requires { at + len ≤ length s.now }
-    ensures { result ≡ place_as (name_spelled (cut s.now at len)) }
+// The place of the clause name that octets spell, CLAUSE_COUNT where they spell none.
+pub fn place_spelled(s: &[u8], name: Stretch) -> usize
+    requires { name.start + name.len ≤ length s.now }
+    ensures { result ≡ place_as (name_spelled (stretch_of s.now name)) }
 {
+    let at = name.start;
+    let len = name.len;
     if len == 3 {
         return place_if(are_three_letters(s, at, b'a', b'a', b'c'), AAC);
     }

@@ -2,7 +2,12 @@
 -- A filter is read by offsets: from `at`, within the end of the element around it.
 use Rattle.std.specs.Prelude.{true, false, cond, ◌&&◌, List, [], ◌∷◌, ◌++◌, ℕ, zero, suc, ◌+◌, ◌-◌, eqb, leb, ltb, length, get_or, Option, None, Some, option_map, option_and_then}
 use Rattle.octets.specs.{Lists.cut, Number.big}
-use Rattle.filter_position.specs.declared.position.RawClause.{RawClause}
+use Rattle.filter_position.specs.{declared.position.Element.Element, declared.position.RawClause.RawClause}
+
+infixl 1 ◌>>=◌
+-- what follows, where there is something; a `do` block is made of it
+abbrev pub ◌>>=◌ : {A B : Type 0} → Option A → (A → Option B) → Option B
+o >>= f = option_and_then f o
 
 -- 5: a filter over this many octets
 abbrev pub filter_limit : ℕ
@@ -17,12 +22,6 @@ equality_tag = 0xA3
 
 abbrev pub string_tag : ℕ
 string_tag = 0x04
-
--- an element: its tag, where its contents start, and where what follows it does
-pub record Element : Type 0 where
-  pub tag : ℕ
-  pub start : ℕ
-  pub next : ℕ
 
 -- a length below this is its own octet; else one octet or two come after this one
 abbrev pub short_limit : ℕ
@@ -51,17 +50,24 @@ unfoldable pub element_at : List ℕ → ℕ → ℕ → Option Element
 element_at s at end =
     cond (ltb end (at + 2))
     None
-    (option_and_then (length_width (get_or s (at + 1) 0)) (λ w.
-    cond (ltb end (at + 2 + w)) None (element_of (get_or s at 0) (at + 2 + w) (length_value s (at + 1) w) end)))
+    (do
+      w ← length_width (get_or s (at + 1) 0)
+      cond (ltb end (at + 2 + w)) None (element_of (get_or s at 0) (at + 2 + w) (length_value s (at + 1) w) end))
+
+-- the clause that a name and a value make
+abbrev pub clause_of : Element → Element → RawClause
+clause_of n v = record { name = record { start = n.start; len = n.next - n.start }; value = record { start = v.start; len = v.next - v.start } }
 
 -- a name and a value that fill the equality from `at` to `end`: the clause that they are
 unfoldable pub equality : List ℕ → ℕ → ℕ → Option RawClause
-equality s at end =
-    option_and_then (element_at s at end) (λ n.
-    cond (eqb n.tag string_tag) (option_and_then (element_at s n.next end) (λ v.
-    cond (eqb v.tag string_tag && eqb v.next end)
-    (Some (record { name_start = n.start; name_len = n.next - n.start; start = v.start; len = v.next - v.start }))
-    None)) None)
+equality s at end = do
+  n ← element_at s at end
+  cond
+      (eqb n.tag string_tag)
+      (do
+        v ← element_at s n.next end
+        cond (eqb v.tag string_tag && eqb v.next end) (Some (clause_of n v)) None)
+      None
 
 module _ (and : List ℕ → ℕ → ℕ → Option (List RawClause)) where
   -- the filter that an element is, where `and` reads the contents of an AND
@@ -71,10 +77,10 @@ module _ (and : List ℕ → ℕ → ℕ → Option (List RawClause)) where
   -- filters that fill the stretch from `at` to `end`, one at least; k bounds how many there are
   unfoldable pub siblings : ℕ → List ℕ → ℕ → ℕ → Option (List RawClause)
   siblings zero s at end = None
-  siblings (suc k) s at end =
-      option_and_then (element_at s at end) (λ e.
-      option_and_then (one s e) (λ xs.
-      elim (eqb e.next end) [ true ↦ Some xs | false ↦ option_map (λ ys. xs ++ ys) (siblings k s e.next end) ]))
+  siblings (suc k) s at end = do
+    e ← element_at s at end
+    xs ← one s e
+    elim (eqb e.next end) [ true ↦ Some xs | false ↦ option_map (λ ys. xs ++ ys) (siblings k s e.next end) ]
 
 -- the contents of an AND, where it and d - 1 more may stand one inside the other
 unfoldable pub and_of : ℕ → List ℕ → ℕ → ℕ → Option (List RawClause)
@@ -83,4 +89,6 @@ and_of (suc d) s at end = siblings (and_of d) (end - at) s at end
 
 -- a whole filter's clauses in order, or none where it is not of the shape: one element that fills the octets
 unfoldable pub clauses_of : List ℕ → Option (List RawClause)
-clauses_of s = option_and_then (element_at s 0 (length s)) (λ e. cond (eqb e.next (length s)) (one (and_of 4) s e) None)
+clauses_of s = do
+  e ← element_at s 0 (length s)
+  cond (eqb e.next (length s)) (one (and_of 4) s e) None

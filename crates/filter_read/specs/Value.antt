@@ -1,12 +1,11 @@
 -- Document 01, "Answer numbers" 9: the values of a request's clauses, judged over the whole filter. Document 02, #101: the version asked.
 use Rattle.std.specs.Prelude.{◌≡◌, Bool, not, ◌||◌, List, ℕ, eqb, length, Ok, Err, Option, None, Some, option_map, unwrap_or}
 use Rattle.answers.specs.declared.Refusal.TheVariants.{ClauseValue}
-use Rattle.answers.specs.{Refusal.number, Wire.netlogon_nt_version_1}
+use Rattle.answers.specs.Wire.{netlogon_nt_version_1}
 use Rattle.answers.specs.Try.{Try, refused_if, ◌>>=◌, number_of, value_of}
 use Rattle.octets.specs.{Lists.holds, Number.little}
 use Rattle.unicode_text.specs.UserName.{is_user_name}
-use Rattle.filter_read.specs.{declared.value.Judged.Judged, Taken.request_in}
-use Rattle.filter_read.specs.declared.value.Judged.TheVariants as judged
+use Rattle.filter_read.specs.Taken.{request_in}
 use Rattle.filter.specs.{declared.request.Request.Request, Request.octets_of}
 
 -- what the clauses of a request say that the answer goes by: absent, or their octets; an absent AAC is 0
@@ -53,23 +52,12 @@ ping_from filter = do
   r ← request_in filter
   ping_in filter r
 
--- the answer of judging a request's values, as the enum that the call returns
-abbrev pub judged_values : Try Ping → Judged
-judged_values (Err r) = judged.Refused r
-judged_values (Ok p) = judged.Version p.version
+-- the answer of judging a request's values: the version asked
+abbrev pub judged_values : Try Ping → Try ℕ
+judged_values t = t >>= λ p. Ok p.version
 
--- document 01's number of it
-abbrev pub judged_number : Judged → ℕ
-judged_number (judged.Version v) = 0
-judged_number (judged.Refused r) = number r
-
--- the version asked, none with a refusal
-abbrev pub judged_version : Judged → Option ℕ
-judged_version (judged.Version v) = Some v
-judged_version (judged.Refused r) = None
-
--- what `judge_values` promises
-pub record JudgeValuesPromise (filter : List ℕ) (request : Request) (r : Judged) : Type 0 where
+-- what `judge_values` promises: the answer, with its number and the version asked, none with a refusal
+pub record JudgeValuesPromise (filter : List ℕ) (request : Request) (r : Try ℕ) : Type 0 where
   pub same : r ≡ judged_values (ping_in filter request)
-  pub numbered : judged_number r ≡ number_of (ping_in filter request)
-  pub given : judged_version r ≡ option_map (λ p. p.version) (value_of (ping_in filter request))
+  pub numbered : number_of r ≡ number_of (ping_in filter request)
+  pub given : value_of r ≡ option_map (λ p. p.version) (value_of (ping_in filter request))

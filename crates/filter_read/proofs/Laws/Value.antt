@@ -12,20 +12,19 @@ use Rattle.octets.proofs.Laws.Lists.{neither_right}
 use Rattle.unicode_text.specs.UserName.{is_user_name}
 use Rattle.filter.specs.declared.request.Request.{Request}
 use Rattle.filter.specs.Request.{octets_of}
-use Rattle.filter_read.specs.declared.value.Judged.{Judged}
 use Rattle.filter_read.specs.Taken.{request_in}
-use Rattle.filter_read.specs.Value.{Ping, is_number, wrong_value_lem, version_asked, ping_of, ping_in, ping_from, judged_values, judged_number, judged_version, JudgeValuesPromise}
+use Rattle.filter_read.specs.Value.{Ping, is_number, wrong_value_lem, version_asked, ping_of, ping_in, ping_from, judged_values, JudgeValuesPromise}
 
-pub judge_values_promised : (filter : List ℕ) (request : Request) (r : Judged) → r ≡ judged_values (ping_in filter request) → JudgeValuesPromise filter request r
+pub judge_values_promised : (filter : List ℕ) (request : Request) (r : Try ℕ) → r ≡ judged_values (ping_in filter request) → JudgeValuesPromise filter request r
 judge_values_promised filter request r e =
     let t : Try Ping = ping_in filter request in
-    record { same = e; numbered = ap judged_number e ∙ numbers t; given = ap judged_version e ∙ gives t }
+    record { same = e; numbered = ap number_of e ∙ numbers t; given = ap value_of e ∙ gives t }
   where
-    numbers : (t : Try Ping) → judged_number (judged_values t) ≡ number_of t
+    numbers : (t : Try Ping) → number_of (judged_values t) ≡ number_of t
     numbers (Err x) = refl
     numbers (Ok p) = refl
 
-    gives : (t : Try Ping) → judged_version (judged_values t) ≡ option_map (λ (p : Ping). p.version) (value_of t)
+    gives : (t : Try Ping) → value_of (judged_values t) ≡ option_map (λ (p : Ping). p.version) (value_of t)
     gives (Err x) = refl
     gives (Ok p) = refl
 
