@@ -35,7 +35,9 @@ pub fn octets_of(alloc: Global, word: &str) -> Result<Option<Vec<u8>>, AllocErro
 }
 
 // The octets of a line that has one word behind its kind.
-pub fn only_octets(alloc: Global, fields: &[&str]) -> Result<Option<Vec<u8>>, AllocError> {
+pub fn only_octets(alloc: Global, fields: &[&str]) -> Result<Option<Vec<u8>>, AllocError>
+    ensures { IfOk result (λ found. OnSome found (length fields.now ≡ 1)) }
+{
     match fields {
         [word] => octets_of(alloc, word),
         _ => Ok(None),

@@ -35,11 +35,11 @@ fn show<W: Write>(
 }
 
 // One that was answered has the version bits that it asks with.
-pub fn show_filter<W: Write>(
+pub fn show_filter<'a, W: Write>(
     to: &mut W,
-    image: &[u8],
+    image: &'a [u8],
     caller: Caller,
-    filter: &[u8],
+    filter: &'a [u8],
 ) -> io::Result<()> {
     let mut reply = [0u8; REPLY_SIZE];
     let answer = answer_ping(image, caller, filter, &mut reply);
@@ -61,11 +61,11 @@ fn show_asked<W: Write>(to: &mut W, octets: &[u8]) -> io::Result<u32> {
     }
 }
 
-pub fn show_message<W: Write>(
+pub fn show_message<'a, W: Write>(
     to: &mut W,
-    image: &[u8],
+    image: &'a [u8],
     caller: Caller,
-    message: &[u8],
+    message: &'a [u8],
 ) -> io::Result<()> {
     let mut reply = [0u8; REPLY_SIZE];
     let version = show_asked(to, message)?;
