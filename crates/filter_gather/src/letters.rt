@@ -37,6 +37,7 @@ fn is_letter(x: u8, small: u8) -> bool
     folded(x, true) == small
 }
 
+// Letters go one by one as numbers: through one function over an array they are read back from memory, and turn by turn.
 fn are_two_letters(s: &[u8], at: usize, a: u8, b: u8) -> bool
     requires { at + 2 ≤ length s.now }
     ensures { result ≡ letters_at s.now at (a ∷ b ∷ []) }

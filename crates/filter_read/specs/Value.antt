@@ -1,5 +1,5 @@
 -- Document 01, "Answer numbers" 9: the values of a request's clauses, judged over the whole filter. Document 02, #101: the version asked.
-use Rattle.std.specs.Prelude.{◌≡◌, Bool, not, ◌||◌, List, ℕ, eqb, length, Ok, Err, Option, None, Some, option_map, unwrap_or}
+use Rattle.std.specs.Prelude.{◌≡◌, Bool, not, ◌||◌, List, ℕ, eqb, length, Ok, Option, option_map, unwrap_or}
 use Rattle.answers.specs.declared.Refusal.TheVariants.{ClauseValue}
 use Rattle.answers.specs.Wire.{netlogon_nt_version_1}
 use Rattle.answers.specs.Try.{Try, refused_if, ◌>>=◌, number_of, value_of}

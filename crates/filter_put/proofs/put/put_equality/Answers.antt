@@ -17,7 +17,7 @@ use Rattle.filter_put.proofs.put.put_equality.Goals.{After-element_size-2}
 -- what the pair is to be: its contents' size, its own, and the octets of the clause
 module _ (c : After-element_size-2) where
   abbrev octets : List ℕ
-  octets = c.part-value.result.now
+  octets = c.of-value.result.now
 
   abbrev name : ClauseName
   name = c.args.name
@@ -28,7 +28,7 @@ module _ (c : After-element_size-2) where
       λ i. n i + c.element_size-2.ensures.value i
 
   clause-octets : Some octets ≡ octets_of c.args.source.now c.args.clause
-  clause-octets = ap Some c.part-value.ensures ∙ ap (octets_of c.args.source.now) (sym c.in-Present.is)
+  clause-octets = ap Some c.of-value.ensures ∙ ap (octets_of c.args.source.now) (sym c.in-Some.is)
 
   pair-length : element_size (c.element_size.result + c.element_size-2.result) ≡ length (equality_for name (octets_of c.args.source.now c.args.clause))
   pair-length = ap element_size pair_size ∙ sym (equality-length name octets) ∙ ap (λ (o : Option (List ℕ)). length (equality_for name o)) clause-octets

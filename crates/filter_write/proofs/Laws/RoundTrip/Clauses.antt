@@ -1,5 +1,5 @@
 -- The clauses of a written filter, found again one after the other, and what document 01 says of them.
-use Rattle.std.proofs.Common.{Option, None, Some, option_and_then, is_some}
+use Rattle.std.proofs.Common.{Option, None, Some, is_some}
 use mathlib.Core.Path.{◌≡◌, refl, sym, ap, ◌∙◌}
 use mathlib.Core.Bool.{Bool, true, false, not, ◌||◌, ◌&&◌}
 use mathlib.Core.List.{List, [], ◌∷◌, ◌++◌, flat_map}
@@ -9,8 +9,9 @@ use native.Mathlib.Nat.{not-suc-le-zero}
 use native.Mathlib.Omega.{arith}
 use borrow.Author.Tests.{eq-eqb, ne_eqb, not-true}
 use lib.ListN.{length, drop, length-append}
-use Rattle.octets.specs.Lists.{any, first, first_or, unique, cut}
+use Rattle.octets.specs.Lists.{any, first, first_or, unique}
 use Rattle.octets.proofs.Laws.Lists.{first_any, any_ext, both_left, both_right, neither_left, neither_right}
+use Rattle.octets.specs.Stretch.{stretch_of}
 use Rattle.octets.specs.Text.{same_folded}
 use Rattle.octets.proofs.Laws.Text.{folded_sym}
 use Rattle.filter_position.specs.declared.position.RawClause.{RawClause}
@@ -32,7 +33,7 @@ module _ (s : List ℕ) (value : ClauseName → Option (List ℕ)) where
   pub data Tells : List ClauseName → List RawClause → Type 0 where
     nothing : Tells [] []
     skips : {n : ClauseName} {ns : List ClauseName} {fs : List RawClause} → value n ≡ None → Tells ns fs → Tells (n ∷ ns) fs
-    finds : {n : ClauseName} {ns : List ClauseName} {fs : List RawClause} (f : RawClause) (v : List ℕ) → value n ≡ Some v → name_octets s f ≡ spelling n → cut s f.start f.len ≡ v → Tells ns fs → Tells (n ∷ ns) (f ∷ fs)
+    finds : {n : ClauseName} {ns : List ClauseName} {fs : List RawClause} (f : RawClause) (v : List ℕ) → value n ≡ Some v → name_octets s f ≡ spelling n → stretch_of s f.value ≡ v → Tells ns fs → Tells (n ∷ ns) (f ∷ fs)
 
   -- an equality takes octets
   pub some-length : (n : ClauseName) (v : List ℕ) → 0 < length (equality_for n (Some v))
@@ -74,7 +75,7 @@ module _ (s : List ℕ) (value : ClauseName → Option (List ℕ)) where
     eq = equality_for n (Some v)
 
     back_one : Back d ns → (k at end : ℕ) → drop at s ≡ eq ++ written ns → at + length (eq ++ written ns) ≡ end → end < 65536 → length (eq ++ written ns) ≤ k → AllAgain d k at end (n ∷ ns)
-    unfolding siblings option_and_then
+    unfolding siblings
     back_one rest zero at end h f below u =
         let l = length-append eq (written ns) in
         let b = some-length n v in
