@@ -15,7 +15,8 @@ use Rattle.names.specs.Walk.{WalkedName}
 use Rattle.octets.specs.Number.{has}
 use Rattle.octets.specs.Sid.{guid_size, ipv4_size}
 use Rattle.octets.proofs.Laws.Lists.{Every}
-use Rattle.reader.specs.Field.{Read, read_stretch, read_fixed}
+use Rattle.reader.specs.declared.field.Read.{Read}
+use Rattle.reader.specs.Field.{read_stretch, read_fixed}
 use Rattle.reader.specs.Name.{read_name}
 use Rattle.reader.specs.Reader as reader
 use Rattle.reader.specs.Reader.{NameRead, joined_name, read_constant, read_number, read_names, read_opcode, read_opening, read_tokens, read_nt40, read_response, read_address, has_next_site, read_last, read_ex, read_in}

@@ -1,5 +1,5 @@
--- What reading promises, by the enum that it returns; and the names of an array are those that were read, place by place.
-use Rattle.std.proofs.Common.{Ok, Err}
+-- What reading promises, by what it returns; and the names of an array are those that were read, place by place.
+use Rattle.std.proofs.Common.{Ok, Err, option_map}
 use mathlib.Core.Path.{◌≡◌, refl, sym, ap, ◌∙◌}
 use mathlib.Core.List.{List, map}
 use Prim.Native.Nat.{ℕ, ◌<◌}
@@ -12,14 +12,14 @@ use Rattle.reader.specs.Reader.{NameRead, read_in, read_length}
 use Rattle.reader_names.specs.declared.NameAt.{NameAt}
 use Rattle.reader_names.specs.Name.{name_as}
 use Rattle.reader_forms.specs.declared.reading.Reading.{Reading}
-use Rattle.reader_forms.specs.Reading.{no_name, name_in, fields_as, reading_as, reading_number, reading_length, reading_fields, ReadReplyPromise}
+use Rattle.reader_forms.specs.Reading.{no_name, name_in, fields_as, reading_as, reading_length, reading_fields, ReadReplyPromise}
 
-pub read_reply_promised : (reply : List ℕ) (form : Form) (v : ℕ) (r : Reading) → r ≡ reading_as reply (read_in form v reply) → ReadReplyPromise reply form v r
+pub read_reply_promised : (reply : List ℕ) (form : Form) (v : ℕ) (r : Try Reading) → r ≡ reading_as reply (read_in form v reply) → ReadReplyPromise reply form v r
 read_reply_promised reply form v r e =
     let t : Try reader.Fields = read_in form v reply in
-    record { same = e; numbered = ap reading_number e ∙ numbers t; sized = ap reading_length e ∙ sizes t; given = ap reading_fields e ∙ gives t }
+    record { same = e; numbered = ap number_of e ∙ numbers t; sized = ap reading_length e ∙ sizes t; given = ap reading_fields e ∙ gives t }
   where
-    numbers : (t : Try reader.Fields) → reading_number (reading_as reply t) ≡ number_of t
+    numbers : (t : Try reader.Fields) → number_of (reading_as reply t) ≡ number_of t
     numbers (Err x) = refl
     numbers (Ok f) = refl
 

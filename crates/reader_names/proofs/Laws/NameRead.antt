@@ -15,11 +15,13 @@ use Rattle.names.specs.Walk.{label_at, WalkedName, steps}
 use Rattle.names.proofs.Laws.Walk.{bound, bound_read, bound_jump, bound_steps}
 use Rattle.octets.proofs.Laws.Label.{size}
 use Rattle.octets.proofs.Laws.Lists.{cut-length}
-use Rattle.reader.specs.Field.{Read}
+use Rattle.reader.specs.declared.field.Read.{Read}
 use Rattle.reader.specs.Name.{label_before, ending_at, read_name_from, read_name}
 use Rattle.reader_names.specs.declared.step.NameStep.{NameStep}
 use Rattle.reader_names.specs.declared.step.NameStep.TheVariants as step
+use Rattle.reader_names.specs.declared.walk.NameWalk.{NameWalk}
 use Rattle.reader_names.specs.Internal.Step.{name_step, StepWithin}
+use Rattle.reader_names.specs.Internal.Walk.{moved}
 use Rattle.reader_names.proofs.Laws.Label.{size-more}
 use Rattle.reader_names.proofs.Laws.Step.{after_step, one-step}
 
@@ -81,19 +83,19 @@ module _ (s : List ℕ) (start : ℕ) where
           ap (resumed read pointers next) (sym (ap (λ (x : ℕ). read_name_from x s run at spent pointers) e ∙ one-step s run at spent pointers k)) ∙ n.left,
         )
 
-    after : (x : NameStep) → name_step s run at spent pointers ≡ x → resumed read pointers next (after_step s run at spent pointers leads.0 x) ≡ read_name s start
-    after x e = ap (λ (y : NameStep). resumed read pointers next (after_step s run at spent pointers leads.0 y)) (sym e) ∙ leads.2
+    after : (x : Try NameStep) → name_step s run at spent pointers ≡ x → resumed read pointers next (after_step s run at spent pointers leads.0 x) ≡ read_name s start
+    after x e = ap (λ (y : Try NameStep). resumed read pointers next (after_step s run at spent pointers leads.0 y)) (sym e) ∙ leads.2
 
-    pub name-ends : name_step s run at spent pointers ≡ step.Ends
+    pub name-ends : name_step s run at spent pointers ≡ Ok step.Ends
         → read_name s start ≡ Ok (record { value = record { labels = read; pointers = pointers }; next = cond (eqb pointers 0) (at + 1) next })
     name-ends e =
-        sym (after step.Ends e)
+        sym (after (Ok step.Ends) e)
         ∙ ap (λ (x : List (List ℕ)). Ok (record { value = record { labels = x; pointers = pointers }; next = cond (eqb pointers 0) (at + 1) next })) (append-nil read)
 
-    pub name-refused : (r : Refusal) → name_step s run at spent pointers ≡ step.Refused r → read_name s start ≡ Err r
-    name-refused r e = sym (after (step.Refused r) e)
+    pub name-refused : (r : Refusal) → name_step s run at spent pointers ≡ Err r → read_name s start ≡ Err r
+    name-refused r e = sym (after (Err r) e)
 
-    pub name-label : (m : ℕ) → name_step s run at spent pointers ≡ step.Label m → StepWithin (length s) run at spent pointers (step.Label m)
+    pub name-label : (m : ℕ) → name_step s run at spent pointers ≡ Ok (step.Label m) → StepWithin (length s) run at spent pointers (step.Label m)
         → NameLeft (read ++ (label_at s at m ∷ [])) run (at + 1 + m) (spent + 1 + m) pointers next
     name-label m e within =
         let inside : at < length s = omega (arith, within.1) in
@@ -106,10 +108,10 @@ module _ (s : List ℕ) (start : ℕ) where
           written = sym (size-more read (label_at s at m) ∙ omega (arith, n.written));
           short = within.2;
           few = n.few;
-          left = sym (resumed_label read pointers next (label_at s at m) (read_name_from leads.0 s run (at + 1 + m) (spent + 1 + m) pointers)) ∙ after (step.Label m) e;
+          left = sym (resumed_label read pointers next (label_at s at m) (read_name_from leads.0 s run (at + 1 + m) (spent + 1 + m) pointers)) ∙ after (Ok (step.Label m)) e;
         }
 
-    pub name-pointer : (t : ℕ) → name_step s run at spent pointers ≡ step.Pointer t → StepWithin (length s) run at spent pointers (step.Pointer t)
+    pub name-pointer : (t : ℕ) → name_step s run at spent pointers ≡ Ok (step.Pointer t) → StepWithin (length s) run at spent pointers (step.Pointer t)
         → NameLeft read t t spent (pointers + 1) (cond (eqb pointers 0) (at + 2) next)
     name-pointer t e within =
         let inside : at < length s = omega (arith, within.0) in
@@ -121,5 +123,16 @@ module _ (s : List ℕ) (start : ℕ) where
           written = n.written;
           short = n.short;
           few = omega (arith, within.2);
-          left = sym (resumed_pointer read pointers next (at + 2) (read_name_from leads.0 s t t spent (pointers + 1))) ∙ after (step.Pointer t) e;
+          left = sym (resumed_pointer read pointers next (at + 2) (read_name_from leads.0 s t t spent (pointers + 1))) ∙ after (Ok (step.Pointer t)) e;
         }
+
+  -- where a walk stands
+  abbrev pub Stands : List (List ℕ) → NameWalk → Type 0
+  Stands read w = NameLeft read w.run w.at w.spent w.pointers w.next
+
+  -- a step that doesn't end the name leads on
+  pub name-moved : {read : List (List ℕ)} (w : NameWalk) → Stands read w → (x : NameStep) → name_step s w.run w.at w.spent w.pointers ≡ Ok x
+      → StepWithin (length s) w.run w.at w.spent w.pointers x → (x ≡ step.Ends → ⊥) → (more : List (List ℕ)) × Stands more (moved w x)
+  name-moved w n step.Ends e within on = absurd (on refl)
+  name-moved w n (step.Label m) e within on = (_, name-label n m e within)
+  name-moved w n (step.Pointer t) e within on = (_, name-pointer n t e within)

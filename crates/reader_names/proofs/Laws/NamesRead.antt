@@ -10,7 +10,7 @@ use lib.Seq.{append_snoc, take-suc-set}
 use Rattle.answers.specs.declared.Refusal.{Refusal}
 use Rattle.answers.specs.Try.{Try, ◌>>=◌}
 use Rattle.names.specs.Walk.{WalkedName}
-use Rattle.reader.specs.Field.{Read}
+use Rattle.reader.specs.declared.field.Read.{Read}
 use Rattle.reader.specs.Name.{read_name}
 use Rattle.reader.specs.Reader.{NameRead, joined_name, read_names}
 use Rattle.reader_names.specs.declared.NameAt.{NameAt}
