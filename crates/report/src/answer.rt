@@ -23,7 +23,8 @@ fn meaning_of(refusal: Refusal) -> &'static str {
         Refusal::SidShape => "DomainSid is not a SID",
         Refusal::SidNotHeld => "no context has this DomainSid",
         Refusal::SidOfAnother => "DomainSid is not that of the context used",
-        Refusal::UserLabelEmpty => "the reply would be EX, and a part of User between dots is empty",
+        Refusal::UserLabelEmpty =>
+            "the reply would be EX, and a part of User between dots is empty",
         Refusal::NoRoom => "the reply is longer than the buffer",
         Refusal::ReplyCut => "the reply is cut short",
         Refusal::ReplyOpcode => "the opcode is not one of this form",

@@ -90,11 +90,7 @@ fn say_address<W: Write>(to: &mut W, reply: &[u8], address: Option<Stretch>) -> 
     }
 }
 
-fn say_next_site<W: Write>(
-    to: &mut W,
-    reply: &[u8],
-    next_site: Option<NameAt>,
-) -> io::Result<()> {
+fn say_next_site<W: Write>(to: &mut W, reply: &[u8], next_site: Option<NameAt>) -> io::Result<()> {
     let title = "name 8    next closest site  ";
     match next_site {
         None => writeln!(to, "{title}none"),
@@ -105,11 +101,26 @@ fn say_next_site<W: Write>(
 // The names at places 0 to 7.
 fn say_ex_names<W: Write>(to: &mut W, reply: &[u8], fields: &ExFields) -> io::Result<()> {
     say_first_names(to, reply, fields.forest, fields.context, fields.host)?;
-    say_name(to, "name 3    context NetBIOS    ", reply, fields.context_netbios)?;
-    say_name(to, "name 4    server NetBIOS     ", reply, fields.server_netbios)?;
+    say_name(
+        to,
+        "name 3    context NetBIOS    ",
+        reply,
+        fields.context_netbios,
+    )?;
+    say_name(
+        to,
+        "name 4    server NetBIOS     ",
+        reply,
+        fields.server_netbios,
+    )?;
     say_name(to, "name 5    user               ", reply, fields.user)?;
     say_name(to, "name 6    own site           ", reply, fields.own_site)?;
-    say_name(to, "name 7    client site        ", reply, fields.client_site)
+    say_name(
+        to,
+        "name 7    client site        ",
+        reply,
+        fields.client_site,
+    )
 }
 
 fn say_ex<W: Write>(to: &mut W, reply: &[u8], fields: &ExFields) -> io::Result<()> {
