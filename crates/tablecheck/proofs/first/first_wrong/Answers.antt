@@ -20,7 +20,7 @@ judged : (c : After-keeps_rule)
 judged c = ap (keeps c.args.rule (block_place c.loop-i.i)) (sym c.block_at.ensures) ∙ sym c.keeps_rule.ensures
 
 pub loop-i-init : goal.loop-i-init
-loop-i-init c = (omega arith, refl)
+loop-i-init c = refl
 
 pub overflow_cast-place : goal.overflow_cast-place
 overflow_cast-place c = omega arith
@@ -33,19 +33,17 @@ returns-then-not-keeps_rule c =
     first_here a.rule (block_place l.i) (block_at s (block_place l.i)) (drop (l.i + 1) (blocks_of s))
     (judged (goal.at.returns-then-not-keeps_rule c).After-keeps_rule ∙ not-true _ c.if-not-keeps_rule.true-raw)
     ∙ ap (first_wrong a.rule (block_place l.i)) (sym (blocks_step s l.i (omega arith)))
-    ∙ l.invariant.1
+    ∙ l.invariant
 
 pub loop-i-preserved : goal.loop-i-preserved
 loop-i-preserved c =
     let a = c.args in
     let s = a.image.now in
-    let l = c.loop-i in (
-      omega arith,
-      first_next a.rule (block_place l.i) (block_at s (block_place l.i)) (drop (l.i + 1) (blocks_of s))
-          (judged (goal.at.loop-i-preserved c).After-keeps_rule ∙ not-false _ c.if-not-keeps_rule.false-raw)
-          ∙ ap (first_wrong a.rule (block_place l.i)) (sym (blocks_step s l.i (omega arith)))
-          ∙ l.invariant.1,
-    )
+    let l = c.loop-i in
+    first_next a.rule (block_place l.i) (block_at s (block_place l.i)) (drop (l.i + 1) (blocks_of s))
+    (judged (goal.at.loop-i-preserved c).After-keeps_rule ∙ not-false _ c.if-not-keeps_rule.false-raw)
+    ∙ ap (first_wrong a.rule (block_place l.i)) (sym (blocks_step s l.i (omega arith)))
+    ∙ l.invariant
 
 pub returns : goal.returns
 returns c =
@@ -54,4 +52,4 @@ returns c =
     let l = c.loop-i in
     first-end a.rule (block_place l.i)
     ∙ ap (first_wrong a.rule (block_place l.i)) (sym (blocks_end s l.i (omega arith)))
-    ∙ l.invariant.1
+    ∙ l.invariant
