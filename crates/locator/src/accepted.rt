@@ -7,6 +7,7 @@ use crate::over::answer_over;
 use answers::Refusal;
 use filter_read::ping::read_ping;
 use table::Caller;
+use table_whole::image::AcceptedImage;
 
 // What `answer_ping` promises, without judging the image again.
 pub fn answer_accepted<'a>(
@@ -19,6 +20,7 @@ pub fn answer_accepted<'a>(
     ensures answer_ping_returns { AnswerPingReturns image.now caller filter.now reply.old result }
     ensures answer_ping_leaves { AnswerPingLeaves image.now caller filter.now reply.old reply.new }
 {
+    let accepted = AcceptedImage::judged_before(image);
     let ping = read_ping(filter)?;
-    answer_over(image, caller, filter, ping, reply)
+    answer_over(&accepted, caller, filter, ping, reply)
 }

@@ -8,6 +8,7 @@ use locator::Answered;
 use locator::over::answer_over;
 use mailslot_read::read::read_message;
 use table::Caller;
+use table_whole::image::AcceptedImage;
 
 // What `answer_mailslot` promises, without judging the image again.
 pub fn answer_mailslot_accepted<'a>(
@@ -20,8 +21,9 @@ pub fn answer_mailslot_accepted<'a>(
     ensures answer_mailslot_returns { AnswerMailslotReturns image.now caller message.now reply.old result }
     ensures answer_mailslot_leaves { AnswerMailslotLeaves image.now caller message.now reply.old reply.new }
 {
+    let accepted = AcceptedImage::judged_before(image);
     let read = read_message(message)?;
     let mut source = [0; SOURCE_SIZE];
     let ping = put_ping(&mut source, message, read);
-    answer_over(image, caller, &source, ping, reply)
+    answer_over(&accepted, caller, &source, ping, reply)
 }
