@@ -1,15 +1,9 @@
 use Rattle.std.proofs.Common.{option_map}
-use borrow.Author.Rules.{rules}
-use mathlib.Core.Path.{◌≡◌, sym, ap, ◌∙◌, subst}
-use Rattle.octets.proofs.Laws.Option.{mapped_none}
+use mathlib.Core.Path.{◌≡◌}
 use Prim.Native.Nat.{◌*◌, ◌-◌, ◌≤◌}
-use native.Mathlib.Omega.{arith}
 use lib.ListN.{length, drop}
 use Rattle.unicode_text.specs.{Utf8.utf8_of, Utf16.points_of16, Utf16.utf8_from16}
-use Rattle.transcode.specs.Internal.Point16.{PointRead16}
-use Rattle.transcode.proofs.Laws.Point16.{end-points}
-use Rattle.transcode.proofs.Laws.Length.{three_a_unit}
-use Rattle.unicode_text.proofs.Laws.Writing.{size_left, size-start, size-next, size-end}
+use Rattle.unicode_text.proofs.Laws.Writing.{size_left}
 use Rattle.transcode.proofs.to8.utf8_size.Given as goal
 
 -- every code point takes at least two octets of the text, and at most three for each two of them
