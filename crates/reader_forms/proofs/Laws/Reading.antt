@@ -1,4 +1,4 @@
--- What reading promises, by what it returns; and the names of an array are those that were read, place by place.
+-- What reading promises, by what it returns.
 use Rattle.std.proofs.Common.{Ok, Err, option_map}
 use mathlib.Core.Path.{◌≡◌, refl, sym, ap, ◌∙◌}
 use mathlib.Core.List.{List, map}
@@ -30,6 +30,3 @@ read_reply_promised reply form v r e =
     gives : (t : Try reader.Fields) → reading_fields (reading_as reply t) ≡ option_map fields_as (value_of t)
     gives (Err x) = refl
     gives (Ok f) = refl
-
-pub name-at : (names : List NameAt) (given : List NameRead) (count k : ℕ) → k < count → take count names ≡ map name_as given → get_or names k (name_as no_name) ≡ name_in given k
-name-at names given count k h e = sym (get_or-take count names k (name_as no_name) h) ∙ ap (λ (x : List NameAt). get_or x k (name_as no_name)) e
