@@ -9,7 +9,7 @@ use table::block::{BLOCK_SIZE, block_at};
 use table_blocks::layout::block_layout;
 use table_check::check::good_check;
 
-// What each block is held to by itself, 2 and 3. A closure is no plainer: what it answers had to be tied to a definition by one clause more.
+// What each block is held to by itself, 2 and 3. A closure is no plainer: one clause more had to tie what it answers to a definition.
 #[derive(Clone, Copy)]
 pub enum BlockRule {
     Check,
