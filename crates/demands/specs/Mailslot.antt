@@ -11,7 +11,8 @@ use Rattle.locator.specs.Answer.{Outcome, answer_over, answer_by}
 use Rattle.mailslot.specs.{declared.message.Message.Message, Message.message_in}
 use Rattle.mailslot_answer.specs.Ping.{mailslot_ping}
 use Rattle.octets.specs.Number.{little_octets, has}
-use Rattle.reader.specs.{Field.stretch_of, Reader.Nt40Fields, Reader.ResponseFields, Reader.nt40, Reader.response, Reader.read_in}
+use Rattle.octets.specs.Stretch.{stretch_of}
+use Rattle.reader.specs.{Reader.Nt40Fields, Reader.ResponseFields, Reader.nt40, Reader.response, Reader.read_in}
 use Rattle.table.specs.declared.Caller.{Caller}
 use Rattle.table_whole.specs.Judgement.{table_in}
 use Rattle.transcode.specs.Transcode.{are_octets}

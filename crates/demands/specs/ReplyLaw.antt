@@ -5,7 +5,7 @@ use Rattle.answers.specs.{declared.Form.Form, Try.Try}
 use Rattle.answers.specs.declared.Form.TheVariants.{Nt40, Response, Ex}
 use Rattle.answers.specs.Wire.{nt40_version, response_version, ex_version, ex_version_with_next_site}
 use Rattle.unicode_text.specs.{Utf8.is_utf8, Utf16.utf16}
-use Rattle.reader.specs.Field.{stretch_of}
+use Rattle.octets.specs.Stretch.{stretch_of}
 use Rattle.reader.specs.Reader.{NameRead, Nt40Fields, ResponseFields, ExFields, Fields, nt40, response, ex, read_in, read_length}
 use Rattle.reply.specs.Reply.{Reply, response_names, ex_names}
 use Rattle.demands.specs.Derivation.{ReplyIs, EveryAnswerOver, EveryAnswer}

@@ -4,7 +4,7 @@ use mathlib.Core.List.{List, [], ◌∷◌, ◌++◌, map, flat_map}
 use Rattle.answers.specs.declared.Refusal.TheVariants.{MailslotShape}
 use Rattle.answers.specs.Try.{Try}
 use Rattle.mailslot.specs.{declared.message.Message.Message, Message.message_in}
-use Rattle.reader.specs.declared.field.Stretch.{Stretch}
+use Rattle.octets.specs.declared.part.Stretch.{Stretch}
 
 -- so many units of the computer and of the user, octets of the mailslot's name and of padding, and parts of the SID
 abbrev pub Sizes : Type 0

@@ -8,7 +8,7 @@ use lib.ListN.{length, get_or, get_or-map}
 use Rattle.answers.specs.declared.Form.{Form}
 use Rattle.names.specs.Walk.{WalkedName}
 use Rattle.octets.proofs.Laws.Lists.{every_at}
-use Rattle.reader.specs.Field.{Read}
+use Rattle.reader.specs.declared.field.Read.{Read}
 use Rattle.reader.specs.Name.{read_name}
 use Rattle.reader.specs.Reader.{NameRead, joined_name, Fields, nt40, response, ex, read_in}
 use Rattle.reader_forms.specs.Reading.{no_name, name_in, next_site_as, fields_as, reading_as}

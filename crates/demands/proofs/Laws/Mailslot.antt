@@ -29,7 +29,8 @@ use Rattle.octets.specs.Number.{little, little_octets, has}
 use Rattle.octets.specs.Lists.{cut, all, holds}
 use Rattle.octets.proofs.Laws.Lists.{all-parts, both_left, both_right}
 use Rattle.octets.proofs.Laws.Number.{length-little, little-back}
-use Rattle.reader.specs.{Field.stretch_of, Reader.read_in}
+use Rattle.octets.specs.Stretch.{stretch_of}
+use Rattle.reader.specs.Reader.{read_in}
 use Rattle.reply.specs.Reply.{Reply}
 use Rattle.table.specs.declared.Caller.{Caller}
 use Rattle.table.specs.{Site.Site, Table.Table}
@@ -134,9 +135,9 @@ four_octets n c e = ap (λ (x : Option (List ℕ)). holds (λ y. not (is_number 
 same-clause : (P : List ℕ → List ℕ → Type 0) (sent text : List ℕ) (c : Option (List ℕ)) → SaidBy P sent c → (sent ≡ [] → text ≡ []) → (text ≡ [] → sent ≡ [])
     → ((t : List ℕ) → P sent t → t ≡ text) → c ≡ unless_empty text
 same-clause P [] text c h f g same = h ∙ ap unless_empty (sym (f refl))
-same-clause P (x ∷ xs) text none h f g same = absurd h
-same-clause P (x ∷ xs) [] (some t) h f g same = absurd (omega (arith, ap length (g refl)))
-same-clause P (x ∷ xs) (y ∷ ys) (some t) h f g same = ap some (same t h)
+same-clause P (x ∷ xs) text None h f g same = absurd h
+same-clause P (x ∷ xs) [] (Some t) h f g same = absurd (omega (arith, ap length (g refl)))
+same-clause P (x ∷ xs) (y ∷ ys) (Some t) h f g same = ap Some (same t h)
 
 module _ (s : List ℕ) (m : Message) (g : List ℕ) (r : Request) (o : are_octets s ≡ true) (e : message_in s ≡ Ok m) (alike : AsksAlike s m g r) where
   abbrev units : List ℕ

@@ -18,8 +18,9 @@ use Rattle.names.proofs.Laws.Walk.{walk_inside}
 use Rattle.octets.specs.Lists.{cut}
 use Rattle.octets.specs.Number.{little, u16_at}
 use Rattle.unicode_text.specs.Utf16.{is_high, is_low}
-use Rattle.reader.specs.declared.field.Stretch.{Stretch}
-use Rattle.reader.specs.Field.{Read, read_octets}
+use Rattle.octets.specs.declared.part.Stretch.{Stretch}
+use Rattle.reader.specs.declared.field.Read.{Read}
+use Rattle.reader.specs.Field.{read_octets}
 use Rattle.reader.specs.declared.text.Unit16.TheVariants.{Ends, Plain, High, Low}
 use Rattle.reader.specs.Text.{unit_of, turn, on_turn, read_text_from, read_text}
 use Rattle.reader.specs.Reader.{Opening, read_opcode, read_opening}

@@ -10,7 +10,7 @@ use Rattle.answers.specs.Try.{Try}
 use Rattle.names.specs.Walk.{WalkedName}
 use Rattle.octets.specs.Label.{joined}
 use Rattle.octets.proofs.Laws.Lists.{every_at, none_not_some}
-use Rattle.reader.specs.Field.{Read}
+use Rattle.reader.specs.declared.field.Read.{Read}
 use Rattle.reader.specs.Name.{read_name}
 use Rattle.reader.specs.Reader as reader
 use Rattle.reader.specs.Reader.{NameRead, joined_name, read_in}

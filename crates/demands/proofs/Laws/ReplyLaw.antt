@@ -20,7 +20,7 @@ use Rattle.unicode_text.specs.Utf16.{utf16}
 use Rattle.unicode_text.proofs.Laws.OneText.{one-text}
 use Rattle.unicode_text.proofs.Laws.Utf16.{Spoken}
 use Rattle.demands.specs.Derivation.{ReplyIs}
-use Rattle.reader.specs.Field.{stretch_of}
+use Rattle.octets.specs.Stretch.{stretch_of}
 use Rattle.demands.specs.ReplyLaw.{TextBack, GivenBack, ReadBack, ReplyLawOver, ReplyLaw, address_written, text_of, version_written}
 use Rattle.demands.proofs.Laws.Derivation.{every_answer}
 use Rattle.demands.proofs.Laws.Forms.Ex.{ex-row, ex_rest_lem, ex-guid, ex-read, last_there}
