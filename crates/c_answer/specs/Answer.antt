@@ -2,7 +2,8 @@
 use Rattle.std.specs.Prelude.{List, [], ◌∷◌, ℕ, Option, None, Some}
 use Rattle.answers.specs.declared.Form.{Form}
 use Rattle.answers.specs.declared.Form.TheVariants.{Nt40, Response, Ex}
-use Rattle.locator.specs.declared.Answer.{Answer}
+use Rattle.answers.specs.Try.{Try}
+use Rattle.locator.specs.declared.Answered.{Answered}
 use Rattle.locator.specs.Answer.{answer_length, answer_context, answer_form}
 
 abbrev pub form_number : Form → ℕ
@@ -15,5 +16,5 @@ abbrev pub form_or_none : Option Form → ℕ
 form_or_none None = 0
 form_or_none (Some form) = form_number form
 
-abbrev pub answer_members : Answer → List ℕ
+abbrev pub answer_members : Try Answered → List ℕ
 answer_members a = answer_length a ∷ answer_context a ∷ form_or_none (answer_form a) ∷ []
