@@ -80,7 +80,7 @@ flags_of Ex t p site = ex_flags t p site
 unfoldable pub next_site_lem : Table → ℕ → Option Site → Option (List ℕ)
 next_site_lem t v site =
     cond (has v netlogon_nt_version_with_closest_site && has t.server.roles role_level2008)
-    (option_map (λ s. s.name) (option_and_then site (λ s. site_if_any t s.next))) None
+    (option_map (λ s. s.name) (option_and_then (λ s. site_if_any t s.next) site)) None
 
 -- the reply to a ping from a caller, in the context used; a text that is absent has no octets
 unfoldable pub reply_for : Table → Caller → Ping → Context → Form → Reply
