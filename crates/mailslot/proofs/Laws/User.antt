@@ -92,7 +92,7 @@ unfolding all
 scalars [] h z = tt
 scalars (c ∷ cs) h z =
     let n : c ≡ 0 → ⊥ = eqb-false c 0 (not-true (eqb c 0) (both_left (not (eqb c 0)) (without 0 cs) z)) in
-    (record { Some = omega arith; below = h.0.below; unique = h.0.unique }, scalars cs h.1 (both_right (not (eqb c 0)) (without 0 cs) z))
+    (record { some = omega arith; below = h.0.below; unique = h.0.unique }, scalars cs h.1 (both_right (not (eqb c 0)) (without 0 cs) z))
 
 -- its code points: they are its octets, and none is zero
 text-points : (x : List ℕ) → Octets x → is_text16 x ≡ true → (cs : List ℕ) × Every Scalar cs × (points_octets cs ≡ x)

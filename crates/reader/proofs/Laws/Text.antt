@@ -109,7 +109,7 @@ module _ {s : List ℕ} (start : ℕ) where
       one h d =
           let u = one_unit c h in
           let m : Left s at ((u.0 ∷ u.1 ∷ []) ++ after) = rw u.2 at here in
-          let t : turn false (unit_of c) ≡ Go false = rw (plain_unit c ok.0.Some ok.0.unique) in
+          let t : turn false (unit_of c) ≡ Go false = rw (plain_unit c ok.0.some ok.0.unique) in
           let n : length (point_octets c) ≡ 2 = ap length u.2 in
           let fewer : length (points_octets cs) < k = omega (arith, length-append (point_octets c) (points_octets cs)) in
           unit_step_lem k at u.0 u.1 c after false false m u.3 t ∙ d k (at + 2) fewer (left-next (u.0 ∷ u.1 ∷ []) after 2 refl m) ∙ moved 2 n

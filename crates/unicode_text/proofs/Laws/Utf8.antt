@@ -140,7 +140,7 @@ follow_below i x b = (b.0 ++ (x ∷ []), follow-after i b.0 b.1 x)
 
 -- a code point that is no surrogate, not zero and below 110000h
 pub record Scalar (c : ℕ) : Type 0 where
-  pub Some : 1 ≤ c
+  pub some : 1 ≤ c
   pub below : c < 0x110000
   pub unique : 0xD800 ≤ c → 0xE000 ≤ c
 
@@ -181,7 +181,7 @@ octets_sayable [] h z = (tt, omega arith)
 octets_sayable (c ∷ cs) h z =
     let one = one_sayable c (flat_map utf8_of cs) z in
     let rest = octets_sayable cs h.1 one.1 in
-    ((record { Some = one.0; below = h.0.below; unique = h.0.unique }, rest.0), omega arith)
+    ((record { some = one.0; below = h.0.below; unique = h.0.unique }, rest.0), omega arith)
 
 pub sayable : (s cs : List ℕ) → Every (λ x. 1 ≤ x) s → points s ≡ Some cs → Every Scalar cs × (units_of cs ≤ length s)
 sayable s cs z e =
