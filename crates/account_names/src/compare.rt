@@ -147,7 +147,8 @@ fn alike_size(fold_table: &FoldTable, a: &[u8], i: usize, b: &[u8], j: usize) ->
     same_more_size(a, i, b, j, x)
 }
 
-// Code point by code point, from one offset on in both. What is alike is passed over before any is ranked: ranking costs more.
+// Code point by code point, from one offset on in both: the two steps differ, so no `for`. What is alike is passed over before any is
+// ranked: ranking costs more.
 fn compare_from(fold_table: &FoldTable, a: &[u8], b: &[u8], start: usize) -> Ordering
     requires { (start ≤ length a.now) × (start ≤ length b.now) }
     ensures { result ≡ compare_names (drop start a.now) (drop start b.now) }
@@ -235,7 +236,7 @@ fn other_letter_at(a: &[u8], b: &[u8], at: usize) -> bool
     are_below(a[at], b[at], 0x80) & !letters_alike(a[at], b[at])
 }
 
-// How many octets at their starts are alike so.
+// How many octets at their starts are alike so. The step is a character's: no `for`.
 fn plain_start(a: &[u8], b: &[u8]) -> usize
     ensures { GoesOn a.now 0 result b.now 0 result }
 {

@@ -43,7 +43,7 @@ fn one_of(s: &[u8], filter: Filter, depth: u8, seen: &mut SeenClauses) -> bool
     }
 }
 
-// The clauses of the filters that fill an AND, one at least.
+// The clauses of the filters that fill an AND, one at least. An element's length is the step: no `for`.
 #[cycle(and_of_one_of)]
 fn and_of(s: &[u8], inside: Position, depth: u8, seen: &mut SeenClauses) -> bool
     requires { (length s.now ≤ filter_limit) × Inside (length s.now) inside }

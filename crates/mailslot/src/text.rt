@@ -79,7 +79,8 @@ fn plain_run(s: &[u8], start: usize) -> usize
     units
 }
 
-// Where the longest user from an offset on ends: it stops at a zero unit, at a lone surrogate, and before the character that is too much.
+// Where the longest user from an offset on ends: it stops at a zero unit, at a lone surrogate, and before the character
+// that is too much. The step is a character's: no `for`.
 pub fn text_run(s: &[u8], start: usize) -> usize
     requires { start ≤ length s.now }
     ensures { TextRun s.now start result }

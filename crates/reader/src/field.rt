@@ -89,6 +89,7 @@ pub fn number_at(reply: &[u8], at: usize) -> Result<Read<u32>, Refusal>
     })
 }
 
+// Two lists of three numbers each: one function of a list would lend it to a call, and say no more.
 fn is_older_opcode(opcode: u16) -> bool
     ensures { result ≡ is_one_of older_opcodes opcode }
 {

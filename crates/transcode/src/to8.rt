@@ -23,7 +23,7 @@ fn width(point: u32) -> usize
     4
 }
 
-// How many octets a text takes; nothing where it is none.
+// How many octets a text takes; nothing where it is none. The step is a character's: no `for`.
 pub fn utf8_size(s: &[u8]) -> Option<usize>
     ensures { SizeTold s.now result }
 {
@@ -69,7 +69,7 @@ fn put_point(out: &mut [u8], point: u32) -> usize
     4
 }
 
-// A text at the front of a buffer; nothing where it is none, which is known before an octet is written.
+// The step is a character's: no `for`. A text at the front of a buffer; nothing where it is none, which is known before an octet is written.
 pub fn put_utf8(out: &mut [u8], s: &[u8]) -> usize
     requires { length (utf8_text s.now) ≤ length out.old }
     ensures value { result ≡ length (utf8_text s.now) }
