@@ -5,7 +5,6 @@ use Rattle.table.specs.Countings.{block_place}
 use Rattle.table.specs.Server.{server_place}
 use Rattle.tablecheck.proofs.Laws.First.{first_here, first_next, first-end}
 use Rattle.tablecheck.specs.Internal.First.{keeps, first_wrong}
-use borrow.Author.Tests.{not-true, not-false}
 use borrow.Author.Rules.{rules}
 use lib.ListN.{length, drop}
 use native.Mathlib.Omega.{arith}
@@ -31,7 +30,7 @@ returns-then-not-keeps_rule c =
     let s = a.image.now in
     let l = c.loop-i in
     first_here a.rule (block_place l.i) (block_at s (block_place l.i)) (drop (l.i + 1) (blocks_of s))
-    (judged (goal.at.returns-then-not-keeps_rule c).After-keeps_rule ∙ not-true _ c.if-not-keeps_rule.true-raw)
+    (judged (goal.at.returns-then-not-keeps_rule c).After-keeps_rule ∙ c.if-not-keeps_rule.true)
     ∙ ap (first_wrong a.rule (block_place l.i)) (sym (blocks_step s l.i (omega arith)))
     ∙ l.invariant
 
@@ -41,7 +40,7 @@ loop-i-preserved c =
     let s = a.image.now in
     let l = c.loop-i in
     first_next a.rule (block_place l.i) (block_at s (block_place l.i)) (drop (l.i + 1) (blocks_of s))
-    (judged (goal.at.loop-i-preserved c).After-keeps_rule ∙ not-false _ c.if-not-keeps_rule.false-raw)
+    (judged (goal.at.loop-i-preserved c).After-keeps_rule ∙ c.if-not-keeps_rule.false)
     ∙ ap (first_wrong a.rule (block_place l.i)) (sym (blocks_step s l.i (omega arith)))
     ∙ l.invariant
 
@@ -50,6 +49,8 @@ returns c =
     let a = c.args in
     let s = a.image.now in
     let l = c.loop-i in
-    first-end a.rule (block_place l.i)
+    let e : l.i ≡ length s / block_size = omega arith in
+    sym e
+    ∙ first-end a.rule (block_place l.i)
     ∙ ap (first_wrong a.rule (block_place l.i)) (sym (blocks_end s l.i (omega arith)))
     ∙ l.invariant
