@@ -99,7 +99,8 @@ fn is_site_half_good(image: &[u8]) -> bool
 {
     let mut room: [u16; SITES_MOST] = [0; SITES_MOST];
     let sites = offsets_of(image, RecordKind::Site, &mut room);
-    if sites.is_empty() {
+    let count = sites.len();
+    if count == 0 {
         return false;
     }
     are_sites_good(image, sites)

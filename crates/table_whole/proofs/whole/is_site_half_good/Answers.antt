@@ -2,8 +2,8 @@ use Rattle.std.proofs.Common.{◌∙◌}
 use Rattle.table_whole.proofs.Laws.Half.{no_site, some-sites}
 use Rattle.table_whole.proofs.whole.is_site_half_good.Goals as goal
 
-pub returns-then-is_empty : goal.returns-then-is_empty
-returns-then-is_empty c = no_site c.args.image.now _ c.offsets_of-sites.ensures ?
+pub returns-then-count-eq0 : goal.returns-then-count-eq0
+returns-then-count-eq0 c = no_site c.args.image.now _ c.offsets_of-sites.ensures c.if-count-eq0.true
 
 pub returns : goal.returns
-returns c = c.are_sites_good.ensures ∙ some-sites c.args.image.now _ c.offsets_of-sites.ensures ?
+returns c = c.are_sites_good.ensures ∙ some-sites c.args.image.now _ c.offsets_of-sites.ensures c.if-count-eq0.false
