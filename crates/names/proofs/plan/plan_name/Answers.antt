@@ -1,7 +1,7 @@
 use mathlib.Core.Path.{sym, ap, ◌∙◌, subst}
 use mathlib.Core.List.{List}
 use Prim.Native.Nat.{ℕ}
-use lib.ListN.{length, take}
+use lib.ListN.{length}
 use Rattle.octets.specs.Label.{labels}
 use Rattle.names.specs.Name.{Tail}
 use Rattle.names.specs.Internal.Plan.{first_aim, AimWithin, names_tails, plan_by, PlanOf}
