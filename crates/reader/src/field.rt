@@ -61,7 +61,7 @@ pub fn fixed_at(reply: &[u8], at: usize, octets: &[u8]) -> Result<usize, Refusal
     Ok(next)
 }
 
-// A fixed number of two octets.
+// A fixed number of two octets. One function a width: a trait for `to_le_bytes` alone would be no plainer.
 pub fn fixed_u16_at(reply: &[u8], at: usize, number: u16) -> Result<usize, Refusal>
     ensures field { valued (cut reply.now at 2) result ≡ read_constant 2 number reply.now at }
     ensures within { IfOk result (λ next. (next ≡ at + 2) × (next ≤ length reply.now)) }

@@ -93,7 +93,7 @@ fn unit_step(reply: &[u8], at: usize, after_high: bool) -> Result<UnitStep, Refu
     }
 }
 
-// The text at an offset, as its stretch before the zero unit.
+// The text at an offset, as its stretch before the zero unit. A `loop`, as any decoder: each unit decides how the next is taken.
 pub fn read_text(reply: &[u8], start: usize) -> Result<Read<Stretch>, Refusal>
     ensures { result ≡ read_text reply.now start }
 {

@@ -12,7 +12,10 @@ use reader_forms::ending::tokens_at;
 use reader_forms::reading::{ExFields, Fields, Reading};
 use reader_last::address::read_address;
 use reader_last::last::{has_next_site, read_last};
-use reader_names::list::{NAMES_IN_A_ROW, read_names};
+use reader_names::list::read_names;
+
+// An EX has eight names before its address: name 8 comes after it.
+const NAMES: usize = 8;
 
 #[tactic(auto, unfolding(reader::specs::Reader::read_ex))]
 pub fn read_ex(reply: &[u8], version: u32) -> Result<Reading, Refusal>
@@ -22,7 +25,7 @@ pub fn read_ex(reply: &[u8], version: u32) -> Result<Reading, Refusal>
     let flags_at = fixed_u16_at(reply, opcode.next, SBZ)?;
     let flags = number_at(reply, flags_at)?;
     let guid = stretch_at(reply, flags.next, GUID_SIZE)?;
-    let names = read_names(reply, guid.next, NAMES_IN_A_ROW)?;
+    let names = read_names::<NAMES>(reply, guid.next)?;
     let with_address = has_bits(version, NETLOGON_NT_VERSION_5EX_WITH_IP);
     let ipv4 = read_address(reply, with_address, names.next)?;
     let last = read_last(reply, has_next_site(reply), version, ipv4.next)?;

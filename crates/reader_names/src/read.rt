@@ -7,7 +7,7 @@ use crate::walk::NameWalk;
 use answers::Refusal;
 use reader::field::Read;
 
-// At most 16 pointers are followed, and 255 octets written out: a bound that no reply moves.
+// At most 16 pointers are followed, and 255 octets written out: a bound that no reply moves. A `loop`: each step says where the next is.
 pub fn read_name(reply: &[u8], start: usize) -> Result<Read<NameAt>, Refusal>
     ensures { NameOf reply.now start result }
 {

@@ -22,7 +22,7 @@ pub fn read_response(reply: &[u8]) -> Result<Reading, Refusal>
     let opening = read_opening(reply)?;
     let guid = stretch_at(reply, opening.next, GUID_SIZE)?;
     let names_at = fixed_at(reply, guid.next, &NULL_GUID)?;
-    let names = read_names(reply, names_at, NAMES)?;
+    let names = read_names::<NAMES>(reply, names_at)?;
     let ipv4 = stretch_at(reply, names.next, IPV4_SIZE)?;
     let flags = number_at(reply, ipv4.next)?;
     ending_at(reply, flags.next, RESPONSE_VERSION)?;

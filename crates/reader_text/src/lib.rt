@@ -11,6 +11,7 @@ pub mod text;
 pub const TEXT_MOST: usize = WRITTEN_MOST - 2;
 
 // A name's labels joined by dots, at the front of room for the longest; zeros after them. An empty name has length 0, a refused one none.
+// The length stands beside its room: C is given all of the room, and the locator has no heap.
 #[derive(Clone, Copy)]
 pub struct NameText {
     pub len: Result<usize, Refusal>,

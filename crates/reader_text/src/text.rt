@@ -8,6 +8,7 @@ use reader_names::step::{NameStep, text_len};
 use reader_names::walk::NameWalk;
 
 // Any offset may be asked for; where the reader accepts no name, its refusal is given, and no octets.
+// A `loop`: each step says where the next is.
 pub fn name_text(reply: &[u8], start: usize) -> NameText
     ensures { NameTextPromise reply.now start result }
 {

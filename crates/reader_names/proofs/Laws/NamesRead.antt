@@ -6,7 +6,7 @@ use Prim.Native.Nat.{ℕ, suc, ◌+◌, ◌-◌, ◌<◌, ◌≤◌}
 use native.Mathlib.Numerals.{add-one}
 use native.Mathlib.Omega.{arith}
 use lib.ListN.{length, take, set, length-set}
-use lib.Seq.{append_snoc, take-suc-set}
+use lib.Seq.{append_snoc, take-suc-set, take_all}
 use Rattle.answers.specs.declared.Refusal.{Refusal}
 use Rattle.answers.specs.Try.{Try, ◌>>=◌}
 use Rattle.names.specs.Walk.{WalkedName}
@@ -31,11 +31,11 @@ module _ (s : List ℕ) (start count : ℕ) where
   pub record NamesLeft (names : List NameAt) (next i : ℕ) : Type 0 where
     pub given : List NameRead
     pub within : i ≤ count
-    pub room : length names ≡ 8
+    pub room : length names ≡ count
     pub stand : take i names ≡ map name_as given
     pub left : resumed given (read_names (count - i) s next) ≡ read_names count s start
 
-  pub names-start : (names : List NameAt) → length names ≡ 8 → NamesLeft names start 0
+  pub names-start : (names : List NameAt) → length names ≡ count → NamesLeft names start 0
   names-start names room = record { given = []; within = omega arith; room = room; stand = refl; left = ap (λ (k : ℕ). resumed [] (read_names k s start)) none ∙ go (read_names count s start) }
     where
       none : count - 0 ≡ count
@@ -56,9 +56,9 @@ module _ (s : List ℕ) (start count : ℕ) where
         let step : read_names (count - i) s next ≡ Err r = rw (one_more h, e) in
         sym n.left ∙ ap (resumed n.given) step
 
-    pub names_more : (lt : count ≤ 8) → i < count → (w : WalkedName) (name : NameAt) (after : ℕ) → read_name s next ≡ Ok (record { value = w; next = after }) → name ≡ name_as (joined_name next w)
+    pub names_more : i < count → (w : WalkedName) (name : NameAt) (after : ℕ) → read_name s next ≡ Ok (record { value = w; next = after }) → name ≡ name_as (joined_name next w)
         → NamesLeft (set names i name) after (i + 1)
-    names_more lt h w name after e q =
+    names_more h w name after e q =
         let rest : Try (Read (List NameRead)) = read_names (count - (i + 1)) s after in
         let step : read_names (count - i) s next ≡ (rest >>= λ x. Ok (record { value = joined_name next w ∷ x.value; next = x.next })) = rw (one_more h, e) in
         record {
@@ -71,7 +71,7 @@ module _ (s : List ℕ) (start count : ℕ) where
           left = sym (resumed_more n.given (joined_name next w) rest) ∙ ap (resumed n.given) (sym step) ∙ n.left;
         }
 
-    pub names-end : count ≤ i → (given : List NameRead) × (read_names count s start ≡ Ok (record { value = given; next = next })) × (take count names ≡ map name_as given) × (length names ≡ 8)
+    pub names-end : count ≤ i → (given : List NameRead) × (read_names count s start ≡ Ok (record { value = given; next = next })) × (names ≡ map name_as given)
     unfolding read_names
     names-end h =
         let e : i ≡ count = omega (arith, n.within) in
@@ -79,6 +79,5 @@ module _ (s : List ℕ) (start count : ℕ) where
         let l : resumed n.given (Ok (record { value = []; next = next })) ≡ read_names count s start = ap (λ (k : ℕ). resumed n.given (read_names k s next)) (sym z) ∙ n.left in (
           n.given,
           sym l ∙ ap (λ (x : List NameRead). Ok (record { value = x; next = next })) (append-nil n.given),
-          ap (λ (k : ℕ). take k names) (sym e) ∙ n.stand,
-          n.room,
+          sym (take_all i names (omega (arith, n.room))) ∙ n.stand,
         )

@@ -1,5 +1,5 @@
 -- What reading names one after the other returns.
-use Rattle.std.specs.Prelude.{◌≡◌, List, map, ℕ, length, take, Ok, Err}
+use Rattle.std.specs.Prelude.{◌≡◌, List, map, ℕ, Ok, Err}
 use Rattle.answers.specs.Try.{Try}
 use Rattle.reader.specs.declared.field.Read.{Read}
 use Rattle.reader.specs.Reader.{read_names}
@@ -9,5 +9,5 @@ use Rattle.reader_names.specs.Name.{name_as}
 
 abbrev pub NamesOf : List ℕ → ℕ → ℕ → Try (Read (List NameAt)) → Type 0
 NamesOf s at count (Ok f) =
-    (given : List reader.NameRead) × (read_names count s at ≡ Ok (record { value = given; next = f.next })) × (take count f.value ≡ map name_as given) × (length f.value ≡ 8)
+    (given : List reader.NameRead) × (read_names count s at ≡ Ok (record { value = given; next = f.next })) × (f.value ≡ map name_as given)
 NamesOf s at count (Err r) = read_names count s at ≡ Err r

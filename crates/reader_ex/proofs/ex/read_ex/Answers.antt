@@ -1,10 +1,8 @@
 use Rattle.std.proofs.Common.{Option, rules}
 use mathlib.Core.List.{List}
 use Prim.Native.Nat.{ℕ}
-use native.Mathlib.Omega.{arith}
 use Rattle.octets.specs.declared.part.Stretch.{Stretch}
 use Rattle.reader.specs.Reader.{NameRead, Fields, ex, Last, read_ex}
-use Rattle.reader_forms.proofs.Laws.Reading.{name-at}
 use Rattle.reader_ex.proofs.ex.read_ex.Goals as goal
 
 -- the fields that the parts make
@@ -15,7 +13,7 @@ fields_of opcode flags guid names ipv4 last =
 pub returns-in_err-tokens_at : goal.returns-in_err-tokens_at
 unfolding read_ex
 returns-in_err-tokens_at c =
-    let (given, names, same, long) = c.in_ok-names.ensures in
+    let (given, names, same) = c.in_ok-names.ensures in
     let (l, last, last_same) = c.in_ok-last.ensures in
     let f = fields_of c.in_ok-opcode.opcode.value c.in_ok-flags.flags.value c.in_ok-guid.guid.value given c.in_ok-ipv4.ipv4.value l in
     rw (
@@ -35,10 +33,9 @@ returns-in_err-tokens_at c =
 pub returns : goal.returns
 unfolding read_ex
 returns c =
-    let (given, names, same, long) = c.in_ok-names.ensures in
+    let (given, names, same) = c.in_ok-names.ensures in
     let (l, last, last_same) = c.in_ok-last.ensures in
     let f = fields_of c.in_ok-opcode.opcode.value c.in_ok-flags.flags.value c.in_ok-guid.guid.value given c.in_ok-ipv4.ipv4.value l in
-    let read = c.in_ok-names.names.value in
     rw (
       ← c.in_ok-opcode.ensures,
       ← c.in_ok-flags_at.ensures.field,
@@ -51,12 +48,5 @@ returns c =
       last,
       ← c.in_ok-tokens_at.ensures f,
       last_same,
-      name-at read given 8 0 (omega arith) same,
-      name-at read given 8 1 (omega arith) same,
-      name-at read given 8 2 (omega arith) same,
-      name-at read given 8 3 (omega arith) same,
-      name-at read given 8 4 (omega arith) same,
-      name-at read given 8 5 (omega arith) same,
-      name-at read given 8 6 (omega arith) same,
-      name-at read given 8 7 (omega arith) same,
+      same,
     )

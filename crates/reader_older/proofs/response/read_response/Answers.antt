@@ -1,11 +1,9 @@
 use Rattle.std.proofs.Common.{rules}
 use mathlib.Core.List.{List}
 use Prim.Native.Nat.{ℕ}
-use native.Mathlib.Omega.{arith}
 use Rattle.answers.specs.Wire.{response_version}
 use Rattle.octets.specs.declared.part.Stretch.{Stretch}
 use Rattle.reader.specs.Reader.{NameRead, Fields, response, read_response}
-use Rattle.reader_forms.proofs.Laws.Reading.{name-at}
 use Rattle.reader_older.specs.declared.opening.Opening.{Opening}
 use Rattle.reader_older.proofs.response.read_response.Goals as goal
 
@@ -28,7 +26,7 @@ fields_of o guid names ipv4 flags =
 pub returns-in_err-ending_at : goal.returns-in_err-ending_at
 unfolding read_response
 returns-in_err-ending_at c =
-    let (given, names, same, long) = c.in_ok-names.ensures in
+    let (given, names, same) = c.in_ok-names.ensures in
     let f = fields_of c.in_ok-opening.opening.value c.in_ok-guid.guid.value given c.in_ok-ipv4.ipv4.value c.in_ok-flags.flags.value in
     rw (
       ← c.in_ok-opening.ensures,
@@ -44,9 +42,8 @@ returns-in_err-ending_at c =
 pub returns : goal.returns
 unfolding read_response
 returns c =
-    let (given, names, same, long) = c.in_ok-names.ensures in
+    let (given, names, same) = c.in_ok-names.ensures in
     let f = fields_of c.in_ok-opening.opening.value c.in_ok-guid.guid.value given c.in_ok-ipv4.ipv4.value c.in_ok-flags.flags.value in
-    let read = c.in_ok-names.names.value in
     rw (
       ← c.in_ok-opening.ensures,
       ← c.in_ok-guid.ensures,
@@ -55,7 +52,5 @@ returns c =
       ← c.in_ok-ipv4.ensures,
       ← c.in_ok-flags.ensures,
       ← c.in_ok-ending_at.ensures f,
-      name-at read given 3 0 (omega arith) same,
-      name-at read given 3 1 (omega arith) same,
-      name-at read given 3 2 (omega arith) same,
+      same,
     )
