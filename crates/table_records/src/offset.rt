@@ -46,7 +46,8 @@ fn kind_offsets(image: &[u8], format: &RecordFormat, out: &mut [u16]) -> usize
 // The offsets of the used records of a kind, put at the start of out.
 pub fn offsets_of<'a>(image: &[u8], kind: RecordKind, out: &'a mut [u16]) -> &'a mut [u16]
     requires { (length image.now ≤ image_most) × ((format_of kind).count * blocks_most ≤ length out.old) }
-    ensures { records_at image.now (format_of kind).width result.now ≡ records_of kind (blocks_of image.now) }
+    ensures records { records_at image.now (format_of kind).width result.now ≡ records_of kind (blocks_of image.now) }
+    ensures upper_bound { length result.now ≤ (format_of kind).count * blocks_most }
 {
     let format = format_of(kind);
     let count = kind_offsets(image, &format, out);
