@@ -36,7 +36,7 @@ use Rattle.reader.specs.Reader.{read_in}
 use Rattle.reader_forms.specs.declared.reading.Reading.{Reading}
 use Rattle.reader_forms.specs.Reading.{reading_as, reading_length, reading_fields}
 use Rattle.reader_text.specs.declared.NameText.{NameText}
-use Rattle.reader_text.specs.Text.{name_text_lem, text_length_as}
+use Rattle.reader_text.specs.Text.{name_text_lem}
 use Rattle.table.specs.declared.Caller.{Caller}
 use Rattle.table.specs.Context.{Context}
 use Rattle.table.specs.Table.{Table}
@@ -191,7 +191,7 @@ demand_1 =
           (subst (λ (x : Try Reading). ForReply (number_of x)) (sym e) o.0, ap reading_length e, ap reading_fields e);
       name_text =
           λ reply start t r p e.
-          let o = only-returned text_length_as Err (λ q r h. cc) (λ a r h. cc) (By ForName) Any (name_text_lem reply start)
+          let o = only-returned written_as Err (λ q r h. cc) (λ a r h. cc) (By ForName) Any (name_text_lem reply start)
           (only_then (By ForName) Any (read_name reply start) _ (name-only (By ForName) refl refl reply start) (λ f. tt)) t.len r (ap (λ (x : NameText). x.len) p.same) e in
           (subst (λ (x : Try ℕ). ForName (number_of x)) (sym e) o.0, ap (λ (l : Try ℕ). result_unwrap_or l 0) e, ap (λ (l : Try ℕ). take (result_unwrap_or l 0) t.octets) e);
       read_message =

@@ -142,7 +142,7 @@ module _ (t : Table) (g : GoodTable t) where
       go (s ∷ []) k = k.0
       go (s ∷ r ∷ rest) k = of_subnet (subnet_for t caller)
 
-  site-next : (o : Option Site) → SiteGood (option_and_then o (λ s. site_if_any t s.next))
+  site-next : (o : Option Site) → SiteGood (option_and_then (λ s. site_if_any t s.next) o)
   unfolding option_and_then
   site-next None = tt
   site-next (Some s) = if_any s.next
@@ -157,9 +157,9 @@ module _ (t : Table) (g : GoodTable t) where
       name (Some s) k q = let z : s.name ≡ text = cc in subst (Writable 63) z k
 
       go : (b : Bool) → has v netlogon_nt_version_with_closest_site && has t.server.roles role_level2008 ≡ b
-          → cond b (option_map (λ s. s.name) (option_and_then o (λ s. site_if_any t s.next))) None ≡ Some text
+          → cond b (option_map (λ s. s.name) (option_and_then (λ s. site_if_any t s.next) o)) None ≡ Some text
           → Writable 63 text × (has v netlogon_nt_version_with_closest_site ≡ true)
-      go true q r = (name (option_and_then o (λ s. site_if_any t s.next)) (site-next o) r, both_left (has v netlogon_nt_version_with_closest_site) (has t.server.roles role_level2008) q)
+      go true q r = (name (option_and_then (λ s. site_if_any t s.next) o) (site-next o) r, both_left (has v netlogon_nt_version_with_closest_site) (has t.server.roles role_level2008) q)
       go false q r = absurd (none_not_some text r)
 
 site-name : (o : Option Site) → SiteGood o → Writable 63 (unwrap_or (option_map (λ s. s.name) o) [])
