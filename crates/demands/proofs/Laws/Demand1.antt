@@ -171,7 +171,7 @@ demand_1 =
           subst (λ (x : Try (Unit {0})). ForImage (number_of x)) (sym e) (only-returned judged_as Err (λ q r h. cc) (λ a r h. cc) (By ForImage) Any (table_in image) (table-only (By ForImage) refl refl refl refl image) j r p.same e).0;
       take_apart =
           λ filter t r p e.
-          subst (λ (x : Try Request). ForFilter (number_of x)) (sym e) (only-returned (λ (x : Try Request). x) Err (λ q r h. cc) (λ a r h. cc) (By ForFilter) Any (request_in filter) (request-only (By ForFilter) refl refl refl refl filter) t r p e).0;
+          subst (λ (x : Try Request). ForFilter (number_of x)) (sym e) (only-returned (λ (x : Try Request). x) Err (λ q r h. cc) (λ a r h. cc) (By ForFilter) Any (request_in filter) (request-only (By ForFilter) refl refl refl refl filter) t r p.same e).0;
       judge_values =
           λ filter request j r p e.
           subst (λ (x : Try ℕ). ForValues (number_of x)) (sym e) (only-returned judged_values Err (λ q r h. cc) (λ a r h. cc) (By ForValues) Any (ping_in filter request) (ping-only (By ForValues) refl filter request) j r p.same e).0;
@@ -196,7 +196,7 @@ demand_1 =
           (subst (λ (x : Try ℕ). ForName (number_of x)) (sym e) o.0, ap (λ (l : Try ℕ). result_unwrap_or l 0) e, ap (λ (l : Try ℕ). take (result_unwrap_or l 0) t.octets) e);
       read_message =
           λ message m r p e.
-          let o = only-returned (λ (x : Try Message). x) Err (λ q r h. cc) (λ a r h. cc) (By ForMessage) Any (message_in message) (message_only (By ForMessage) refl message) m r p e in
+          let o = only-returned (λ (x : Try Message). x) Err (λ q r h. cc) (λ a r h. cc) (By ForMessage) Any (message_in message) (message_only (By ForMessage) refl message) m r p.same e in
           (subst (λ (x : Try Message). ForMessage (number_of x)) (sym e) o.0, ap value_of e);
       write_message =
           λ source message before after w r p e.

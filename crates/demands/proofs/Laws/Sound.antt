@@ -73,11 +73,7 @@ context-good t p c g e =
     let f1 = refused_if-good (holds (λ s. not (is_sid s)) sid) SidShape _ c d.2 in
     let f2 = refused_if-good (holds (λ s. not (is_some (context_by_sid t s))) sid) SidNotHeld _ c f1.1 in
     let f3 = refused_if-good (holds (λ s. not (holds_sid s d.0)) sid) SidOfAnother _ c f2.1 in
-    let q : Ok d.0 ≡ Ok c = f3.1 in
-    subst GoodContext (good-same d.0 c q) (context-found t p d.0 g (whole-good (context_used t p) d.0 d.1))
-  where
-    good-same : (x y : Context) → Ok x ≡ Ok y → x ≡ y
-    good-same x y q = cc
+    subst GoodContext (good-same f3.1) (context-found t p d.0 g (whole-good (context_used t p) d.0 d.1))
 
 -- ---- the user asked for
 
@@ -143,7 +139,6 @@ module _ (t : Table) (g : GoodTable t) where
       go (s ∷ r ∷ rest) k = of_subnet (subnet_for t caller)
 
   site-next : (o : Option Site) → SiteGood (option_and_then (λ s. site_if_any t s.next) o)
-  unfolding option_and_then
   site-next None = tt
   site-next (Some s) = if_any s.next
 
@@ -222,11 +217,9 @@ unfolding reply_to
 replied t caller p room c a e =
     let form : Form = form_of t.server p.version in
     let octets : List ℕ = octets_in form (reply_for t caller p c form) in
-    let whole : Outcome = record { context = c.number; form = form; octets = octets } in
     let b = refused_if-good (wrong_user form p) UserLabelEmpty _ a e in
     let d = refused_if-good (ltb room (length octets)) NoRoom _ a b.1 in
-    let q : Ok whole ≡ Ok a = d.1 in
-    subst (Replied t caller p c) (good-same q) (record { octets = refl; user = b.0; form = refl })
+    subst (Replied t caller p c) (good-same d.1) (record { octets = refl; user = b.0; form = refl })
 
 module _ {t : Table} {caller : Caller} {p : Ping} {room : ℕ} {a : Outcome} (d : Derivation t caller p room a) where
   said-octets : a.octets ≡ octets_in a.form (said d)
