@@ -67,12 +67,7 @@ pub fn is_held_back(body: &[u8], version: u32) -> bool
 }
 
 // Whether a user was asked for, empty or not, whom the context at an offset does not know.
-pub fn is_user_unknown(
-    image: &AcceptedImage,
-    source: &[u8],
-    ping: RawPing,
-    context: usize,
-) -> bool
+pub fn is_user_unknown(image: &AcceptedImage, source: &[u8], ping: RawPing, context: usize) -> bool
     ensures { result ≡ is_user_unknown (table_from image.now) (context_of (cut image.now context context_format.width)) (ping_at source.now ping) }
 {
     let Some(user) = ping.user else {

@@ -1,6 +1,5 @@
 // Document 01, "Answer numbers" 11 to 17: the context used is the GUID's, else the DNS name's, else the default. Each lookup is made once.
-ghost use Rattle.std.specs.Prelude.{◌≡◌, ◌+◌, ◌≤◌, length, Ok, IfOk, IfSome};
-ghost use Rattle.answers.specs.Try.{◌>>=◌};
+ghost use Rattle.std.specs.Prelude.{◌≡◌, ◌+◌, ◌≤◌, length};
 ghost use Rattle.octets.specs.Lists.{cut, holds};
 ghost use Rattle.filter.specs.Request.{octets_of};
 ghost use Rattle.filter_read.specs.Internal.RawPing.{ping_at};
@@ -10,7 +9,7 @@ ghost use Rattle.table.specs.Table.{table_from};
 ghost use Rattle.table_find.specs.Internal.Found.{LiesIn, context_at};
 ghost use Rattle.choose.specs.Judge.{context_in};
 ghost use Rattle.choose.specs.Choose.{names_application};
-ghost use Rattle.choose_context.specs.Internal.Used.{asked_as, AskedIn, used_as, UsedIn, guid_asked, dns_name_asked, preferred, sid_judged};
+ghost use Rattle.choose_context.specs.Internal.Used.{asked_as, AskedIn, used_as, UsedIn, guid_asked, dns_name_asked, preferred, sid_as, sid_judged};
 
 use answers::Refusal;
 use filter_read::ping::RawPing;
@@ -75,7 +74,10 @@ fn preferred_of(image: &AcceptedImage, guid: Option<usize>, name: Option<usize>)
     ensures result_value { context_at image.now result ≡ preferred (table_from image.now) (context_at image.now guid) (context_at image.now name) }
     ensures lies_in { LiesIn image.now kind.Context result }
 {
-    guid.or(name).or_else(|| default_context(image))
+    match guid.or(name) {
+        None => default_context(image),
+        found => found,
+    }
 }
 
 // Whether what DnsDomain asks for is an application context.
@@ -95,8 +97,7 @@ fn judge_sid(
     clause: Option<Stretch>,
     context: usize,
 ) -> Result<(), Refusal>
-    ensures { (result >>= λ u. Ok (context_of (cut image.now context context_format.width)))
-        ≡ sid_judged (table_from image.now) (octets_of source.now clause) (context_of (cut image.now context context_format.width)) }
+    ensures { let used = context_of (cut image.now context context_format.width) in sid_as used result ≡ sid_judged (table_from image.now) (octets_of source.now clause) used }
 {
     let Some(clause) = clause else {
         return Ok(());

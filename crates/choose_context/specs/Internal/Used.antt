@@ -54,3 +54,7 @@ sid_judged t sid c =
     refused_if (holds (λ s. not (is_sid s)) sid) SidShape
     (refused_if (holds (λ s. not (is_some (context_by_sid t s))) sid) SidNotHeld
     (refused_if (holds (λ s. not (holds_sid s c)) sid) SidOfAnother (Ok c)))
+
+-- the context itself, where its SID is judged good
+abbrev pub sid_as : Context → Try (Unit {0}) → Try Context
+sid_as c judged = judged >>= λ _. Ok c

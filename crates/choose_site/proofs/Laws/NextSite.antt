@@ -1,5 +1,5 @@
 -- The next closest site, by whether it is asked for and the level is there.
-use Rattle.std.proofs.Common.{Option, None, Some, option_map, option_and_then}
+use Rattle.std.proofs.Common.{Option, None, Some, option_map}
 use mathlib.Core.Path.{◌≡◌}
 use mathlib.Core.Bool.{true, false, ◌&&◌}
 use Prim.Native.Nat.{ℕ}
@@ -18,9 +18,9 @@ module _ (t : Table) (v : ℕ) where
 
   module _ (asked : (has v netlogon_nt_version_with_closest_site && has t.server.roles role_level2008) ≡ true) where
     pub next_of_none : None ≡ next_site_lem t v None
-    unfolding next_site_lem option_and_then
+    unfolding next_site_lem
     next_of_none = rw asked
 
     pub next_of : (client : Site) → option_map (λ s. s.name) (site_if_any t client.next) ≡ next_site_lem t v (Some client)
-    unfolding next_site_lem option_and_then
+    unfolding next_site_lem
     next_of client = rw asked

@@ -27,7 +27,7 @@ returns c =
     let image = a.image.now in
     let t = table_from image in
     let p = ping_at a.source.now a.ping in
-    let long = (accepted_bounds image entry.requires.accepted.0).0 in
+    let long = (accepted_bounds image c.octets.ensures.accepted).0 in
     let site = c.client_site-client.ensures.result_value in
     let found = c.next_site-next in
     let slots = c.slots_for-slots.ensures in
@@ -38,13 +38,12 @@ returns c =
     ∙ flags_by_lem a.form t p (client_site_lem t a.caller) in
     let address = sym (cut-cut image body_offset body_size 8 ipv4_size (omega arith)) ∙ ap (λ (s : Server). s.address) (server-body image (omega arith)) in
     let next =
-    (λ i. text_if (c.is_found.ensures i) (slots.octets 8 i))
+    (λ i. text_if (c.is_some.ensures i) (slots.octets 8 i))
     ∙ next_there image found.result
     ∙ found.ensures.result_value
     ∙ ap (next_site_lem t p.version) site in
-    record {
-      result_value = λ i.
-          record {
+    λ i.
+        record {
             opcode = c.opcode_for-opcode.ensures i;
             flags = flags i;
             guid = sym (cut-cut image a.context body_size 4 guid_size (omega arith)) i;
@@ -59,6 +58,4 @@ returns c =
             ipv4 = address i;
             with_address_lem = c.has_bits.ensures i;
             next_site_lem = next i;
-          };
-      short = record { guid = omega arith; ipv4 = omega arith; slots = slots.short };
-    }
+          }
