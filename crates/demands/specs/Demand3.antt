@@ -12,7 +12,7 @@ use Rattle.reader_names.specs.{declared.NameAt.NameAt, Name.name_as}
 use Rattle.reader_text.specs.{declared.NameText.NameText, Text.text_given, Text.NameTextPromise}
 use Rattle.reply.specs.Reply.{Reply, response_names, ex_names}
 use Rattle.demands.specs.Derivation.{ReplyIs, EveryAnswerOver, EveryReply}
-use Rattle.demands.specs.Places.{name_start_lem, last_start}
+use Rattle.demands.specs.Places.{name_start, last_start}
 
 -- the own octets of the names of a form, in their places: NT40 has no names
 abbrev pub names_of : Form → Reply → List (List ℕ)
@@ -54,7 +54,7 @@ pub record ReadingWalked (form : Form) (v : ℕ) (r : Reply) (s : List ℕ) (len
   pub read : Fields
   pub accepted : given ≡ Ok (record { length = len; fields = read })
   pub many : length (names_read read) ≡ length (names_of form r)
-  pub names : (k : ℕ) → k < length (names_of form r) → NameReported s (name_start_lem form s k) k (get_or (names_of form r) k []) (get_or (names_read read) k (name_as no_name))
+  pub names : (k : ℕ) → k < length (names_of form r) → NameReported s (name_start form s k) k (get_or (names_of form r) k []) (get_or (names_read read) k (name_as no_name))
   pub last : WhereWritten (NameReported s (last_start v s) 8) (last_of form r) (last_read read)
 
 -- whatever `read_reply` returns of the octets, told the form and v

@@ -22,7 +22,7 @@ use Rattle.reader_text.proofs.Laws.Text.{given-text}
 use Rattle.reply.specs.Reply.{Reply, octets_in}
 use Rattle.demands.specs.Demand3.{names_of, last_of, NameReported, WhereWritten, ReadsWalked, Demand3Over, Demand3Calls}
 use Rattle.demands.specs.Derivation.{ReplyIs}
-use Rattle.demands.specs.Places.{name_start_lem, last_start}
+use Rattle.demands.specs.Places.{name_start, last_start}
 use Rattle.demands.proofs.Laws.Demand3.{names_in, last_in, NameGiven, NamesWalked, names-walked}
 use Rattle.demands.proofs.Laws.Derivation.{every_answer, every_reply}
 use Rattle.demands.proofs.Laws.Only.{Any, only-good}
@@ -108,7 +108,7 @@ reading_walked form v r s w given promise =
       names =
           λ k h.
           let there : k < length (names_read (fields_as f)) = subst (λ (x : ℕ). k < x) (sym many) h in
-          rw (names_there f k there) (reported s (name_start_lem form s k) k _ _ (w.names k h) (names_spelt s f spelt k there));
+          rw (names_there f k there) (reported s (name_start form s k) k _ _ (w.names k h) (names_spelt s f spelt k there));
       last = rw (last_there f) (last_reported s (last_start v s) (last_of form r) (last_in f) w.last (last_spelt s f spelt));
     }
 

@@ -91,9 +91,9 @@ user-good p e = go p.user e
         let t : is_user_name x ≡ true = not-false (is_user_name x) q in
         (user-name_spoken x t, user-name-short x t)
 
-user_spoken_lem : (o : Option (List ℕ)) → UserGood o → Spoken (unwrap_or o []) × (length (unwrap_or o []) ≤ 63)
-user_spoken_lem None u = (empty_spoken, omega arith)
-user_spoken_lem (Some x) u = u
+user_spoken_short : (o : Option (List ℕ)) → UserGood o → Spoken (unwrap_or o []) × (length (unwrap_or o []) ≤ 63)
+user_spoken_short None u = (empty_spoken, omega arith)
+user_spoken_short (Some x) u = u
 
 -- in the EX form, after 18, no label is empty
 user_writable : (p : Ping) → UserGood p.user → wrong_user Ex p ≡ false → Writable 63 (unwrap_or p.user [])
@@ -197,8 +197,8 @@ reply_sound t caller p c form g k u w =
       server = g.server.netbios;
       server_spoken = g.server.spoken;
       user = λ e. user_writable p u (rw e at w);
-      user_spoken = (user_spoken_lem p.user u).0;
-      user_short = (user_spoken_lem p.user u).1;
+      user_spoken = (user_spoken_short p.user u).0;
+      user_short = (user_spoken_short p.user u).1;
       own_site_lem = site-name (site_by_number t t.server.site) (by_number t g t.server.site);
       client_site_lem = site-name (client_site_lem t caller) (of_client t g caller);
       address = refl;
