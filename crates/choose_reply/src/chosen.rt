@@ -5,6 +5,7 @@ ghost use Rattle.unicode_text.specs.UserName.{is_user_name};
 ghost use Rattle.filter_read.specs.Internal.RawPing.{ping_at};
 ghost use Rattle.reply.specs.Internal.RawReply.{reply_in};
 ghost use Rattle.table.specs.declared.record.RecordKind.TheVariants as kind;
+ghost use Rattle.table.specs.Block.{block_size};
 ghost use Rattle.table.specs.Context.{context_of, context_format};
 ghost use Rattle.table.specs.Countings.{same_site_lem};
 ghost use Rattle.table.specs.Table.{table_from};
@@ -51,12 +52,12 @@ fn opcode_for(
     )
 }
 
-fn flags_for(image: &AcceptedImage, client: Option<usize>, application: bool, form: Form) -> u32
+fn flags_for(image: &[u8], client: Option<usize>, application: bool, form: Form) -> u32
+    requires { block_size ≤ length image.now }
     ensures { result ≡ flags_by form (table_from image.now).server.roles (holds (λ s. same_site_lem s.number (table_from image.now).server.site) (site_at image.now client)) application }
 {
-    let octets = image.octets();
-    let body = server::server_of(octets);
-    let same_site = is_numbered(octets, client, server::own_site(body));
+    let body = server::server_of(image);
+    let same_site = is_numbered(image, client, server::own_site(body));
     flags_of(form, server::roles(body), same_site, application)
 }
 
@@ -105,7 +106,7 @@ pub fn reply_for(
     let client = client_site(image, caller);
     let next = next_site(image, ping.version, client);
     let opcode = opcode_for(image, source, ping, context, form);
-    let flags = flags_for(image, client, application, form);
+    let flags = flags_for(image.octets(), client, application, form);
     let slots = slots_for(image, source, ping, context, client, next);
     let guid = Stretch {
         lender: Lender::Table,

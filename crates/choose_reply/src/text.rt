@@ -41,10 +41,10 @@ pub fn site_name(image: &[u8], found: Option<usize>) -> Stretch
     requires { LiesIn image.now kind.Site found }
     ensures { InTable image.now result (unwrap_or (option_map (λ s. s.name) (site_at image.now found)) []) }
 {
-    match found {
-        Some(offset) => text_stretch(image, offset, site::FORMAT.width, site::NAME),
-        None => NO_TEXT,
-    }
+    let Some(offset) = found else {
+        return NO_TEXT;
+    };
+    text_stretch(image, offset, site::FORMAT.width, site::NAME)
 }
 
 // The user asked for, if any.

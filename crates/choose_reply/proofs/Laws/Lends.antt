@@ -36,15 +36,15 @@ cut-within s at w from n h =
 -- slots, one after the other
 module _ (table request : List ℕ) where
   pub no_slots : LendsEach table request [] []
-  no_slots = record { octets = λ k. refl }
+  no_slots = record { octets = λ k h. absurd (omega arith) }
 
   pub slot_then : (s : Stretch) (text : List ℕ) (slots : List Stretch) (texts : List (List ℕ))
       → octets_at table request s ≡ text → LendsEach table request slots texts → LendsEach table request (s ∷ slots) (text ∷ texts)
   slot_then s text slots texts l ls = record { octets = octets }
     where
-      octets : (k : ℕ) → slot_text table request (s ∷ slots) k ≡ get_or (text ∷ texts) k []
-      octets zero = l
-      octets (suc k) = ls.octets k
+      octets : (k : ℕ) → k < length (text ∷ texts) → slot_text table request (s ∷ slots) k ≡ get_or (text ∷ texts) k []
+      octets zero h = l
+      octets (suc k) h = ls.octets k (omega arith)
 
 -- the next site's name is there where the site is
 pub next_there : (image : List ℕ) (found : Option ℕ) → text_if (is_some found) (name_of (site_at image found)) ≡ option_map (λ s. s.name) (site_at image found)

@@ -1,5 +1,5 @@
 -- Texts that stretches lend, and the texts of a reply in the order of their slots.
-use Rattle.std.specs.Prelude.{◌≡◌, List, [], ◌∷◌, ℕ, get_or, Option, option_map, unwrap_or}
+use Rattle.std.specs.Prelude.{◌≡◌, List, [], ◌∷◌, ℕ, ◌<◌, length, get_or, Option, option_map, unwrap_or}
 use Rattle.filter_read.specs.Value.{Ping}
 use Rattle.lent.specs.declared.stretch.Stretch.{Stretch}
 use Rattle.lent.specs.Internal.Stretch.{octets_at}
@@ -19,7 +19,7 @@ InRequest request s text = (table : List ℕ) → octets_at table request s ≡ 
 
 -- the same of each slot
 pub record LendsEach (table request : List ℕ) (slots : List Stretch) (texts : List (List ℕ)) : Type 0 where
-  pub octets : (k : ℕ) → slot_text table request slots k ≡ get_or texts k []
+  pub octets : (k : ℕ) → k < length texts → slot_text table request slots k ≡ get_or texts k []
 
 -- a name that may be absent
 abbrev pub name_of : Option Site → List ℕ
