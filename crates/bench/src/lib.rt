@@ -65,8 +65,7 @@ fn text_at(place: usize, length: u8) -> Stretch
     }
 }
 
-fn name_texts(lengths: &[u8; NAMES]) -> [Stretch; NAMES]
-{
+fn name_texts(lengths: &[u8; NAMES]) -> [Stretch; NAMES] {
     [
         text_at(0, lengths[0]),
         text_at(1, lengths[1]),

@@ -102,7 +102,11 @@ pub fn put_message_members(message: &[u8], members: &mut [usize; MESSAGE_MEMBERS
 }
 
 // A number past its field's width is 41, like whatever else breaks a message's limits.
-fn message_written(source: &[u8], members: &[usize; MESSAGE_MEMBERS], out: &mut [u8]) -> Result<usize, Refusal>
+fn message_written(
+    source: &[u8],
+    members: &[usize; MESSAGE_MEMBERS],
+    out: &mut [u8],
+) -> Result<usize, Refusal>
     ensures value { result ≡ message_written source.now members.now out.old }
     ensures write_message_leaves { WriteMessageLeaves source.now (message_of members.now) out.old out.new }
 {

@@ -70,5 +70,13 @@ pub fn answer_over<'a>(
     ensures reply_after { reply.new ≡ over (octets_written (answer_over (table_from image.now) caller (ping_at source.now ping) (length reply.old))) reply.old }
 {
     let used = context_used(image, source, ping)?;
-    reply_to(image, caller, source, ping, used.context, used.application, reply)
+    reply_to(
+        image,
+        caller,
+        source,
+        ping,
+        used.context,
+        used.application,
+        reply,
+    )
 }
