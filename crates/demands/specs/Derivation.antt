@@ -3,9 +3,7 @@ use Rattle.std.specs.Prelude.{◌≡◌, false, not, List, ℕ, length, take, Ok
 use Rattle.answers.specs.{declared.Form.Form, Try.Try}
 use Rattle.filter_read.specs.Value.{Ping}
 use Rattle.unicode_text.specs.UserName.{is_user_name}
-use Rattle.locator.specs.declared.Answer.{Answer}
-use Rattle.locator.specs.declared.Answer.TheVariants as answer
-use Rattle.locator.specs.Answer.{Outcome, reply_to, answer_over, answer_by}
+use Rattle.locator.specs.{declared.Answered.Answered, Answer.Outcome, Answer.reply_to, Answer.answer_over, Answer.answer_by}
 use Rattle.choose.specs.{Choose.reply_for, Judge.context_in}
 use Rattle.octets.specs.Lists.{holds}
 use Rattle.reply.specs.Reply.{Reply}
@@ -65,8 +63,8 @@ EveryAnswer P =
 abbrev pub EveryReply : (Form → ℕ → Reply → List ℕ → ℕ → Type 0) → Type 0
 EveryReply P =
     (way : List ℕ → Try Ping) → GivesGoodPings way
-    → (image : List ℕ) (caller : Caller) (octets before after : List ℕ) (a : Answer) (len : ℕ) (context : ContextNumber) (form : Form)
-    → AnswerPromise way image caller octets before after a → a ≡ answer.Answered len context form
+    → (image : List ℕ) (caller : Caller) (octets before after : List ℕ) (a : Try Answered) (len : ℕ) (context : ContextNumber) (form : Form)
+    → AnswerPromise way image caller octets before after a → a ≡ Ok (record { length = len; context = context; form = form })
     → (parts : Parts way image octets)
     × (d : Derivation parts.table caller parts.ping (length before) (record { context = context; form = form; octets = take len after }))
     × P form parts.ping.version (said d) (take len after) len

@@ -4,7 +4,7 @@ use Rattle.std.specs.Prelude.{◌≡◌, true, false, List, [], ◌∷◌, ℕ, 
 use Rattle.answers.specs.declared.Form.{Form}
 use Rattle.answers.specs.declared.Form.TheVariants.{Nt40, Response, Ex}
 use Rattle.answers.specs.{Try.◌>>=◌, Wire.ds_ndnc_flag}
-use Rattle.filter.specs.{declared.request.ClauseName.ClauseName, declared.request.Request.Request, Request.clause, Request.octets_of}
+use Rattle.filter.specs.{declared.request.Request.Request, Request.clause, Request.octets_of}
 use Rattle.filter.specs.declared.request.ClauseName.TheVariants.{DnsDomain, User, Aac, DomainSid, DomainGuid, NtVer}
 use Rattle.filter_read.specs.Value.{ping_in, ping_from}
 use Rattle.locator.specs.Answer.{Outcome, answer_over, answer_by}

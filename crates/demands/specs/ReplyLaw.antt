@@ -1,6 +1,6 @@
 -- The reply law: of every answer, the reader, given the reply's octets, its form and the version bits asked, accepts the reply with its length
 -- and gives back the texts and numbers that went in.
-use Rattle.std.specs.Prelude.{◌≡◌, Bool, true, false, List, map, ℕ, length, Ok, Option, None, Some}
+use Rattle.std.specs.Prelude.{◌≡◌, Bool, true, false, List, map, ℕ, length, Ok, Option, None, Some, option_map}
 use Rattle.answers.specs.{declared.Form.Form, Try.Try}
 use Rattle.answers.specs.declared.Form.TheVariants.{Nt40, Response, Ex}
 use Rattle.answers.specs.Wire.{nt40_version, response_version, ex_version, ex_version_with_next_site}

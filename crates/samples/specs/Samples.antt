@@ -16,7 +16,7 @@ use Rattle.table.specs.{Address.address_number, Bits.role_nt4_wanted, declared.C
 use Rattle.table_check.specs.Check.{check_of_lem}
 use Rattle.table_find.specs.Find.{in_subnet}
 use Rattle.unicode_text.specs.Utf16.{utf16}
-use Rattle.locator.specs.Answer.{Outcome, answer_to, answer_as, octets_written, answer_number, answer_length, answer_context, answer_form}
+use Rattle.locator.specs.Answer.{Outcome, answer_to, answer_as, octets_written, answer_length, answer_context, answer_form}
 
 -- the base table
 
@@ -104,7 +104,7 @@ form_mark (Some Response) = 2
 form_mark (Some Ex) = 3
 
 unfoldable pub summary : Try Outcome → List ℕ
-summary o = let a = answer_as o in answer_number a ∷ answer_length a ∷ answer_context a ∷ form_mark (answer_form a) ∷ little (take 2 (octets_written o)) ∷ []
+summary o = let a = answer_as o in number_of a ∷ answer_length a ∷ answer_context a ∷ form_mark (answer_form a) ∷ little (take 2 (octets_written o)) ∷ []
 
 unfoldable pub refusal : ℕ → List ℕ
 refusal n = n ∷ 0 ∷ 0 ∷ 0 ∷ 0 ∷ []

@@ -108,7 +108,7 @@ pub record Shortest (form : Form) (v : ℕ) (r : Reply) (s : List ℕ) : Type 0 
   pub places : List Placed
   pub compared : Compared form r s places
   pub least : (other : List ℕ) (at : List Placed) → Compared form r other at → length s ≤ length other
-  pub read_back_lem : (other : List ℕ) (at : List Placed) → Compared form r other at → SaysNames (fields_of form r) other at
+  pub read_back : (other : List ℕ) (at : List Placed) → Compared form r other at → SaysNames (fields_of form r) other at
 
 -- so of every answer over a table, and of the octets that an answering call leaves
 abbrev pub ShortestAnswerOver : Type 0

@@ -36,7 +36,7 @@ use Rattle.reader.specs.Reader.{read_in}
 use Rattle.reader_forms.specs.declared.reading.Reading.{Reading}
 use Rattle.reader_forms.specs.Reading.{reading_as, reading_length, reading_fields}
 use Rattle.reader_text.specs.declared.NameText.{NameText}
-use Rattle.reader_text.specs.Text.{name_text_lem, text_length_as}
+use Rattle.reader_text.specs.Text.{name_text_lem}
 use Rattle.table.specs.declared.Caller.{Caller}
 use Rattle.table.specs.Context.{Context}
 use Rattle.table.specs.Table.{Table}
@@ -168,45 +168,45 @@ demand_1 =
       check_of = λ octets c p. let s = subst Sums (sym p) (sums_grown (record { a = 1; b = 0 }) octets (omega arith, omega arith)) in (p, s.0, s.1);
       judge =
           λ image j r p e.
-          subst (λ (x : Try (Unit {0})). ForImage (number_of x)) (sym e) (only-returned judged_as Err (λ q r h. cc) (λ a r h. cc) (By ForImage) Any (table_in image) (table-only (By ForImage) refl refl refl refl image) j r p.same e).0;
+          subst (λ (x : Try (Unit {0})). ForImage (number_of x)) (sym e) (only-returned judged_as (λ q. refl) (λ a. (_, refl)) (By ForImage) Any (table_in image) (table-only (By ForImage) refl refl refl refl image) j r p.same e).0;
       take_apart =
           λ filter t r p e.
-          subst (λ (x : Try Request). ForFilter (number_of x)) (sym e) (only-returned (λ (x : Try Request). x) Err (λ q r h. cc) (λ a r h. cc) (By ForFilter) Any (request_in filter) (request-only (By ForFilter) refl refl refl refl filter) t r p e).0;
+          subst (λ (x : Try Request). ForFilter (number_of x)) (sym e) (only-returned (λ (x : Try Request). x) (λ q. refl) (λ a. (_, refl)) (By ForFilter) Any (request_in filter) (request-only (By ForFilter) refl refl refl refl filter) t r p.same e).0;
       judge_values =
           λ filter request j r p e.
-          subst (λ (x : Try ℕ). ForValues (number_of x)) (sym e) (only-returned judged_values Err (λ q r h. cc) (λ a r h. cc) (By ForValues) Any (ping_in filter request) (ping-only (By ForValues) refl filter request) j r p.same e).0;
+          subst (λ (x : Try ℕ). ForValues (number_of x)) (sym e) (only-returned judged_values (λ q. refl) (λ a. (_, refl)) (By ForValues) Any (ping_in filter request) (ping-only (By ForValues) refl filter request) j r p.same e).0;
       write_filter =
           λ source request before after w r p e.
           let t : Try (List ℕ) = filter_for source request (length before) in
-          let o = only-returned written_as Err (λ q r h. cc) (λ a r h. cc) (By ForWriting) Any t (filter-only (By ForWriting) refl refl refl source request (length before)) w r p.returned.same e in
+          let o = only-returned written_as (λ q. refl) (λ a. (_, refl)) (By ForWriting) Any t (filter-only (By ForWriting) refl refl refl source request (length before)) w r p.returned.same e in
           (subst (λ (x : Try ℕ). ForWriting (number_of x)) (sym e) o.0, ap (λ (x : Try ℕ). result_unwrap_or x 0) e, p.left ∙ ap (λ (x : Try (List ℕ)). over (written_octets x) before) o.1 ∙ over_none before);
       answer_ping =
           λ image caller filter before after a r p e.
           let t : Try Outcome = answer_to image caller filter (length before) in
-          let o = only-returned answer_as Err (λ q r h. cc) (λ a r h. cc) (By ForPing) Any t (answer_only image caller filter (length before)) a r p.returned.same e in
+          let o = only-returned answer_as (λ q. refl) (λ a. (_, refl)) (By ForPing) Any t (answer_only image caller filter (length before)) a r p.returned.same e in
           (subst (λ (x : Try Answered). ForPing (number_of x)) (sym e) o.0, ap answer_length e, ap answer_context e, ap answer_form e, p.left ∙ ap (λ (x : Try Outcome). over (octets_written x) before) o.1 ∙ over_none before);
       read_reply =
           λ reply form v x r p e.
-          let o = only-returned (reading_as reply) Err (λ q r h. cc) (λ a r h. cc) (By ForReply) (λ f. form_read f ≡ form) (read_in form v reply) (reading_only (By ForReply) refl refl refl refl refl form v reply) x r p.same e in
+          let o = only-returned (reading_as reply) (λ q. refl) (λ a. (_, refl)) (By ForReply) (λ f. form_read f ≡ form) (read_in form v reply) (reading_only (By ForReply) refl refl refl refl refl form v reply) x r p.same e in
           (subst (λ (x : Try Reading). ForReply (number_of x)) (sym e) o.0, ap reading_length e, ap reading_fields e);
       name_text =
           λ reply start t r p e.
-          let o = only-returned text_length_as Err (λ q r h. cc) (λ a r h. cc) (By ForName) Any (name_text_lem reply start)
+          let o = only-returned written_as (λ q. refl) (λ a. (_, refl)) (By ForName) Any (name_text_lem reply start)
           (only_then (By ForName) Any (read_name reply start) _ (name-only (By ForName) refl refl reply start) (λ f. tt)) t.len r (ap (λ (x : NameText). x.len) p.same) e in
           (subst (λ (x : Try ℕ). ForName (number_of x)) (sym e) o.0, ap (λ (l : Try ℕ). result_unwrap_or l 0) e, ap (λ (l : Try ℕ). take (result_unwrap_or l 0) t.octets) e);
       read_message =
           λ message m r p e.
-          let o = only-returned (λ (x : Try Message). x) Err (λ q r h. cc) (λ a r h. cc) (By ForMessage) Any (message_in message) (message_only (By ForMessage) refl message) m r p e in
+          let o = only-returned (λ (x : Try Message). x) (λ q. refl) (λ a. (_, refl)) (By ForMessage) Any (message_in message) (message_only (By ForMessage) refl message) m r p.same e in
           (subst (λ (x : Try Message). ForMessage (number_of x)) (sym e) o.0, ap value_of e);
       write_message =
           λ source message before after w r p e.
           let t : Try (List ℕ) = message_for source message (length before) in
-          let o = only-returned written_as Err (λ q r h. cc) (λ a r h. cc) (By ForMessageWriting) Any t (message_written-only (By ForMessageWriting) refl refl source message (length before)) w r p.returned.same e in
+          let o = only-returned written_as (λ q. refl) (λ a. (_, refl)) (By ForMessageWriting) Any t (message_written-only (By ForMessageWriting) refl refl source message (length before)) w r p.returned.same e in
           (subst (λ (x : Try ℕ). ForMessageWriting (number_of x)) (sym e) o.0, ap (λ (x : Try ℕ). result_unwrap_or x 0) e, p.left ∙ ap (λ (x : Try (List ℕ)). over (written_octets x) before) o.1 ∙ over_none before);
       answer_mailslot =
           λ image caller message before after a r p e.
           let t : Try Outcome = answer_by mailslot_ping image caller message (length before) in
-          let o = only-returned answer_as Err (λ q r h. cc) (λ a r h. cc) (By ForMailslot) Any t (mailslot-only image caller message (length before)) a r p.returned.same e in
+          let o = only-returned answer_as (λ q. refl) (λ a. (_, refl)) (By ForMailslot) Any t (mailslot-only image caller message (length before)) a r p.returned.same e in
           (subst (λ (x : Try Answered). ForMailslot (number_of x)) (sym e) o.0, ap answer_length e, ap answer_context e, ap answer_form e, p.left ∙ ap (λ (x : Try Outcome). over (octets_written x) before) o.1 ∙ over_none before);
       number_of = λ r n p. subst ForAny (sym p) (number_known r);
     }

@@ -16,7 +16,7 @@ use Rattle.reader.proofs.Laws.Reader.{NamesRow, given_back_lem, read-nt40, given
 use Rattle.reader_forms.specs.Reading.{no_name}
 use Rattle.reply.specs.Reply.{Reply, nt40_octets, response_octets, ex_octets, octets_in}
 use Rattle.demands.specs.Demand3.{names_of, last_of, NameWalked, WhereWritten}
-use Rattle.demands.specs.Places.{names_start, name_start_lem, last_start}
+use Rattle.demands.specs.Places.{names_start, name_start, last_start}
 use Rattle.demands.proofs.Laws.Forms.Ex.{ex_front, ex-row, ex-start, ex-last-start, ex-read, LastSpot, last_there}
 use Rattle.demands.proofs.Laws.Forms.Nt40.{nt40_opened}
 use Rattle.demands.proofs.Laws.Forms.Response.{response-row, response-start, response-read}
@@ -46,7 +46,7 @@ pub record NamesWalked (form : Form) (v : ℕ) (r : Reply) (s : List ℕ) : Type
   pub fields : Fields
   pub accepted : read_in form v s ≡ Ok fields
   pub many : length (names_in fields) ≡ length (names_of form r)
-  pub names : (k : ℕ) → k < length (names_of form r) → NameGiven s (name_start_lem form s k) k (get_or (names_of form r) k []) (get_or (names_in fields) k no_name)
+  pub names : (k : ℕ) → k < length (names_of form r) → NameGiven s (name_start form s k) k (get_or (names_of form r) k []) (get_or (names_in fields) k no_name)
   pub last : WhereWritten (NameGiven s (last_start v s) 8) (last_of form r) (last_in fields)
 
 -- a name where the walk finds it, and where the reader found it
@@ -68,7 +68,7 @@ given {text = text} {count = count} k spot =
 
 -- the names of a row, from where the layout places them
 row-given : (form : Form) {s : List ℕ} {at : ℕ} {texts : List (List ℕ)} {octets : List ℕ} (row : NamesRow s at texts octets) → names_start form s ≡ at → (i : ℕ) → i < length texts
-    → NameGiven s (name_start_lem form s i) i (get_or texts i []) (get_or (given_back_lem row.starts texts row.counts) i no_name)
+    → NameGiven s (name_start form s i) i (get_or texts i []) (get_or (given_back_lem row.starts texts row.counts) i no_name)
 row-given form {texts = texts} row first i h = rw (name-placed form row first i h, given-at row.row no_name i h) (given i (row_spot row.row i h))
 
 nt40-walked : (v : ℕ) (r : Reply) → Sound Nt40 v r → NamesWalked Nt40 v r (nt40_octets r)

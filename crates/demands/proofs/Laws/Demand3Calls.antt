@@ -11,8 +11,8 @@ use Rattle.octets.proofs.Laws.Lists.{every_at}
 use Rattle.reader.specs.declared.field.Read.{Read}
 use Rattle.reader.specs.Name.{read_name}
 use Rattle.reader.specs.Reader.{NameRead, joined_name, Fields, nt40, response, ex, read_in}
-use Rattle.reader_forms.specs.Reading.{no_name, name_in, next_site_as, fields_as, reading_as}
-use Rattle.reader_forms.specs.Settled.{names_read, site_read, last_read}
+use Rattle.reader_forms.specs.Reading.{no_name, name_in, fields_as, reading_as}
+use Rattle.reader_forms.specs.Settled.{names_read, last_read}
 use Rattle.reader_forms.proofs.Laws.Names.{SiteHas, AllHave, all_have}
 use Rattle.reader_names.specs.declared.NameAt.{NameAt}
 use Rattle.reader_names.specs.Name.{name_as}
@@ -22,7 +22,7 @@ use Rattle.reader_text.proofs.Laws.Text.{given-text}
 use Rattle.reply.specs.Reply.{Reply, octets_in}
 use Rattle.demands.specs.Demand3.{names_of, last_of, NameReported, WhereWritten, ReadsWalked, Demand3Over, Demand3Calls}
 use Rattle.demands.specs.Derivation.{ReplyIs}
-use Rattle.demands.specs.Places.{name_start_lem, last_start}
+use Rattle.demands.specs.Places.{name_start, last_start}
 use Rattle.demands.proofs.Laws.Demand3.{names_in, last_in, NameGiven, NamesWalked, names-walked}
 use Rattle.demands.proofs.Laws.Derivation.{every_answer, every_reply}
 use Rattle.demands.proofs.Laws.Only.{Any, only-good}
@@ -50,14 +50,10 @@ names_there (nt40 f) k h = absurd (omega arith)
 names_there (response f) k h = at_place (name_in f.names) (name_as no_name) 3 k h ∙ get_or-map name_as f.names k no_name
 names_there (ex f) k h = at_place (name_in f.names) (name_as no_name) 8 k h ∙ get_or-map name_as f.names k no_name
 
-site_there : (o : Option NameRead) → site_read (next_site_as o) ≡ option_map name_as o
-site_there None = refl
-site_there (Some n) = refl
-
 pub last_there : (f : Fields) → last_read (fields_as f) ≡ option_map name_as (last_in f)
 last_there (nt40 f) = refl
 last_there (response f) = refl
-last_there (ex f) = site_there f.next_site_lem
+last_there (ex f) = refl
 
 module _ (s : List ℕ) where
   -- the second call gives a name's text from its first offset
@@ -112,7 +108,7 @@ reading_walked form v r s w given promise =
       names =
           λ k h.
           let there : k < length (names_read (fields_as f)) = subst (λ (x : ℕ). k < x) (sym many) h in
-          rw (names_there f k there) (reported s (name_start_lem form s k) k _ _ (w.names k h) (names_spelt s f spelt k there));
+          rw (names_there f k there) (reported s (name_start form s k) k _ _ (w.names k h) (names_spelt s f spelt k there));
       last = rw (last_there f) (last_reported s (last_start v s) (last_of form r) (last_in f) w.last (last_spelt s f spelt));
     }
 

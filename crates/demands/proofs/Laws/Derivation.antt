@@ -3,13 +3,12 @@ use Rattle.std.proofs.Common.{Ok, Err}
 use mathlib.Core.Path.{◌≡◌, refl, sym, ap, ◌∙◌, subst}
 use mathlib.Core.List.{List}
 use Prim.Native.Nat.{ℕ}
-use native.Mathlib.Omega.{arith}
 use lib.ListN.{length, take}
 use Rattle.answers.specs.declared.Form.{Form}
 use Rattle.answers.specs.Try.{Try}
-use Rattle.answers.proofs.Laws.Try.{good_then}
+use Rattle.answers.proofs.Laws.Try.{good-same, good_then, refused_not_good}
 use Rattle.filter_read.specs.Value.{Ping}
-use Rattle.locator.specs.declared.Answer.TheVariants as answer
+use Rattle.locator.specs.declared.Answered.{Answered}
 use Rattle.locator.specs.Answer.{Outcome, answer_over, answer_by, answer_as, octets_written}
 use Rattle.choose.specs.Judge.{context_in}
 use Rattle.octets.specs.Buffer.{over}
@@ -43,6 +42,9 @@ every_reply P Q every weaken way pings image caller octets before after a len co
     whole : Outcome
     whole = record { context = context; form = form; octets = take len after }
 
+    given : Answered
+    given = record { length = len; context = context; form = form }
+
     Due : Type 0
     Due = (parts : Parts way image octets) × (d : Derivation parts.table caller parts.ping (length before) whole) × Q form parts.ping.version (said d) (take len after) len
 
@@ -52,14 +54,12 @@ every_reply P Q every weaken way pings image caller octets before after a len co
 
     by : (o : Try Outcome) → answer_by way image caller octets (length before) ≡ o → Due
     by (Err x) e =
-        let f : answer.Refused x ≡ answer.Answered len context form = sym (ap answer_as e) ∙ sym promise.returned.same ∙ answered in
-        let z : ◌≡◌ {A = ℕ} 0 1 = cc in
-        absurd (omega arith)
+        absurd (refused_not_good x given (sym (ap answer_as e) ∙ sym promise.returned.same ∙ answered))
     by (Ok o) e =
-        let f : answer.Answered (length o.octets) o.context o.form ≡ answer.Answered len context form = sym (ap answer_as e) ∙ sym promise.returned.same ∙ answered in
-        let l : length o.octets ≡ len = cc in
-        let c : o.context ≡ context = cc in
-        let g : o.form ≡ form = cc in
+        let f = good-same (sym (ap answer_as e) ∙ sym promise.returned.same ∙ answered) in
+        let l : length o.octets ≡ len = ap (λ (x : Answered). x.length) f in
+        let c : o.context ≡ context = ap (λ (x : Answered). x.context) f in
+        let g : o.form ≡ form = ap (λ (x : Answered). x.form) f in
         let s : o.octets ≡ take len after = sym (ap (take len) (promise.left ∙ ap (λ (x : Try Outcome). over (octets_written x) before) e) ∙ over_front o.octets before len l) in
         let same : o ≡ whole = λ i. record { context = c i; form = g i; octets = s i } in
         let x = every way pings image caller octets (length before) whole (e ∙ ap Ok same) in

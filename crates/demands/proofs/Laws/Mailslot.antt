@@ -20,7 +20,7 @@ use Rattle.filter.specs.declared.request.ClauseName.TheVariants.{User, Aac, Doma
 use Rattle.filter.specs.Request.{clause, octets_of}
 use Rattle.filter_read.specs.Value.{Ping, is_number, wrong_value_lem, version_asked, ping_of, ping_in}
 use Rattle.filter_read.proofs.Laws.Value.{ping-user}
-use Rattle.locator.specs.Answer.{Outcome, answer_over, answer_by}
+use Rattle.locator.specs.Answer.{answer_over, answer_by}
 use Rattle.mailslot.specs.declared.message.Message.{Message}
 use Rattle.mailslot.specs.Message.{message_in}
 use Rattle.mailslot_answer.specs.Ping.{unless_empty, message_ping, mailslot_ping}
@@ -32,7 +32,6 @@ use Rattle.octets.proofs.Laws.Number.{length-little, little-back}
 use Rattle.octets.specs.Stretch.{stretch_of}
 use Rattle.reader.specs.Reader.{read_in}
 use Rattle.reply.specs.Reply.{Reply}
-use Rattle.table.specs.declared.Caller.{Caller}
 use Rattle.table.specs.{Site.Site, Table.Table}
 use Rattle.table_lookup.specs.Lookup.{client_site_lem}
 use Rattle.table_whole.specs.Judgement.{table_in}

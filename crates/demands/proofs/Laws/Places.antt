@@ -25,7 +25,7 @@ use Rattle.reader.specs.declared.text.Unit16.TheVariants.{Ends, Plain, High, Low
 use Rattle.reader.specs.Text.{unit_of, turn, on_turn, read_text_from, read_text}
 use Rattle.reader.specs.Reader.{Opening, read_opcode, read_opening}
 use Rattle.reader.proofs.Laws.Reader.{NamesRow}
-use Rattle.demands.specs.Places.{field_end_from, field_end, text_end_from, text_end, names_start, name_start_lem}
+use Rattle.demands.specs.Places.{field_end_from, field_end, text_end_from, text_end, names_start, name_start}
 
 -- ---- names
 
@@ -55,13 +55,13 @@ module _ {s : List ℕ} where
 
 -- names of a reply that stand in a row from where those of its form start
 module _ (form : Form) {s : List ℕ} {at : ℕ} {texts : List (List ℕ)} {octets : List ℕ} (row : NamesRow s at texts octets) (first : names_start form s ≡ at) where
-  pub name-placed : (i : ℕ) → i < length texts → name_start_lem form s i ≡ get_or row.starts i 0
-  unfolding name_start_lem
-  name-placed = row-places row.row (name_start_lem form s) first (λ i. refl)
+  pub name-placed : (i : ℕ) → i < length texts → name_start form s i ≡ get_or row.starts i 0
+  unfolding name_start
+  name-placed = row-places row.row (name_start form s) first (λ i. refl)
 
-  pub names-end : name_start_lem form s (length texts) ≡ at + length octets
-  unfolding name_start_lem
-  names-end = row-end row.row (name_start_lem form s) first (λ i. refl)
+  pub names-end : name_start form s (length texts) ≡ at + length octets
+  unfolding name_start
+  names-end = row-end row.row (name_start form s) first (λ i. refl)
 
 -- ---- texts
 

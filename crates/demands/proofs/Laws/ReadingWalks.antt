@@ -7,6 +7,7 @@ use native.Mathlib.Omega.{arith}
 use lib.ListN.{length, get_or}
 use Rattle.answers.specs.declared.Form.{Form}
 use Rattle.answers.specs.Try.{Try}
+use Rattle.answers.proofs.Laws.Try.{good-same, refused_not_good}
 use Rattle.names.specs.Walk.{WalkedName}
 use Rattle.octets.specs.Label.{joined}
 use Rattle.octets.proofs.Laws.Lists.{every_at, none_not_some}
@@ -16,7 +17,7 @@ use Rattle.reader.specs.Reader as reader
 use Rattle.reader.specs.Reader.{NameRead, joined_name, read_in}
 use Rattle.reader.proofs.Laws.Name.{reader_walks, reader_accepts}
 use Rattle.reader_forms.specs.declared.reading.Fields.{Fields}
-use Rattle.reader_forms.specs.declared.reading.Reading.TheVariants as reading
+use Rattle.reader_forms.specs.declared.reading.Reading.{Reading}
 use Rattle.reader_forms.specs.Reading.{no_name, fields_as, reading_as}
 use Rattle.reader_forms.specs.Settled.{names_read, last_read}
 use Rattle.reader_forms.proofs.Laws.Names.{SiteHas, AllHave, all_have}
@@ -61,17 +62,17 @@ module _ (s : List ℕ) where
   last_walks (reader.response f) a n e = absurd (none_not_some n e)
   last_walks (reader.ex f) a n e = site_walks f.next_site_lem a.2 n e
 
-  walks : (form : Form) (v len : ℕ) (read : Fields) (t : Try reader.Fields) → read_in form v s ≡ t → reading.Read len read ≡ reading_as s t
+  walks : (form : Form) (v len : ℕ) (read : Fields) (t : Try reader.Fields) → read_in form v s ≡ t → reading_as s t ≡ Ok (record { length = len; fields = read })
       → ((k : ℕ) → k < length (names_read read) → NameIsWalk s (get_or (names_read read) k (name_as no_name))) × ((n : NameAt) → last_read read ≡ Some n → NameIsWalk s n)
-  walks form v len read (Err r) e q = let z : ◌≡◌ {A = ℕ} 0 1 = cc in absurd (omega arith)
+  walks form v len read (Err r) e q = absurd (refused_not_good r _ q)
   walks form v len read (Ok f) e q =
-      let z : fields_as f ≡ read = cc in
+      let z : fields_as f ≡ read = ap (λ (x : Reading). x.fields) (good-same q) in
       let a = all_have s IsWalk name_is_walk form v f e in
       subst (λ (x : Fields). ((k : ℕ) → k < length (names_read x) → NameIsWalk s (get_or (names_read x) k (name_as no_name))) × ((n : NameAt) → last_read x ≡ Some n → NameIsWalk s n)) z
       ((λ k h. rw (names_there f k h) (names-walk f a k h)), (λ n l. last_walks f a n (sym (last_there f) ∙ l)))
 
 pub reading_walks : ReadingWalks
-reading_walks s form v len read promise = walks s form v len read (read_in form v s) refl promise.same
+reading_walks s form v len read promise = walks s form v len read (read_in form v s) refl (sym promise.same)
 
 pub walk-told : WalkTold
 unfolding name_is_walk

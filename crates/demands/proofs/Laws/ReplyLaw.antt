@@ -23,7 +23,7 @@ use Rattle.demands.specs.Derivation.{ReplyIs}
 use Rattle.octets.specs.Stretch.{stretch_of}
 use Rattle.demands.specs.ReplyLaw.{TextBack, GivenBack, ReadBack, ReplyLawOver, ReplyLaw, address_written, text_of, version_written}
 use Rattle.demands.proofs.Laws.Derivation.{every_answer}
-use Rattle.demands.proofs.Laws.Forms.Ex.{ex-row, ex_rest_lem, ex-guid, ex-read, last_there}
+use Rattle.demands.proofs.Laws.Forms.Ex.{ex-row, ex_rest_left, ex-guid, ex-read, last_there}
 use Rattle.demands.proofs.Laws.Forms.{stretch_is}
 use Rattle.demands.proofs.Laws.Forms.Nt40.{nt40_opened}
 use Rattle.demands.proofs.Laws.Forms.Response.{response_opened, response-row, response-read, response-guid, response-ipv4}
@@ -95,7 +95,7 @@ ex-back v r k =
         flags = refl;
         guid = ex-guid v r k;
         names = texts-given row.row;
-        ipv4 = address-back r (has v netlogon_nt_version_5ex_with_ip) _ k.ipv4 (ex_rest_lem v r k) ∙ ap (address_written r) (sym k.address);
+        ipv4 = address-back r (has v netlogon_nt_version_5ex_with_ip) _ k.ipv4 (ex_rest_left v r k) ∙ ap (address_written r) (sym k.address);
         next_site_lem = last-back r.next_site_lem _ count;
         version = version-back r.next_site_lem _ count;
       },

@@ -73,11 +73,7 @@ context-good t p c g e =
     let f1 = refused_if-good (holds (λ s. not (is_sid s)) sid) SidShape _ c d.2 in
     let f2 = refused_if-good (holds (λ s. not (is_some (context_by_sid t s))) sid) SidNotHeld _ c f1.1 in
     let f3 = refused_if-good (holds (λ s. not (holds_sid s d.0)) sid) SidOfAnother _ c f2.1 in
-    let q : Ok d.0 ≡ Ok c = f3.1 in
-    subst GoodContext (good-same d.0 c q) (context-found t p d.0 g (whole-good (context_used t p) d.0 d.1))
-  where
-    good-same : (x y : Context) → Ok x ≡ Ok y → x ≡ y
-    good-same x y q = cc
+    subst GoodContext (good-same f3.1) (context-found t p d.0 g (whole-good (context_used t p) d.0 d.1))
 
 -- ---- the user asked for
 
@@ -95,9 +91,9 @@ user-good p e = go p.user e
         let t : is_user_name x ≡ true = not-false (is_user_name x) q in
         (user-name_spoken x t, user-name-short x t)
 
-user_spoken_lem : (o : Option (List ℕ)) → UserGood o → Spoken (unwrap_or o []) × (length (unwrap_or o []) ≤ 63)
-user_spoken_lem None u = (empty_spoken, omega arith)
-user_spoken_lem (Some x) u = u
+user_spoken_short : (o : Option (List ℕ)) → UserGood o → Spoken (unwrap_or o []) × (length (unwrap_or o []) ≤ 63)
+user_spoken_short None u = (empty_spoken, omega arith)
+user_spoken_short (Some x) u = u
 
 -- in the EX form, after 18, no label is empty
 user_writable : (p : Ping) → UserGood p.user → wrong_user Ex p ≡ false → Writable 63 (unwrap_or p.user [])
@@ -142,8 +138,7 @@ module _ (t : Table) (g : GoodTable t) where
       go (s ∷ []) k = k.0
       go (s ∷ r ∷ rest) k = of_subnet (subnet_for t caller)
 
-  site-next : (o : Option Site) → SiteGood (option_and_then o (λ s. site_if_any t s.next))
-  unfolding option_and_then
+  site-next : (o : Option Site) → SiteGood (option_and_then (λ s. site_if_any t s.next) o)
   site-next None = tt
   site-next (Some s) = if_any s.next
 
@@ -157,9 +152,9 @@ module _ (t : Table) (g : GoodTable t) where
       name (Some s) k q = let z : s.name ≡ text = cc in subst (Writable 63) z k
 
       go : (b : Bool) → has v netlogon_nt_version_with_closest_site && has t.server.roles role_level2008 ≡ b
-          → cond b (option_map (λ s. s.name) (option_and_then o (λ s. site_if_any t s.next))) None ≡ Some text
+          → cond b (option_map (λ s. s.name) (option_and_then (λ s. site_if_any t s.next) o)) None ≡ Some text
           → Writable 63 text × (has v netlogon_nt_version_with_closest_site ≡ true)
-      go true q r = (name (option_and_then o (λ s. site_if_any t s.next)) (site-next o) r, both_left (has v netlogon_nt_version_with_closest_site) (has t.server.roles role_level2008) q)
+      go true q r = (name (option_and_then (λ s. site_if_any t s.next) o) (site-next o) r, both_left (has v netlogon_nt_version_with_closest_site) (has t.server.roles role_level2008) q)
       go false q r = absurd (none_not_some text r)
 
 site-name : (o : Option Site) → SiteGood o → Writable 63 (unwrap_or (option_map (λ s. s.name) o) [])
@@ -202,8 +197,8 @@ reply_sound t caller p c form g k u w =
       server = g.server.netbios;
       server_spoken = g.server.spoken;
       user = λ e. user_writable p u (rw e at w);
-      user_spoken = (user_spoken_lem p.user u).0;
-      user_short = (user_spoken_lem p.user u).1;
+      user_spoken = (user_spoken_short p.user u).0;
+      user_short = (user_spoken_short p.user u).1;
       own_site_lem = site-name (site_by_number t t.server.site) (by_number t g t.server.site);
       client_site_lem = site-name (client_site_lem t caller) (of_client t g caller);
       address = refl;
@@ -222,11 +217,9 @@ unfolding reply_to
 replied t caller p room c a e =
     let form : Form = form_of t.server p.version in
     let octets : List ℕ = octets_in form (reply_for t caller p c form) in
-    let whole : Outcome = record { context = c.number; form = form; octets = octets } in
     let b = refused_if-good (wrong_user form p) UserLabelEmpty _ a e in
     let d = refused_if-good (ltb room (length octets)) NoRoom _ a b.1 in
-    let q : Ok whole ≡ Ok a = d.1 in
-    subst (Replied t caller p c) (good-same q) (record { octets = refl; user = b.0; form = refl })
+    subst (Replied t caller p c) (good-same d.1) (record { octets = refl; user = b.0; form = refl })
 
 module _ {t : Table} {caller : Caller} {p : Ping} {room : ℕ} {a : Outcome} (d : Derivation t caller p room a) where
   said-octets : a.octets ≡ octets_in a.form (said d)

@@ -17,7 +17,7 @@ use Rattle.filter.specs.declared.request.Request.{Request}
 use Rattle.filter.specs.Request.{clause, octets_of}
 use Rattle.filter_read.specs.Taken.{request_in}
 use Rattle.filter_read.specs.Value.{Ping, is_number, wrong_value_lem, version_asked, ping_of, ping_in, ping_from}
-use Rattle.locator.specs.Answer.{answer_over, answer_by, answer_to}
+use Rattle.locator.specs.Answer.{answer_over, answer_by}
 use Rattle.octets.specs.Lists.{holds}
 use Rattle.octets.specs.Number.{has, little}
 use Rattle.table.specs.Bits.{role_nt4_wanted}

@@ -64,12 +64,12 @@ module _ (v : ℕ) (r : Reply) (k : Sound Ex v r) where
   pub ex_sizes : sizes (ex_names r) ≤ 994
   ex_sizes = let t = ex-texts in omega arith
 
-  pub ex_head_lem : length (ex_head r) ≡ 24
+  pub ex_head_length : length (ex_head r) ≡ 24
   unfolding ex_head
-  ex_head_lem = simp length-append (omega (arith, length-little 2 r.opcode, length-little 2 Sbz, length-little 4 r.flags, k.guid))
+  ex_head_length = simp length-append (omega (arith, length-little 2 r.opcode, length-little 2 Sbz, length-little 4 r.flags, k.guid))
 
   pub ex_room : length (ex_head r) + sizes (ex_names r) ≤ 0x4000
-  ex_room = omega (arith, ex_head_lem, ex_sizes)
+  ex_room = omega (arith, ex_head_length, ex_sizes)
 
   abbrev ex_named : Writing
   ex_named = write_names [] (length (ex_head r)) (ex_names r)
@@ -111,13 +111,13 @@ module _ (v : ℕ) (r : Reply) (k : Sound Ex v r) where
 
   -- the names start where the layout says, and so does name 8
   pub ex-start : names_start Ex (ex_octets r) ≡ length (ex_head r)
-  ex-start = sym ex_head_lem
+  ex-start = sym ex_head_length
 
   pub ex-last-start : last_start v (ex_octets r) ≡ length ex_front
   ex-last-start = omega (arith, names-end Ex ex-row ex-start, address-length (has v netlogon_nt_version_5ex_with_ip), front_length)
 
   pub front_short : length ex_front ≤ 1035
-  front_short = omega (arith, front_length, ex_head_lem, ex_sizes, names-short (ex_names r) [] (length (ex_head r)), address-short (has v netlogon_nt_version_5ex_with_ip))
+  front_short = omega (arith, front_length, ex_head_length, ex_sizes, names-short (ex_names r) [] (length (ex_head r)), address-short (has v netlogon_nt_version_5ex_with_ip))
 
   -- name 8 after the address, at place 8
   pub last_written : (text : List ℕ) → Writable 63 text
@@ -169,8 +169,8 @@ module _ (v : ℕ) (r : Reply) (k : Sound Ex v r) where
   ex-left = record { front = ex_head r; whole = ex-names ∙ append_assoc (ex_head r) ex_named.octets ex_rest; offset = refl }
 
   -- the address and what follows stand after the names
-  pub ex_rest_lem : Left (ex_octets r) (length (ex_head r) + length ex_named.octets) ex_rest
-  ex_rest_lem = left_after ex_named.octets ex_rest ex-left
+  pub ex_rest_left : Left (ex_octets r) (length (ex_head r) + length ex_named.octets) ex_rest
+  ex_rest_left = left_after ex_named.octets ex_rest ex-left
 
   pub ex-guid : cut (ex_octets r) (2 + 2 + 4) guid_size ≡ r.guid
   ex-guid =

@@ -37,12 +37,12 @@ module _ (v : ℕ) (r : Reply) (k : Sound Response v r) where
   pub response_sizes : sizes (response_names r) ≤ 765
   response_sizes = let s = response-short in omega arith
 
-  pub response_head_lem : length (response_head r) ≤ 226
+  pub response_head_most : length (response_head r) ≤ 226
   unfolding response_head
-  response_head_lem = simp (length-append, length-replicate) (omega (arith, opening-length Response v r k, k.guid))
+  response_head_most = simp (length-append, length-replicate) (omega (arith, opening-length Response v r k, k.guid))
 
   pub response_room : length (response_head r) + sizes (response_names r) ≤ 0x4000
-  response_room = omega (arith, response_head_lem, response_sizes)
+  response_room = omega (arith, response_head_most, response_sizes)
 
   abbrev response_named : List ℕ
   response_named = (write_names [] (length (response_head r)) (response_names r)).octets
@@ -60,7 +60,7 @@ module _ (v : ℕ) (r : Reply) (k : Sound Response v r) where
       (simp length-append
       (omega (
         arith,
-        response_head_lem,
+        response_head_most,
         response_sizes,
         names-short (response_names r) [] (length (response_head r)),
         k.ipv4,
