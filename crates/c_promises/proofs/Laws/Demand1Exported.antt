@@ -12,7 +12,7 @@ use Rattle.std.specs.Result.{result_unwrap_or}
 use Rattle.answers.specs.declared.Form.{Form}
 use Rattle.answers.specs.declared.Form.TheVariants.{Nt40, Response, Ex}
 use Rattle.answers.specs.declared.Refusal.{Refusal}
-use Rattle.answers.specs.Try.{Try, number_of, ◌>>=◌}
+use Rattle.answers.specs.Try.{Try, number_of}
 use Rattle.answers.proofs.Laws.Written.{written_promised}
 use Rattle.c_answer.specs.Answer.{answer_members}
 use Rattle.c_calls.specs.Calls.{values_judged, filter_written, reply_read, message_written}
@@ -39,6 +39,7 @@ use Rattle.octets.proofs.Laws.Buffer.{over_none}
 use Rattle.reader_forms.proofs.Laws.Reading.{read_reply_promised}
 use Rattle.reader_text.proofs.Laws.Text.{name-text_promised}
 use Rattle.reader_text.specs.Text.{name_text_lem, name_text_as, text_octets}
+use Rattle.table.specs.Table.{Table}
 use Rattle.table_whole.specs.Judgement.{table_in, judged_as}
 use Rattle.table_whole.proofs.Laws.Judgement.{judge_promised}
 use Rattle.table_check.specs.Check.{check_of_lem}
@@ -90,7 +91,7 @@ named reply text start len r p = go (name_text_lem reply start) refl
         inr (subst ForName (sym p.0) d.0, (p.1 ∙ ap (λ t. over (text_octets t) (zeros 253)) q ∙ over_none (zeros 253), p.2 ∙ d.1))
 
 -- a judgement has the number of the table
-numbered : {A : Type 0} (t : Try A) → number_of t ≡ number_of (t >>= λ a. Ok tt)
+numbered : (t : Try Table) → number_of t ≡ number_of (judged_as t)
 numbered (Err r) = refl
 numbered (Ok a) = refl
 
