@@ -34,6 +34,7 @@ pub fn unescape(alloc: Global, text: &[u8], most: usize) -> Result<Vec<u8>, Esca
 {
     let mut octets = Vec::new(alloc);
     let mut rest = text;
+    // A step is of one octet or of three: no `for`.
     while !rest.is_empty() {
         let Some((octet, after)) = split_octet(rest) else {
             return Err(EscapeError::BadEscape);

@@ -44,6 +44,7 @@ fn walk_from(alloc: Global, reply: &[u8], start: usize) -> Result<Option<Name<'_
     let mut at = start;
     let mut pointers: u64 = 0;
     let mut labels = Vec::new(alloc);
+    // A step goes on by a label's length, or back to where a pointer aims: no `for`.
     while let Some(step) = walk_step(reply, run, at) {
         match step {
             WalkStep::Ends => return Ok(Some(Name { pointers, labels })),
