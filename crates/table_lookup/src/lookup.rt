@@ -112,7 +112,10 @@ fn site_by_subnet(image: &AcceptedImage, caller: Caller) -> Option<usize>
     ensures lies_in { LiesIn image.now kind.Site result }
 {
     let offset = subnet_for(image, caller)?;
-    site_if_any(image, subnet::site(part(image.octets(), offset, subnet::FORMAT.width)))
+    site_if_any(
+        image,
+        subnet::site(part(image.octets(), offset, subnet::FORMAT.width)),
+    )
 }
 
 // The client's site: the only one, or that of the subnet that decides. Site numbers are unique, so another number is another site.
