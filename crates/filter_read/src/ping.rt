@@ -4,8 +4,7 @@ ghost use Rattle.filter_read.specs.Value.{ping_in, ping_from};
 ghost use Rattle.filter_read.specs.Internal.RawPing.{tried_ping};
 
 use crate::clauses::read_clauses;
-use crate::value::number_or;
-use crate::wrong_value::has_wrong_value;
+use crate::wrong_value::{has_wrong_value, number_or};
 use answers::Refusal;
 use answers::wire::NETLOGON_NT_VERSION_1;
 use filter::request::ClauseName;

@@ -1,7 +1,10 @@
-// 9: clauses whose values are wrong.
-ghost use Rattle.std.specs.Prelude.{◌≡◌, ◌||◌};
+// 9: clauses whose values are wrong, and the numbers of those that are not.
+ghost use Rattle.std.specs.Prelude.{◌≡◌, false, ◌||◌, option_map, unwrap_or};
+ghost use Rattle.octets.specs.Number.{little};
+ghost use Rattle.filter.specs.Request.{octets_of};
 ghost use Rattle.filter_read.specs.Internal.WrongValue.{wrong_number, wrong_user};
 
+use octets::number::u32_at;
 use octets::part::Stretch;
 use unicode_text::user_name::is_user_name;
 
@@ -38,4 +41,15 @@ pub fn has_wrong_value(
     ensures { result ≡ (wrong_number s.now nt_ver || wrong_number s.now aac || wrong_user s.now user) }
 {
     is_wrong_number(s, nt_ver) | is_wrong_number(s, aac) | is_wrong_user(s, user)
+}
+
+// The number of a clause, once 9 was judged, or the one that stands for it where it is absent.
+pub fn number_or(s: &[u8], clause: Option<Stretch>, absent: u32) -> u32
+    requires { wrong_number s.now clause ≡ false }
+    ensures { result ≡ unwrap_or (option_map little (octets_of s.now clause)) absent }
+{
+    let Some(stretch) = clause else {
+        return absent;
+    };
+    u32_at(stretch.of(s), 0)
 }

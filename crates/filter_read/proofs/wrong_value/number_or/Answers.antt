@@ -7,8 +7,8 @@ use lib.ListN.{length, take}
 use lib.Seq.{take_all}
 use Rattle.octets.specs.Number.{little}
 use Rattle.octets.specs.Stretch.{stretch_of}
-use Rattle.filter_read.proofs.value.number_or.Goals as goal
-use Rattle.filter_read.proofs.value.number_or.Goals.{After-of}
+use Rattle.filter_read.proofs.wrong_value.number_or.Goals as goal
+use Rattle.filter_read.proofs.wrong_value.number_or.Goals.{After-of}
 
 four : (c : After-of) → length c.of.result.now ≡ 4
 four c =
