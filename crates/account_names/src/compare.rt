@@ -1,40 +1,31 @@
 // Two account names, by their folded code points: in order, and the same or not. Each is read up to the first difference.
 ghost use Rattle.std.specs.Prelude.{◌≡◌, true, false, ◌+◌, ◌≤◌, ◌<◌, eqb, length, get_or, drop};
-ghost use Rattle.octets.specs.Fold.{fold_table_lem, fold_point};
+ghost use Rattle.octets.specs.Fold.{fold_point};
 ghost use Rattle.octets.specs.Text.{lower};
 ghost use Rattle.unicode_text.specs.Internal.Point.{point_limit, size_of};
 ghost use Rattle.account_names.specs.AccountName.{same_account_name};
-ghost use Rattle.account_names.specs.Internal.Ordering.{is_equal};
+ghost use Rattle.std.specs.Ordering.{is_eq};
 ghost use Rattle.account_names.specs.Internal.NameOrder.{compare_names, RankRead, GoesOn, Alike};
 
 use crate::fold_table::FOLD_TABLE;
-use folding::fold::fold_point;
+use folding::fold::FoldTable;
 use octets::number::wide;
 use octets::text::folded;
+use std::cmp::Ordering;
 use unicode_text::utf8::{NO_POINT, octet_at, point_of, point_of_more, point_of_two, size_of};
-
-// Which of two comes first.
-#[derive(Drop)]
-pub enum Ordering {
-    Less,
-    Equal,
-    Greater,
-}
 
 // A code point as it is ranked: one more than what it folds to, and 0 where none can be read, so that a name comes before
 // those that it begins.
-fn rank_of(fold_table: &[u16], point: u32) -> u32
-    requires { fold_table.now ≡ fold_table_lem }
+fn rank_of(fold_table: &FoldTable, point: u32) -> u32
     ensures { (point < point_limit → result ≡ fold_point point + 1) × (point_limit ≤ point → result ≡ 0) }
 {
     if NO_POINT <= point {
         return 0;
     }
-    fold_point(fold_table, point) + 1
+    fold_table.fold_point(point) + 1
 }
 
-fn rank_at(fold_table: &[u16], s: &[u8], at: usize) -> u32
-    requires { fold_table.now ≡ fold_table_lem }
+fn rank_at(fold_table: &FoldTable, s: &[u8], at: usize) -> u32
     ensures { RankRead s.now at result (at + size_of (get_or s.now at 0)) }
 {
     if s.len() <= at {
@@ -82,8 +73,7 @@ fn letters_alike(x: u8, y: u8) -> bool
     folded(x, true) == folded(y, true)
 }
 
-fn points_alike(fold_table: &[u16], p: u32, q: u32) -> bool
-    requires { fold_table.now ≡ fold_table_lem }
+fn points_alike(fold_table: &FoldTable, p: u32, q: u32) -> bool
     ensures { result ≡ true → (p < point_limit) × (q < point_limit) × (fold_point p ≡ fold_point q) }
 {
     if NO_POINT <= p {
@@ -92,7 +82,7 @@ fn points_alike(fold_table: &[u16], p: u32, q: u32) -> bool
     if NO_POINT <= q {
         return false;
     }
-    fold_point(fold_table, p) == fold_point(fold_table, q)
+    fold_table.fold_point(p) == fold_table.fold_point(q)
 }
 
 // Both have this lead: the size of the character of three octets or four behind it where both have that, else 0.
@@ -124,8 +114,7 @@ fn same_more_size(a: &[u8], i: usize, b: &[u8], j: usize, lead: u8) -> usize
 // How many octets at two offsets are alike: a letter of ASCII in either case, a letter of two octets by the folding table, so that
 // either case costs the same, or the same longer character. 0 where that cannot be said, as of letters of different sizes. It is
 // called in one place, where it is inlined.
-fn alike_size(fold_table: &[u16], a: &[u8], i: usize, b: &[u8], j: usize) -> usize
-    requires { fold_table.now ≡ fold_table_lem }
+fn alike_size(fold_table: &FoldTable, a: &[u8], i: usize, b: &[u8], j: usize) -> usize
     ensures { Alike a.now i b.now j result }
 {
     if a.len() <= i {
@@ -158,9 +147,10 @@ fn alike_size(fold_table: &[u16], a: &[u8], i: usize, b: &[u8], j: usize) -> usi
     same_more_size(a, i, b, j, x)
 }
 
-// Code point by code point, from one offset on in both. What is alike is passed over before any is ranked: ranking costs more.
-fn compare_from(fold_table: &[u16], a: &[u8], b: &[u8], start: usize) -> Ordering
-    requires { (fold_table.now ≡ fold_table_lem) × (start ≤ length a.now) × (start ≤ length b.now) }
+// Code point by code point, from one offset on in both: the two steps differ, so no `for`. What is alike is passed over before any is
+// ranked: ranking costs more.
+fn compare_from(fold_table: &FoldTable, a: &[u8], b: &[u8], start: usize) -> Ordering
+    requires { (start ≤ length a.now) × (start ≤ length b.now) }
     ensures { result ≡ compare_names (drop start a.now) (drop start b.now) }
 {
     let mut i = start;
@@ -173,11 +163,9 @@ fn compare_from(fold_table: &[u16], a: &[u8], b: &[u8], start: usize) -> Orderin
         } else {
             let x = rank_at(fold_table, a, i);
             let y = rank_at(fold_table, b, j);
-            if x < y {
-                return Ordering::Less;
-            }
-            if y < x {
-                return Ordering::Greater;
+            let order = x.cmp(&y);
+            if order.is_ne() {
+                return order;
             }
             if x == 0 {
                 return compare_ends(a, i, b, j);
@@ -188,8 +176,7 @@ fn compare_from(fold_table: &[u16], a: &[u8], b: &[u8], start: usize) -> Orderin
     }
 }
 
-pub fn compare_names(fold_table: &[u16], a: &[u8], b: &[u8]) -> Ordering
-    requires { fold_table.now ≡ fold_table_lem }
+pub fn compare_names(fold_table: &FoldTable, a: &[u8], b: &[u8]) -> Ordering
     ensures { result ≡ compare_names a.now b.now }
 {
     compare_from(fold_table, a, b, 0)
@@ -238,7 +225,7 @@ fn plain_size(a: &[u8], b: &[u8], at: usize) -> usize
 
 // Whether two letters of ASCII stand there that are not alike: then the names are not the same.
 fn other_letter_at(a: &[u8], b: &[u8], at: usize) -> bool
-    ensures { result ≡ true → is_equal (compare_names (drop at a.now) (drop at b.now)) ≡ false }
+    ensures { result ≡ true → is_eq (compare_names (drop at a.now) (drop at b.now)) ≡ false }
 {
     if a.len() <= at {
         return false;
@@ -249,7 +236,7 @@ fn other_letter_at(a: &[u8], b: &[u8], at: usize) -> bool
     are_below(a[at], b[at], 0x80) & !letters_alike(a[at], b[at])
 }
 
-// How many octets at their starts are alike so.
+// How many octets at their starts are alike so. The step is a character's: no `for`.
 fn plain_start(a: &[u8], b: &[u8]) -> usize
     ensures { GoesOn a.now 0 result b.now 0 result }
 {
@@ -266,14 +253,10 @@ fn plain_start(a: &[u8], b: &[u8]) -> usize
 // Whether the names are the same from an offset on. The folding table is copied here.
 fn same_rest(a: &[u8], b: &[u8], start: usize) -> bool
     requires { (start ≤ length a.now) × (start ≤ length b.now) }
-    ensures { result ≡ is_equal (compare_names (drop start a.now) (drop start b.now)) }
+    ensures { result ≡ is_eq (compare_names (drop start a.now) (drop start b.now)) }
 {
     let fold_table = FOLD_TABLE;
-    match compare_from(&fold_table, a, b, start) {
-        Ordering::Less => false,
-        Ordering::Equal => true,
-        Ordering::Greater => false,
-    }
+    compare_from(&fold_table, a, b, start).is_eq()
 }
 
 // Whether both begin with letters of ASCII that are not alike: that alone tells most accounts from the name looked up.

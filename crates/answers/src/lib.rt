@@ -2,9 +2,10 @@
 #![tactic(auto)]
 
 pub mod wire;
-pub mod written;
 
-ghost use Rattle.answers.specs.Refusal.{number, NumberOfPromise};
+ghost use Rattle.std.specs.Prelude.{◌≡◌};
+ghost use Rattle.answers.specs.Refusal.{NumberOfPromise};
+ghost use Rattle.answers.specs.Try.{number_of};
 
 // A refusal.
 #[derive(Clone, Copy)]
@@ -64,6 +65,16 @@ pub fn number_of(r: Refusal) -> u8
         Refusal::ReplyFixed => 34,
         Refusal::ReplyLeftOver => 35,
         Refusal::MailslotShape => 41,
+    }
+}
+
+// Document 01's number of any answer: 0, or that of the refusal.
+pub fn number_in<T>(answer: &Result<T, Refusal>) -> u8
+    ensures { result ≡ number_of answer.now }
+{
+    match answer {
+        Ok(_) => 0,
+        Err(refusal) => number_of(*refusal),
     }
 }
 

@@ -1,126 +1,118 @@
 // CLAUSE=VALUE: a clause's name, ASCII case ignored, and its octets. NtVer and AAC may be numbers; octets stand as they are or as \hh.
-ghost use Rattle.std.specs.Prelude.{◌≤◌};
+use crate::escape::{EscapeError, unescape};
+use crate::number::number_of;
+use crate::word::split_word;
+use console::source::append;
+use filter::request::{CLAUSE_NAMES, ClauseName, Request, spelling_of};
+use std::alloc::{AllocError, Global};
+use std::fmt;
+use std::fmt::Display;
 
-use crate::escape::unescape;
-use crate::hex::Octets;
-use crate::number::{Number, number_of};
-use crate::word::position_of;
-use filter::request::{Clause, ClauseName, Request};
-use filter_gather::gather::{SpelledName, name_of};
-use lent::put::put_u32;
-use octets::part::part;
+// No clause has more than a filter may have.
+const VALUE_MOST: usize = 2048;
 
-// Each clause has room of its own in the source, as much as a filter may have.
-pub const VALUE_MOST: usize = 2048;
-
-pub const SOURCE_SIZE: usize = 8 * VALUE_MOST;
-
-// The clauses with one more, or what is wrong with it.
-#[derive(Drop)]
-pub enum ClauseRead {
+// What is wrong with a clause.
+#[derive(Clone, Copy)]
+pub enum ClauseError {
     NoEquals,
     UnknownName,
     Twice,
     BadNumber,
     BadEscape,
     TooLong,
-    Read(Request),
+    OutOfMemory,
 }
 
-// The four octets of a number, the least significant first.
-fn put_number(n: u32, out: &mut [u8]) -> Octets {
-    if out.len() < 4 {
-        return Octets::TooMany;
-    }
-    Octets::Count(put_u32(out, n))
-}
-
-fn is_number(name: ClauseName) -> bool {
-    match name {
-        ClauseName::DnsDomain => false,
-        ClauseName::Host => false,
-        ClauseName::DnsHostName => false,
-        ClauseName::User => false,
-        ClauseName::Aac => true,
-        ClauseName::DomainSid => false,
-        ClauseName::DomainGuid => false,
-        ClauseName::NtVer => true,
-    }
-}
-
-// Whether a text begins with \hh, or is empty.
-fn is_escaped(text: &[u8]) -> bool {
-    if text.len() == 0 {
-        return true;
-    }
-    text[0] == b'\\'
-}
-
-// What a clause's text gives: its octets in the source, or what is wrong with it.
-#[derive(Drop)]
-enum Put {
-    BadNumber,
-    Put(Octets),
-}
-
-fn put_value(name: ClauseName, text: &[u8], out: &mut [u8]) -> Put {
-    if !is_number(name) | is_escaped(text) {
-        return Put::Put(unescape(text, out));
-    }
-    match number_of(text) {
-        Number::Bad => Put::BadNumber,
-        Number::Value(n) => Put::Put(put_number(n, out)),
-    }
-}
-
-// Where a clause's room starts in the source.
-fn room_start(name: ClauseName) -> usize
-    ensures { result ≤ 14336 }
-{
-    match name {
-        ClauseName::DnsDomain => 0,
-        ClauseName::Host => VALUE_MOST,
-        ClauseName::DnsHostName => 2 * VALUE_MOST,
-        ClauseName::User => 3 * VALUE_MOST,
-        ClauseName::Aac => 4 * VALUE_MOST,
-        ClauseName::DomainSid => 5 * VALUE_MOST,
-        ClauseName::DomainGuid => 6 * VALUE_MOST,
-        ClauseName::NtVer => 7 * VALUE_MOST,
-    }
-}
-
-// The request with a clause whose octets lie in its room.
-fn with_clause(request: Request, name: ClauseName, start: usize, put: Put) -> ClauseRead {
-    match put {
-        Put::BadNumber => ClauseRead::BadNumber,
-        Put::Put(octets) => match octets {
-            Octets::Bad => ClauseRead::BadEscape,
-            Octets::TooMany => ClauseRead::TooLong,
-            Octets::Count(len) => {
-                ClauseRead::Read(request.with(name, Clause::Present { start, len }))
+impl Display for ClauseError {
+    fn fmt<W: fmt::Write>(&self, f: &mut fmt::Formatter<W>) -> fmt::Result {
+        f.write_str(match self {
+            ClauseError::NoEquals => "not CLAUSE=VALUE",
+            ClauseError::UnknownName => {
+                "no clause is called so (DnsDomain, Host, DnsHostName, User, AAC, DomainSid, DomainGuid, NtVer are)"
             }
-        },
+            ClauseError::Twice => "a clause of this name is given twice",
+            ClauseError::BadNumber => {
+                "NtVer and AAC take a number, as 6 or 0x10, or octets, as \\06\\00\\00\\00"
+            }
+            ClauseError::BadEscape => "a backslash takes two hex digits after it",
+            ClauseError::TooLong => "longer than any filter",
+            ClauseError::OutOfMemory => "there is no memory for it",
+        })
     }
 }
 
-// Puts the octets of one more clause into the source, and adds it to the request.
-pub fn read_clause(text: &[u8], source: &mut [u8], request: Request) -> ClauseRead {
-    let equals = position_of(text, b'=');
-    if text.len() <= equals {
-        return ClauseRead::NoEquals;
+impl From<EscapeError> for ClauseError {
+    fn from(error: EscapeError) -> ClauseError {
+        match error {
+            EscapeError::BadEscape => ClauseError::BadEscape,
+            EscapeError::TooLong => ClauseError::TooLong,
+            EscapeError::OutOfMemory => ClauseError::OutOfMemory,
+        }
     }
-    let SpelledName::Known(name) = name_of(part(text, 0, equals)) else {
-        return ClauseRead::UnknownName;
+}
+
+impl From<AllocError> for ClauseError {
+    fn from(_error: AllocError) -> ClauseError {
+        ClauseError::OutOfMemory
+    }
+}
+
+fn name_of(text: &[u8]) -> Option<ClauseName> {
+    CLAUSE_NAMES
+        .iter()
+        .copied()
+        .find(|name| text.eq_ignore_ascii_case(spelling_of(*name)))
+}
+
+// A number is four octets, the least significant first. One may be given as octets too: with \hh in front, or none at all.
+fn value_of(alloc: Global, name: ClauseName, text: &[u8]) -> Result<Vec<u8>, ClauseError> {
+    let is_number = matches!(name, ClauseName::Aac | ClauseName::NtVer);
+    if !is_number | matches!(text, [] | [b'\\', ..]) {
+        return Ok(unescape(alloc, text, VALUE_MOST)?);
+    }
+    let Some(number) = number_of(text) else {
+        return Err(ClauseError::BadNumber);
     };
-    if request.clause(name).is_present() {
-        return ClauseRead::Twice;
+    Ok(Vec::from_slice(alloc, &number.to_le_bytes())?)
+}
+
+// Puts the octets of one more clause at the end of the source, and adds it to the request.
+pub fn read_clause(
+    text: &[u8],
+    source: &mut Vec<u8>,
+    request: Request,
+) -> Result<Request, ClauseError> {
+    let Some((name, value)) = split_word(text) else {
+        return Err(ClauseError::NoEquals);
+    };
+    let Some(name) = name_of(name) else {
+        return Err(ClauseError::UnknownName);
+    };
+    if request.clause(name).is_some() {
+        return Err(ClauseError::Twice);
     }
-    let value = part(text, equals + 1, text.len());
-    let start = room_start(name);
-    let end = start + VALUE_MOST;
-    if source.len() < end {
-        return ClauseRead::TooLong;
+    let octets = value_of(*source.allocator(), name, value)?;
+    Ok(request.with(name, Some(append(source, &octets)?)))
+}
+
+#[cfg(test)]
+mod tests {
+    use super::*;
+    use filter::request::no_clauses;
+    use std::test::Fail;
+
+    #[test]
+    fn clauses_are_read(rt: HostRuntime) -> Result<(), Fail> {
+        let mut source = Vec::new(rt.alloc());
+        let Ok(request) = read_clause(b"ntver=6", &mut source, no_clauses()) else {
+            panic!(rt; "NtVer is a number");
+        };
+        let Ok(request) = read_clause(b"User=a\\00", &mut source, request) else {
+            panic!(rt; "User has octets");
+        };
+        assert_eq!(rt; source.as_slice(), [6, 0, 0, 0, b'a', 0].as_slice());
+        assert_eq!(rt; request.user.map(|user| user.start), Some(4));
+        assert_eq!(rt; read_clause(b"USER=b", &mut source, request).is_err(), true);
+        Ok(())
     }
-    let put = put_value(name, value, &mut source[start..end]);
-    with_clause(request, name, start, put)
 }

@@ -1,55 +1,49 @@
 // Octets as they stand, or as \hh.
-ghost use Rattle.std.specs.Prelude.{◌≤◌};
+ghost use Rattle.std.specs.Prelude.{◌<◌, ◌≤◌, IfOk, IfSome, length, vec_len};
 
-use crate::hex::{HexOctet, Octets, hex_octet};
-use octets::part::part;
+use console::hex::hex_octet;
+use std::alloc::{AllocError, AllocFailed, Global};
 
-// The octet at the front of a text: one as it stands, or \hh.
-fn front_octet(text: &[u8]) -> HexOctet {
-    if text.len() == 0 {
-        return HexOctet::Bad;
-    }
-    if text[0] != b'\\' {
-        return HexOctet::Octet(text[0]);
-    }
-    if text.len() < 3 {
-        return HexOctet::Bad;
-    }
-    hex_octet(text[1], text[2])
+#[derive(Clone, Copy)]
+pub enum EscapeError {
+    BadEscape,
+    TooLong,
+    OutOfMemory,
 }
 
-// How much of a text its first octet takes.
-fn front_width(text: &[u8]) -> usize
-    ensures { (1 ≤ result) × (result ≤ 3) }
+impl From<AllocFailed<u8>> for EscapeError {
+    fn from(_error: AllocFailed<u8>) -> EscapeError {
+        EscapeError::OutOfMemory
+    }
+}
+
+// The first octet of a text, one as it stands or \hh, and what is left.
+fn split_octet(text: &[u8]) -> Option<(u8, &[u8])>
+    ensures { IfSome result (λ first. length first.1.now < length text.now) }
 {
-    if text.len() == 0 {
-        return 1;
+    match text {
+        [b'\\', high, low, rest @ ..] => Some((hex_octet(*high, *low)?, rest)),
+        [b'\\', ..] | [] => None,
+        [octet, rest @ ..] => Some((*octet, rest)),
     }
-    if text[0] == b'\\' {
-        return 3;
-    }
-    1
 }
 
-// The octets that a text stands for, at the front of out.
-pub fn unescape(text: &[u8], out: &mut [u8]) -> Octets {
-    let mut n = 0;
-    let mut i = 0;
-    while i < text.len() {
-        let front = part(text, i, 3);
-        let HexOctet::Octet(x) = front_octet(front) else {
-            return Octets::Bad;
+// The octets that a text stands for, no more than `most`.
+pub fn unescape(alloc: Global, text: &[u8], most: usize) -> Result<Vec<u8>, EscapeError>
+    ensures { IfOk result (λ octets. vec_len octets ≤ most) }
+{
+    let mut octets = Vec::new(alloc);
+    let mut rest = text;
+    // A step is of one octet or of three: no `for`.
+    while !rest.is_empty() {
+        let Some((octet, after)) = split_octet(rest) else {
+            return Err(EscapeError::BadEscape);
         };
-        if out.len() <= n {
-            return Octets::TooMany;
+        if most <= octets.len() {
+            return Err(EscapeError::TooLong);
         }
-        out[n] = x;
-        n += 1;
-        let width = front_width(front);
-        if text.len() - i <= width {
-            return Octets::Count(n);
-        }
-        i += width;
+        octets.push(octet)?;
+        rest = after;
     }
-    Octets::Count(n)
+    Ok(octets)
 }

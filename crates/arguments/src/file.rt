@@ -1,11 +1,10 @@
 // A file read whole.
-use crate::complaint::{complain, complain_of_file};
-use crate::word::{Word, take_named};
-use octets::part::part;
+use crate::fault::Fault;
+use crate::word::take_word;
 use std::env::Env;
 use std::fs::{File, Files};
 use std::io;
-use std::io::{ErrorKind, Read, Write};
+use std::io::{ErrorKind, Read};
 use table::block::IMAGE_MOST;
 
 // The number of the argument that names a table; the program's own name is 0.
@@ -17,63 +16,45 @@ pub const IMAGE_SIZE: usize = IMAGE_MOST + 1;
 // The longest name of a file that Linux takes, with its end.
 const PATH_SIZE: usize = 4096;
 
-#[derive(Drop)]
-pub enum FileRead {
-    Failed,
-    Octets(usize),
-}
-
-// Puts what a reader gives at the front of out, how much; what does not fit stays unread.
-fn read_open<R: Read>(reader: &mut R, out: &mut [u8]) -> io::Result<usize> {
-    let mut done = 0;
-    while done < out.len() {
-        let count = reader.read(&mut out[done..])?;
-        if count == 0 {
-            return Ok(done);
-        }
-        done += count;
-    }
-    Ok(done)
-}
-
-// Puts a file's octets at the front of out, how many; a longer one fills it.
-pub fn read_file<F: Files>(files: &F, path: &[u8], out: &mut [u8]) -> io::Result<usize> {
+// A file's octets, no more than `most`.
+pub fn read_file<E: Files + AllocGlobal>(env: &E, path: &[u8], most: usize) -> io::Result<Vec<u8>> {
     let Ok(name) = str::from_utf8(path) else {
         return Err(io::Error::new(ErrorKind::InvalidFilename, "the name is not UTF-8"));
     };
-    let mut file = File::open(files, name)?;
-    read_open(&mut file, out)
+    let mut octets = Vec::new(env.alloc());
+    File::open(env, name)?
+        .take(most as u64)
+        .read_to_end(&mut octets)?;
+    Ok(octets)
 }
 
-// A file that cannot be read is told.
-fn read_named<F: Files, W: Write>(
-    files: &F,
-    err: &mut W,
-    name: &[u8],
-    out: &mut [u8],
-) -> io::Result<FileRead> {
-    match read_file(files, name, out) {
-        Ok(count) => Ok(FileRead::Octets(count)),
-        Err(error) => {
-            complain_of_file(err, name, error)?;
-            Ok(FileRead::Failed)
-        }
+// The image that the argument TABLE names.
+pub fn read_table<E: Env + Files + AllocGlobal>(env: &E) -> Result<Vec<u8>, Fault> {
+    let path = take_word(env, TABLE, "TABLE", PATH_SIZE)?;
+    if path.is_empty() {
+        return Err(Fault::Slip("TABLE is empty"));
+    }
+    match read_file(env, &path, IMAGE_SIZE) {
+        Ok(image) => Ok(image),
+        Err(error) => Err(Fault::File(error, path)),
     }
 }
 
-// Puts the image that the argument TABLE names at the front of out.
-pub fn read_table<E: Env + Files, W: Write>(
-    env: &E,
-    err: &mut W,
-    out: &mut [u8],
-) -> io::Result<FileRead> {
-    let mut path = [0u8; PATH_SIZE];
-    let Word::Length(len) = take_named(env, err, TABLE, b"TABLE", &mut path)? else {
-        return Ok(FileRead::Failed);
-    };
-    if len == 0 {
-        complain(err, b"TABLE is empty\n")?;
-        return Ok(FileRead::Failed);
+#[cfg(test)]
+mod tests {
+    use super::*;
+    use std::fs;
+    use std::test::Fail;
+
+    #[test]
+    fn a_file_is_read_up_to_a_limit(rt: HostRuntime) -> Result<(), Fail> {
+        fs::write(&rt, "read_file.octets", [1u8, 2, 3].as_slice())?;
+        let whole = read_file(&rt, b"read_file.octets", 4)?;
+        let cut = read_file(&rt, b"read_file.octets", 2)?;
+        fs::remove_file(&rt, "read_file.octets")?;
+        assert_eq!(rt; whole.as_slice(), [1, 2, 3].as_slice());
+        assert_eq!(rt; cut.as_slice(), [1, 2].as_slice());
+        assert_eq!(rt; read_file(&rt, b"read_file.octets", 4).is_err(), true);
+        Ok(())
     }
-    read_named(env, err, part(&path, 0, len), out)
 }

@@ -1,64 +1,56 @@
 // An argument as it was given.
-use crate::complaint::complain;
+ghost use Rattle.std.specs.Prelude.{◌≡◌, ◌+◌, ◌≤◌, IfOk, IfSome, length, vec_len};
+
+use crate::fault::Fault;
 use std::env::{Env, FillError};
-use std::io;
-use std::io::Write;
-
-#[derive(Drop)]
-pub enum Word {
-    Missing,
-    TooLong,
-    Length(usize),
-}
-
-// Puts an argument at the front of out.
-pub fn take_word<E: Env>(env: &E, number: usize, out: &mut [u8]) -> Word {
-    match env.arg(number, out) {
-        Ok(len) => Word::Length(len),
-        Err(FillError::NotPresent) => Word::Missing,
-        Err(FillError::TooLong) => Word::TooLong,
-    }
-}
 
 // Whether there are more arguments than a number, the program's own name counted.
 pub fn has_word<E: Env>(env: &E, number: usize) -> bool {
-    match take_word(env, number, &mut []) {
-        Word::Missing => false,
-        Word::TooLong | Word::Length(_) => true,
+    match env.arg(number, &mut []) {
+        Err(FillError::NotPresent) => false,
+        Err(FillError::TooLong) | Ok(_) => true,
     }
 }
 
-// The same of an argument that has to be there.
-pub fn take_named<E: Env, W: Write>(
+// An argument that has to be there, of at most so many octets.
+pub fn take_word<E: Env + AllocGlobal>(
     env: &E,
-    err: &mut W,
     number: usize,
-    name: &[u8],
-    out: &mut [u8],
-) -> io::Result<Word> {
-    let word = take_word(env, number, out);
-    match word {
-        Word::Missing => {
-            complain(err, name)?;
-            complain(err, b" is missing\n")?;
+    name: &'static str,
+    most: usize,
+) -> Result<Vec<u8>, Fault>
+    ensures { IfOk result (λ word. vec_len word ≤ most) }
+{
+    let mut word = vec![in env.alloc(); 0; most]?;
+    match env.arg(number, &mut word) {
+        Ok(len) => {
+            word.truncate(len);
+            Ok(word)
         }
-        Word::TooLong => {
-            complain(err, name)?;
-            complain(err, b" is too long\n")?;
-        }
-        Word::Length(_) => {}
+        Err(FillError::NotPresent) => Err(Fault::Missing(name)),
+        Err(FillError::TooLong) => Err(Fault::TooLong(name)),
     }
-    Ok(word)
 }
 
-// Where an octet first stands in a text; past its end where it does not.
-pub fn position_of(text: &[u8], octet: u8) -> usize {
-    let mut i = 0;
-    while i < text.len() {
-        if text[i] == octet {
-            return i;
-        }
-        i += 1;
+// What stands before and behind the first `=`.
+pub fn split_word(text: &[u8]) -> Option<(&[u8], &[u8])>
+    ensures { IfSome result (λ parts. length parts.0.now + 1 + length parts.1.now ≡ length text.now) }
+{
+    let equals = text.iter().position(|x| *x == b'=')?;
+    Some((&text[..equals], &text[equals + 1..]))
+}
+
+#[cfg(test)]
+mod tests {
+    use super::*;
+
+    #[test]
+    fn the_program_has_a_name(rt: HostRuntime) {
+        assert_eq!(rt; has_word(&rt, 0), true);
+        assert_eq!(rt;
+            take_word(&rt, 0, "NAME", 4096).is_ok_and(|name| !name.is_empty()),
+            true
+        );
+        assert_eq!(rt; take_word(&rt, 1000, "NAME", 4096).is_err(), true);
     }
-    i
 }

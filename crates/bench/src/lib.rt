@@ -3,19 +3,18 @@
 
 ghost use Rattle.std.specs.Prelude.{◌≡◌, ◌&&◌, ◌≤◌, ◌<◌, leb, length};
 ghost use Rattle.octets.specs.Lists.{all};
-ghost use Rattle.filter_read.specs.Value.{ping_from, judged_values, judged_number};
+ghost use Rattle.answers.specs.Try.{number_of};
+ghost use Rattle.filter_read.specs.Value.{ping_from};
 ghost use Rattle.mailslot.specs.Message.{message_in};
-ghost use Rattle.mailslot.specs.Read.{message_as, message_number};
-ghost use Rattle.names.specs.Internal.Plan.{ShortTexts};
 ghost use Rattle.table.specs.Block.{image_most, blocks_of};
 ghost use Rattle.table_check.specs.Check.{good_check};
 
-use answers::number_of;
-use filter_read::ping::{PingRead, read_ping};
+use answers::number_in;
+use filter_read::ping::read_ping;
+use lent::slices::Lent;
 use lent::stretch::{Lender, Stretch};
-use mailslot::message::message_number;
 use mailslot_read::read::read_message;
-use names::plan::{NAMES_MOST, plan_names};
+use names::plan::plan_names;
 use names_write::put::put_names;
 use octets::number::wide;
 use table::block::IMAGE_MOST;
@@ -35,20 +34,17 @@ pub extern "C" fn bench_checks(image: &[u8]) -> bool
 // The number that reading a filter gives, as a ping has it read.
 #[unsafe(no_mangle)]
 pub extern "C" fn bench_read(filter: &[u8]) -> u8
-    ensures { result ≡ judged_number (judged_values (ping_from filter.now)) }
+    ensures { result ≡ number_of (ping_from filter.now) }
 {
-    match read_ping(filter) {
-        PingRead::Ping(_) => 0,
-        PingRead::Refused(r) => number_of(r),
-    }
+    number_in(&read_ping(filter))
 }
 
 // The number that reading a mailslot message gives.
 #[unsafe(no_mangle)]
 pub extern "C" fn bench_read_message(message: &[u8]) -> u8
-    ensures { result ≡ message_number (message_as (message_in message.now)) }
+    ensures { result ≡ number_of (message_in message.now) }
 {
-    message_number(read_message(message))
+    number_in(&read_message(message))
 }
 
 // How far apart the texts of names lie in their source.
@@ -61,7 +57,6 @@ const NAMES: usize = 8;
 
 fn text_at(place: usize, length: u8) -> Stretch
     requires { place ≤ 8 }
-    ensures { result.len ≤ 255 }
 {
     Stretch {
         lender: Lender::Table,
@@ -70,9 +65,7 @@ fn text_at(place: usize, length: u8) -> Stretch
     }
 }
 
-fn name_texts(lengths: &[u8; 8]) -> [Stretch; NAMES_MOST]
-    ensures { ShortTexts result 8 }
-{
+fn name_texts(lengths: &[u8; NAMES]) -> [Stretch; NAMES] {
     [
         text_at(0, lengths[0]),
         text_at(1, lengths[1]),
@@ -82,17 +75,19 @@ fn name_texts(lengths: &[u8; 8]) -> [Stretch; NAMES_MOST]
         text_at(5, lengths[5]),
         text_at(6, lengths[6]),
         text_at(7, lengths[7]),
-        text_at(8, 0),
     ]
 }
 
 // Plans and writes eight names, as those of an EX; the octets written, 0 where they have no room.
 #[unsafe(no_mangle)]
 pub extern "C" fn bench_names(source: &[u8], lengths: &[u8; 8], out: &mut [u8]) -> usize {
-    let planned = plan_names(source, source, name_texts(lengths), NAMES, NAMES_START);
-    let names = planned.names;
+    let lent = Lent {
+        table: source,
+        request: source,
+    };
+    let planned = plan_names(lent, &name_texts(lengths), NAMES_START);
     if out.len() < planned.end - NAMES_START {
         return 0;
     }
-    put_names(out, source, source, names, NAMES)
+    put_names(out, lent, &planned.names[..NAMES])
 }

@@ -1,9 +1,9 @@
 -- An answer as the members of C's struct: its length, the context used and the form.
-use Rattle.std.specs.Prelude.{List, [], ◌∷◌, ℕ}
-use Rattle.std.proofs.Math.Option.{Option, none, some}
+use Rattle.std.specs.Prelude.{List, [], ◌∷◌, ℕ, Option, None, Some}
 use Rattle.answers.specs.declared.Form.{Form}
 use Rattle.answers.specs.declared.Form.TheVariants.{Nt40, Response, Ex}
-use Rattle.locator.specs.declared.Answer.{Answer}
+use Rattle.answers.specs.Try.{Try}
+use Rattle.locator.specs.declared.Answered.{Answered}
 use Rattle.locator.specs.Answer.{answer_length, answer_context, answer_form}
 
 abbrev pub form_number : Form → ℕ
@@ -13,8 +13,8 @@ form_number Ex = 3
 
 -- 0 is no form
 abbrev pub form_or_none : Option Form → ℕ
-form_or_none none = 0
-form_or_none (some form) = form_number form
+form_or_none None = 0
+form_or_none (Some form) = form_number form
 
-abbrev pub answer_members : Answer → List ℕ
+abbrev pub answer_members : Try Answered → List ℕ
 answer_members a = answer_length a ∷ answer_context a ∷ form_or_none (answer_form a) ∷ []

@@ -2,8 +2,8 @@
 ghost use Rattle.std.specs.Prelude.{◌≡◌};
 ghost use Rattle.c_answer.specs.Answer.{form_number, answer_members};
 
-use answers::Form;
-use locator::Answer;
+use answers::{Form, Refusal};
+use locator::Answered;
 
 pub const ANSWER_MEMBERS: usize = 3;
 
@@ -18,15 +18,15 @@ fn form_number(form: Form) -> usize
     }
 }
 
-pub fn answer_members(answer: Answer) -> [usize; ANSWER_MEMBERS]
+pub fn answer_members(answer: Result<Answered, Refusal>) -> [usize; ANSWER_MEMBERS]
     ensures { result ≡ answer_members answer }
 {
     match answer {
-        Answer::Answered {
-            length,
-            context,
-            form,
-        } => [length, context.0 as usize, form_number(form)],
-        Answer::Refused(_) => [0, 0, 0],
+        Ok(answered) => [
+            answered.length,
+            answered.context.0 as usize,
+            form_number(answered.form),
+        ],
+        Err(_) => [0, 0, 0],
     }
 }

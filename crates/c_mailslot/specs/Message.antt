@@ -1,11 +1,11 @@
 -- Document 02, #105: a mailslot message as the members of C's struct: repeat count, account bits and version; then, of computer, user, mailslot and SID each, whether
 -- it is present, its start and its length.
-use Rattle.std.specs.Prelude.{Bool, true, false, List, [], ◌∷◌, ◌++◌, ℕ, ◌+◌, eqb, get_or}
+use Rattle.std.specs.Prelude.{Bool, true, false, List, [], ◌∷◌, ◌++◌, ℕ, ◌+◌, eqb, get_or, Ok, Err}
 use Rattle.c_reading.specs.Reading.{absent, text_members}
-use Rattle.mailslot.specs.{declared.message.Message.Message, declared.message.MessageRead.MessageRead}
-use Rattle.mailslot.specs.declared.message.MessageRead.TheVariants as read
+use Rattle.answers.specs.Try.{Try}
+use Rattle.mailslot.specs.declared.message.Message.{Message}
 use Rattle.mailslot_write.specs.RoundTrip.{SameMessage}
-use Rattle.reader.specs.declared.field.Stretch.{Stretch}
+use Rattle.octets.specs.declared.part.Stretch.{Stretch}
 
 abbrev pub stretch_unless : Bool → ℕ → ℕ → Stretch
 stretch_unless true start len = record { start = 0; len = 0 }
@@ -33,15 +33,15 @@ sid_unless true t = absent 3
 sid_unless false t = text_members t
 
 -- what reading a message gives: a SID of no octets is not present, the other texts always are; with a refusal all are 0
-abbrev pub message_members : MessageRead → List ℕ
-message_members (read.Read m) =
+abbrev pub message_members : Try Message → List ℕ
+message_members (Ok m) =
     (m.repeat ∷ m.bits ∷ m.version ∷ [])
     ++ text_members m.computer
     ++ text_members m.user
     ++ text_members m.mailslot
     ++ sid_unless (eqb m.sid.len 0) m.sid
-message_members (read.Refused r) = absent 15
+message_members (Err r) = absent 15
 
 -- a message that was read can be handed on: its members make one with the same numbers, and with the same octets in whatever the stretches speak of
 abbrev pub MessageHandedOn : Type 0
-MessageHandedOn = (source : List ℕ) (m : Message) → SameMessage source (message_of (message_members (read.Read m))) source m
+MessageHandedOn = (source : List ℕ) (m : Message) → SameMessage source (message_of (message_members (Ok m))) source m

@@ -3,8 +3,9 @@ ghost use Rattle.std.specs.Prelude.{◌≡◌, ◌≤◌, eqb};
 ghost use Rattle.c_mailslot.specs.Message.{stretch_at, sid_unless, message_members};
 ghost use Rattle.c_mailslot.specs.Internal.Given.{GivenBy};
 
-use mailslot::message::{Message, MessageRead};
-use reader::field::Stretch;
+use answers::Refusal;
+use mailslot::message::Message;
+use octets::part::Stretch;
 
 pub const MESSAGE_MEMBERS: usize = 15;
 
@@ -23,13 +24,6 @@ pub const MAILSLOT: usize = 9;
 
 pub const SID: usize = 12;
 
-// The message that members make, or that one of their numbers is past its field's width.
-#[derive(Drop)]
-pub enum Given {
-    Message(Message),
-    Wide,
-}
-
 // 0 is not present, any other number present.
 fn stretch_at(members: &[usize; MESSAGE_MEMBERS], at: usize) -> Stretch
     requires { at ≤ 12 }
@@ -44,30 +38,27 @@ fn stretch_at(members: &[usize; MESSAGE_MEMBERS], at: usize) -> Stretch
     }
 }
 
-// The widths are tested before the numbers are made, so that none is cut.
-pub fn message_given(members: &[usize; MESSAGE_MEMBERS]) -> Given
+// The message that members make; none where one of their numbers is past its field's width.
+pub fn message_given(members: &[usize; MESSAGE_MEMBERS]) -> Option<Message>
     ensures { GivenBy members.now result }
 {
-    let repeat = members[REPEAT];
-    let bits = members[BITS];
-    let version = members[VERSION];
-    if repeat > 0xFFFF {
-        return Given::Wide;
-    }
-    if bits > 0xFFFF_FFFF {
-        return Given::Wide;
-    }
-    if version > 0xFFFF_FFFF {
-        return Given::Wide;
-    }
-    Given::Message(Message {
-        repeat: repeat as u16,
+    let Ok(repeat) = u16::try_from(members[REPEAT]) else {
+        return None;
+    };
+    let Ok(bits) = u32::try_from(members[BITS]) else {
+        return None;
+    };
+    let Ok(version) = u32::try_from(members[VERSION]) else {
+        return None;
+    };
+    Some(Message {
+        repeat,
         computer: stretch_at(members, COMPUTER),
         user: stretch_at(members, USER),
         mailslot: stretch_at(members, MAILSLOT),
-        bits: bits as u32,
+        bits,
         sid: stretch_at(members, SID),
-        version: version as u32,
+        version,
     })
 }
 
@@ -90,38 +81,34 @@ fn sid_members(sid: Stretch) -> [usize; 3]
 
 // The other texts are always present, though they may be empty.
 fn good_members(message: Message) -> [usize; MESSAGE_MEMBERS]
-    ensures { result ≡ message_members (MessageRead.Read message) }
+    ensures { result ≡ message_members (Ok message) }
 {
-    let computer = message.computer;
-    let user = message.user;
-    let mailslot = message.mailslot;
-    let sid = message.sid;
-    let row = sid_members(sid);
+    let [sid, sid_start, sid_len] = sid_members(message.sid);
     [
         message.repeat as usize,
         member_of(message.bits),
         member_of(message.version),
         1,
-        computer.start,
-        computer.len,
+        message.computer.start,
+        message.computer.len,
         1,
-        user.start,
-        user.len,
+        message.user.start,
+        message.user.len,
         1,
-        mailslot.start,
-        mailslot.len,
-        row[0],
-        row[1],
-        row[2],
+        message.mailslot.start,
+        message.mailslot.len,
+        sid,
+        sid_start,
+        sid_len,
     ]
 }
 
 // A message that was read: its members, with a refusal none.
-pub fn message_members(read: MessageRead) -> [usize; MESSAGE_MEMBERS]
+pub fn message_members(read: Result<Message, Refusal>) -> [usize; MESSAGE_MEMBERS]
     ensures { result ≡ message_members read }
 {
     match read {
-        MessageRead::Read(message) => good_members(message),
-        MessageRead::Refused(_) => [0; MESSAGE_MEMBERS],
+        Ok(message) => good_members(message),
+        Err(_) => [0; MESSAGE_MEMBERS],
     }
 }

@@ -1,14 +1,11 @@
 -- A reading as the members of C's struct: its length, opcode and version; then, each behind the mark of its presence, the flags, where GUID and address
 -- start, three texts and nine names. With a refusal all are 0.
-use Rattle.std.specs.Prelude.{List, [], ◌∷◌, ◌++◌, ℕ, replicate}
-use Rattle.reader.specs.declared.field.Stretch.{Stretch}
+use Rattle.std.specs.Prelude.{List, [], ◌∷◌, ◌++◌, ℕ, replicate, Ok, Err, Option, None, Some}
+use Rattle.answers.specs.Try.{Try}
+use Rattle.octets.specs.declared.part.Stretch.{Stretch}
 use Rattle.reader_names.specs.declared.NameAt.{NameAt}
-use Rattle.reader_forms.specs.{declared.reading.Address.Address, declared.reading.NextSite.NextSite, declared.reading.Fields.Fields}
-use Rattle.reader_forms.specs.declared.reading.Reading.{Reading}
-use Rattle.reader_forms.specs.declared.reading.Address.TheVariants as address
-use Rattle.reader_forms.specs.declared.reading.NextSite.TheVariants as next_site_lem
+use Rattle.reader_forms.specs.{declared.reading.Fields.Fields, declared.reading.Reading.Reading}
 use Rattle.reader_forms.specs.declared.reading.Fields.TheVariants as fields
-use Rattle.reader_forms.specs.declared.reading.Reading.TheVariants as reading
 
 -- what is not present: so many members of 0
 abbrev pub absent : ℕ → List ℕ
@@ -23,13 +20,13 @@ text_members t = 1 ∷ t.start ∷ t.len ∷ []
 abbrev pub name_members : NameAt → List ℕ
 name_members n = 1 ∷ n.start ∷ n.len ∷ n.pointers ∷ []
 
-abbrev pub address_members : Address → List ℕ
-address_members address.Absent = absent 2
-address_members (address.At t) = number_members t.start
+abbrev pub address_members : Option Stretch → List ℕ
+address_members None = absent 2
+address_members (Some t) = number_members t.start
 
-abbrev pub next_site_members : NextSite → List ℕ
-next_site_members next_site_lem.Absent = absent 4
-next_site_members (next_site_lem.Name n) = name_members n
+abbrev pub next_site_members : Option NameAt → List ℕ
+next_site_members None = absent 4
+next_site_members (Some n) = name_members n
 
 -- opcode and version; flags, GUID, address; three texts; nine names
 abbrev pub fields_members : Fields → List ℕ
@@ -63,6 +60,6 @@ fields_members (fields.Ex f) =
     ++ name_members f.client_site
     ++ next_site_members f.next_site
 
-abbrev pub reading_members : Reading → List ℕ
-reading_members (reading.Read len f) = len ∷ fields_members f
-reading_members (reading.Refused r) = absent 54
+abbrev pub reading_members : Try Reading → List ℕ
+reading_members (Ok read) = read.length ∷ fields_members read.fields
+reading_members (Err r) = absent 54

@@ -3,10 +3,9 @@ ghost use Rattle.std.specs.Prelude.{◌≡◌, ◌≤◌};
 ghost use Rattle.c_reading.specs.Reading.{reading_members};
 ghost use Rattle.c_reading.specs.Internal.Put.{number_put, text_put, name_put, texts_put, dns_names_put, other_names_put, address_put, next_site_put};
 
-use reader::field::Stretch;
-use reader_forms::reading::{
-    Address, ExFields, Fields, NextSite, Nt40Fields, Reading, ResponseFields,
-};
+use answers::Refusal;
+use octets::part::Stretch;
+use reader_forms::reading::{ExFields, Fields, Nt40Fields, Reading, ResponseFields};
 use reader_names::NameAt;
 
 pub const READING_MEMBERS: usize = 54;
@@ -103,106 +102,82 @@ fn put_dns_names(
 fn put_other_names(members: &mut [usize; READING_MEMBERS], fields: ExFields)
     ensures { members.new ≡ other_names_put members.old fields }
 {
-    let context_netbios = fields.context_netbios;
-    let server_netbios = fields.server_netbios;
-    let user = fields.user;
-    let own_site = fields.own_site;
-    let client_site = fields.client_site;
-    put_name(members, NAMES + 12, context_netbios);
-    put_name(members, NAMES + 16, server_netbios);
-    put_name(members, NAMES + 20, user);
-    put_name(members, NAMES + 24, own_site);
-    put_name(members, NAMES + 28, client_site);
+    put_name(members, NAMES + 12, fields.context_netbios);
+    put_name(members, NAMES + 16, fields.server_netbios);
+    put_name(members, NAMES + 20, fields.user);
+    put_name(members, NAMES + 24, fields.own_site);
+    put_name(members, NAMES + 28, fields.client_site);
 }
 
 // The address and name 8 of an EX, where they are present.
-fn put_address(members: &mut [usize; READING_MEMBERS], address: Address)
+fn put_address(members: &mut [usize; READING_MEMBERS], address: Option<Stretch>)
     ensures { members.new ≡ address_put members.old address }
 {
-    match address {
-        Address::Absent => {}
-        Address::At(stretch) => put_number(members, ADDRESS, stretch.start),
+    if let Some(stretch) = address {
+        put_number(members, ADDRESS, stretch.start);
     }
 }
 
-fn put_next_site(members: &mut [usize; READING_MEMBERS], next_site: NextSite)
+fn put_next_site(members: &mut [usize; READING_MEMBERS], next_site: Option<NameAt>)
     ensures { members.new ≡ next_site_put members.old next_site }
 {
-    match next_site {
-        NextSite::Absent => {}
-        NextSite::Name(name) => put_name(members, NEXT_SITE, name),
+    if let Some(name) = next_site {
+        put_name(members, NEXT_SITE, name);
     }
 }
 
 fn nt40_members(length: usize, fields: Nt40Fields) -> [usize; READING_MEMBERS]
-    ensures { result ≡ reading_members (Reading.Read length (Fields.Nt40 fields)) }
+    ensures { result ≡ reading_members (Ok (record { length = length; fields = Fields.Nt40 fields })) }
 {
-    let server = fields.server;
-    let user = fields.user;
-    let domain = fields.domain;
     let mut members = [0; READING_MEMBERS];
     members[LENGTH] = length;
     members[OPCODE] = fields.opcode as usize;
     members[VERSION] = member_of(fields.version);
-    put_texts(&mut members, server, user, domain);
+    put_texts(&mut members, fields.server, fields.user, fields.domain);
     members
 }
 
 fn response_members(length: usize, fields: ResponseFields) -> [usize; READING_MEMBERS]
-    ensures { result ≡ reading_members (Reading.Read length (Fields.Response fields)) }
+    ensures { result ≡ reading_members (Ok (record { length = length; fields = Fields.Response fields })) }
 {
-    let server = fields.server;
-    let user = fields.user;
-    let domain = fields.domain;
-    let guid = fields.guid;
-    let forest = fields.forest;
-    let context = fields.context;
-    let host = fields.host;
-    let address = fields.ipv4;
     let mut members = [0; READING_MEMBERS];
     members[LENGTH] = length;
     members[OPCODE] = fields.opcode as usize;
     members[VERSION] = member_of(fields.version);
     put_number(&mut members, FLAGS, member_of(fields.flags));
-    put_number(&mut members, GUID, guid.start);
-    put_number(&mut members, ADDRESS, address.start);
-    put_texts(&mut members, server, user, domain);
-    put_dns_names(&mut members, forest, context, host);
+    put_number(&mut members, GUID, fields.guid.start);
+    put_number(&mut members, ADDRESS, fields.ipv4.start);
+    put_texts(&mut members, fields.server, fields.user, fields.domain);
+    put_dns_names(&mut members, fields.forest, fields.context, fields.host);
     members
 }
 
 fn ex_members(length: usize, fields: ExFields) -> [usize; READING_MEMBERS]
-    ensures { result ≡ reading_members (Reading.Read length (Fields.Ex fields)) }
+    ensures { result ≡ reading_members (Ok (record { length = length; fields = Fields.Ex fields })) }
 {
-    let guid = fields.guid;
-    let forest = fields.forest;
-    let context = fields.context;
-    let host = fields.host;
-    let address = fields.ipv4;
-    let next_site = fields.next_site;
     let mut members = [0; READING_MEMBERS];
     members[LENGTH] = length;
     members[OPCODE] = fields.opcode as usize;
     members[VERSION] = member_of(fields.version);
     put_number(&mut members, FLAGS, member_of(fields.flags));
-    put_number(&mut members, GUID, guid.start);
-    put_dns_names(&mut members, forest, context, host);
+    put_number(&mut members, GUID, fields.guid.start);
+    put_dns_names(&mut members, fields.forest, fields.context, fields.host);
     put_other_names(&mut members, fields);
-    put_address(&mut members, address);
-    put_next_site(&mut members, next_site);
+    put_address(&mut members, fields.ipv4);
+    put_next_site(&mut members, fields.next_site);
     members
 }
 
 // With a refusal the length is 0, and no field is present.
-pub fn reading_members(reading: Reading) -> [usize; READING_MEMBERS]
+pub fn reading_members(reading: Result<Reading, Refusal>) -> [usize; READING_MEMBERS]
     ensures { result ≡ reading_members reading }
 {
-    let Reading::Read { length, fields } = reading else {
+    let Ok(read) = reading else {
         return [0; READING_MEMBERS];
     };
-    match fields {
-        Fields::Nt40(nt40) => nt40_members(length, nt40),
-        Fields::Response(response) => response_members(length, response),
-        Fields::Ex(ex) => ex_members(length, ex),
+    match read.fields {
+        Fields::Nt40(nt40) => nt40_members(read.length, nt40),
+        Fields::Response(response) => response_members(read.length, response),
+        Fields::Ex(ex) => ex_members(read.length, ex),
     }
 }

@@ -1,13 +1,11 @@
 -- A request as the members of C's struct: for each clause, in document 01's order, whether it is present, its start and its length.
-use Rattle.std.specs.Prelude.{◌≡◌, Bool, true, false, List, [], ◌∷◌, ◌++◌, ℕ, ◌+◌, eqb, get_or, replicate}
-use Rattle.filter.specs.{declared.request.Clause.Clause, declared.request.Request.Request}
-use Rattle.filter.specs.declared.request.Clause.TheVariants.{Absent, Present}
-use Rattle.filter_read.specs.declared.read.Taken.{Taken}
-use Rattle.filter_read.specs.declared.read.Taken.TheVariants as taken
+use Rattle.std.specs.Prelude.{◌≡◌, Bool, true, false, List, [], ◌∷◌, ◌++◌, ℕ, ◌+◌, eqb, get_or, replicate, Ok, Err, None, Some}
+use Rattle.answers.specs.Try.{Try}
+use Rattle.filter.specs.{declared.request.Request.Request, Request.Clause}
 
 abbrev pub clause_unless : Bool → ℕ → ℕ → Clause
-clause_unless true start len = Absent
-clause_unless false start len = Present start len
+clause_unless true start len = None
+clause_unless false start len = Some (record { start = start; len = len })
 
 -- the clause whose members start at a place: 0 is absent, any other number present
 abbrev pub clause_at : List ℕ → ℕ → Clause
@@ -28,16 +26,16 @@ request_given members =
     }
 
 abbrev pub presence : Clause → ℕ
-presence Absent = 0
-presence (Present start len) = 1
+presence None = 0
+presence (Some t) = 1
 
 abbrev pub start_of : Clause → ℕ
-start_of Absent = 0
-start_of (Present start len) = start
+start_of None = 0
+start_of (Some t) = t.start
 
 abbrev pub length_of : Clause → ℕ
-length_of Absent = 0
-length_of (Present start len) = len
+length_of None = 0
+length_of (Some t) = t.len
 
 abbrev pub clause_members : Clause → List ℕ
 clause_members c = presence c ∷ start_of c ∷ length_of c ∷ []
@@ -54,9 +52,9 @@ request_members r =
     ++ clause_members r.nt_ver
 
 -- what taking a filter apart gives: with a refusal no clause is present
-abbrev pub taken_members : Taken → List ℕ
-taken_members (taken.Request r) = request_members r
-taken_members (taken.Refused r) = replicate 24 0
+abbrev pub taken_members : Try Request → List ℕ
+taken_members (Ok r) = request_members r
+taken_members (Err r) = replicate 24 0
 
 -- a request that was given can be handed on: its members make it again
 abbrev pub RequestHandedOn : Type 0

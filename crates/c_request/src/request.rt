@@ -3,23 +3,24 @@ ghost use Rattle.std.specs.Prelude.{◌≡◌, ◌≤◌};
 ghost use Rattle.c_request.specs.Request.{clause_at, request_given, clause_members, request_members, taken_members};
 ghost use Rattle.c_request.specs.Internal.Put.{clause_put};
 
-use filter::request::{Clause, Request};
-use filter_read::read::Taken;
+use answers::Refusal;
+use filter::request::Request;
+use octets::part::Stretch;
 
 pub const REQUEST_MEMBERS: usize = 24;
 
 // 0 is absent, any other number present: absent and empty stay distinct.
-fn clause_at(members: &[usize; REQUEST_MEMBERS], at: usize) -> Clause
+fn clause_at(members: &[usize; REQUEST_MEMBERS], at: usize) -> Option<Stretch>
     requires { at ≤ 21 }
     ensures { result ≡ clause_at members.now at }
 {
     if members[at] == 0 {
-        return Clause::Absent;
+        return None;
     }
-    Clause::Present {
+    Some(Stretch {
         start: members[at + 1],
         len: members[at + 2],
-    }
+    })
 }
 
 // The request that a caller's members make.
@@ -38,54 +39,46 @@ pub fn request_of(members: &[usize; REQUEST_MEMBERS]) -> Request
     }
 }
 
-fn clause_members(clause: Clause) -> [usize; 3]
+fn clause_members(clause: Option<Stretch>) -> [usize; 3]
     ensures { result ≡ clause_members clause }
 {
     match clause {
-        Clause::Absent => [0, 0, 0],
-        Clause::Present { start, len } => [1, start, len],
+        None => [0, 0, 0],
+        Some(stretch) => [1, stretch.start, stretch.len],
     }
 }
 
-fn put_clause(members: &mut [usize; REQUEST_MEMBERS], at: usize, clause: Clause)
+fn put_clause(members: &mut [usize; REQUEST_MEMBERS], at: usize, clause: Option<Stretch>)
     requires { at ≤ 21 }
     ensures { members.new ≡ clause_put members.old at clause }
 {
-    let row = clause_members(clause);
-    members[at] = row[0];
-    members[at + 1] = row[1];
-    members[at + 2] = row[2];
+    let [presence, start, len] = clause_members(clause);
+    members[at] = presence;
+    members[at + 1] = start;
+    members[at + 2] = len;
 }
 
 fn request_members(request: Request) -> [usize; REQUEST_MEMBERS]
     ensures { result ≡ request_members request }
 {
-    let dns_domain = request.dns_domain;
-    let host = request.host;
-    let dns_host_name = request.dns_host_name;
-    let user = request.user;
-    let aac = request.aac;
-    let domain_sid = request.domain_sid;
-    let domain_guid = request.domain_guid;
-    let nt_ver = request.nt_ver;
     let mut members = [0; REQUEST_MEMBERS];
-    put_clause(&mut members, 0, dns_domain);
-    put_clause(&mut members, 3, host);
-    put_clause(&mut members, 6, dns_host_name);
-    put_clause(&mut members, 9, user);
-    put_clause(&mut members, 12, aac);
-    put_clause(&mut members, 15, domain_sid);
-    put_clause(&mut members, 18, domain_guid);
-    put_clause(&mut members, 21, nt_ver);
+    put_clause(&mut members, 0, request.dns_domain);
+    put_clause(&mut members, 3, request.host);
+    put_clause(&mut members, 6, request.dns_host_name);
+    put_clause(&mut members, 9, request.user);
+    put_clause(&mut members, 12, request.aac);
+    put_clause(&mut members, 15, request.domain_sid);
+    put_clause(&mut members, 18, request.domain_guid);
+    put_clause(&mut members, 21, request.nt_ver);
     members
 }
 
 // A filter taken apart: its request, with a refusal no clause.
-pub fn taken_members(taken: Taken) -> [usize; REQUEST_MEMBERS]
+pub fn taken_members(taken: Result<Request, Refusal>) -> [usize; REQUEST_MEMBERS]
     ensures { result ≡ taken_members taken }
 {
     match taken {
-        Taken::Request(request) => request_members(request),
-        Taken::Refused(_) => [0; REQUEST_MEMBERS],
+        Ok(request) => request_members(request),
+        Err(_) => [0; REQUEST_MEMBERS],
     }
 }

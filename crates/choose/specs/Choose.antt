@@ -1,6 +1,5 @@
 -- Document 01, "Choosing the answer": the user, the form, the opcode and the flags, and the reply they make.
-use Rattle.std.specs.Prelude.{Bool, cond, not, ◌&&◌, ◌||◌, List, [], ℕ, ◌+◌}
-use Rattle.std.proofs.Math.Option.{Option, none, map, get_or, bind}
+use Rattle.std.specs.Prelude.{Bool, cond, not, ◌&&◌, ◌||◌, List, [], ℕ, ◌+◌, Option, None, option_map, unwrap_or, option_and_then}
 use Rattle.answers.specs.declared.Form.{Form}
 use Rattle.answers.specs.declared.Form.TheVariants.{Nt40, Response, Ex}
 use Rattle.answers.specs.Wire.{netlogon_nt_version_5, netlogon_nt_version_5ex, netlogon_nt_version_5ex_with_ip, netlogon_nt_version_with_closest_site, netlogon_nt_version_avoid_nt4emul, netlogon_nt_version_pdc, netlogon_nt_version_local}
@@ -81,7 +80,7 @@ flags_of Ex t p site = ex_flags t p site
 unfoldable pub next_site_lem : Table → ℕ → Option Site → Option (List ℕ)
 next_site_lem t v site =
     cond (has v netlogon_nt_version_with_closest_site && has t.server.roles role_level2008)
-    (map (λ s. s.name) (bind site (λ s. site_if_any t s.next))) none
+    (option_map (λ s. s.name) (option_and_then (λ s. site_if_any t s.next) site)) None
 
 -- the reply to a ping from a caller, in the context used; a text that is absent has no octets
 unfoldable pub reply_for : Table → Caller → Ping → Context → Form → Reply
@@ -97,9 +96,9 @@ reply_for t caller p c form =
       host = t.server.host;
       netbios = c.netbios;
       server = t.server.netbios;
-      user = get_or p.user [];
-      own_site_lem = get_or (map (λ s. s.name) (site_by_number t t.server.site)) [];
-      client_site_lem = get_or (map (λ s. s.name) site) [];
+      user = unwrap_or p.user [];
+      own_site_lem = unwrap_or (option_map (λ s. s.name) (site_by_number t t.server.site)) [];
+      client_site_lem = unwrap_or (option_map (λ s. s.name) site) [];
       ipv4 = t.server.address;
       with_address_lem = has v netlogon_nt_version_5ex_with_ip;
       next_site_lem = next_site_lem t v site;

@@ -5,7 +5,6 @@ ghost use Rattle.filter_read.specs.Internal.RawPing.{ping_at};
 ghost use Rattle.table.specs.Context.{context_of, context_format};
 ghost use Rattle.table.specs.Server.{server_of};
 ghost use Rattle.table.specs.Table.{table_from};
-ghost use Rattle.table_whole.specs.Judgement.{Accepted};
 ghost use Rattle.choose.specs.Choose.{form_of, is_held_back, is_user_unknown, opcode_of};
 
 use answers::Form;
@@ -15,7 +14,6 @@ use answers::wire::{
     NETLOGON_NT_VERSION_5, NETLOGON_NT_VERSION_5EX, NETLOGON_NT_VERSION_5EX_WITH_IP,
     NETLOGON_NT_VERSION_AVOID_NT4EMUL, NETLOGON_NT_VERSION_LOCAL, NETLOGON_NT_VERSION_PDC,
 };
-use filter::request::Clause;
 use filter_read::ping::RawPing;
 use octets::number::has_bits;
 use octets::part::part;
@@ -25,8 +23,8 @@ use table::bits::{
 };
 use table::{account, context, server};
 use table_find::account::may_log_on;
-use table_find::search::Found;
 use table_lookup::lookup::account_by_name;
+use table_whole::image::AcceptedImage;
 
 // The reply's form, by the body of the server block and the version asked.
 fn form_of(body: &[u8], version: u32) -> Form
@@ -48,12 +46,10 @@ fn form_of(body: &[u8], version: u32) -> Form
 }
 
 // The form of the reply to a ping.
-pub fn form_for(image: &[u8], ping: RawPing) -> Form
-    requires { Accepted image.now }
+pub fn form_for(image: &AcceptedImage, ping: RawPing) -> Form
     ensures { result ≡ form_of (table_from image.now).server ping.version }
 {
-    let version = ping.version;
-    form_of(server::server_of(image), version)
+    form_of(server::server_of(image.octets()), ping.version)
 }
 
 // Whether document 01's t is 1.
@@ -71,18 +67,17 @@ pub fn is_held_back(body: &[u8], version: u32) -> bool
 }
 
 // Whether a user was asked for, empty or not, whom the context at an offset does not know.
-pub fn is_user_unknown(image: &[u8], source: &[u8], ping: RawPing, context: usize) -> bool
-    requires { Accepted image.now }
+pub fn is_user_unknown(image: &AcceptedImage, source: &[u8], ping: RawPing, context: usize) -> bool
     ensures { result ≡ is_user_unknown (table_from image.now) (context_of (cut image.now context context_format.width)) (ping_at source.now ping) }
 {
-    let user = ping.user;
-    let Clause::Present { start, len } = user else {
+    let Some(user) = ping.user else {
         return false;
     };
-    let number = context::number(part(image, context, context::FORMAT.width));
-    match account_by_name(image, number, part(source, start, len)) {
-        Found::At(offset) => !may_log_on(part(image, offset, account::FORMAT.width), ping.aac),
-        Found::Nothing => true,
+    let octets = image.octets();
+    let number = context::number(part(octets, context, context::FORMAT.width));
+    match account_by_name(image, number, user.of(source)) {
+        Some(offset) => !may_log_on(part(octets, offset, account::FORMAT.width), ping.aac),
+        None => true,
     }
 }
 

@@ -1,6 +1,5 @@
 // The texts of a reply, as stretches of the table image or of the ping's source.
-ghost use Rattle.std.specs.Prelude.{◌≡◌, false, not, [], ◌+◌, ◌≤◌, ◌<◌, length};
-ghost use Rattle.std.proofs.Math.Option.{map, get_or};
+ghost use Rattle.std.specs.Prelude.{◌≡◌, false, not, [], ◌+◌, ◌≤◌, ◌<◌, length, option_map, unwrap_or};
 ghost use Rattle.octets.specs.Lists.{cut, holds};
 ghost use Rattle.unicode_text.specs.UserName.{is_user_name};
 ghost use Rattle.filter.specs.Request.{octets_of};
@@ -10,13 +9,11 @@ ghost use Rattle.table.specs.Field.{text_at};
 ghost use Rattle.table_find.specs.Internal.Found.{LiesIn, site_at};
 ghost use Rattle.choose_reply.specs.Internal.Lends.{InTable, InRequest};
 
-use filter::request::Clause;
 use lent::stretch::{Lender, Stretch};
 use octets::number::wide;
-use octets::part::part;
+use octets::part::{self, part};
 use table::field::{TextField, octet_in};
 use table::site;
-use table_find::search::Found;
 
 const NO_TEXT: Stretch = Stretch {
     lender: Lender::Table,
@@ -40,27 +37,27 @@ pub fn text_stretch(image: &[u8], offset: usize, width: usize, field: TextField)
 }
 
 // The name of a site, if any.
-pub fn site_name(image: &[u8], found: Found) -> Stretch
+pub fn site_name(image: &[u8], found: Option<usize>) -> Stretch
     requires { LiesIn image.now kind.Site found }
-    ensures { InTable image.now result (get_or (map (λ s. s.name) (site_at image.now found)) []) }
+    ensures { InTable image.now result (unwrap_or (option_map (λ s. s.name) (site_at image.now found)) []) }
 {
-    match found {
-        Found::At(offset) => text_stretch(image, offset, site::FORMAT.width, site::NAME),
-        Found::Nothing => NO_TEXT,
-    }
+    let Some(offset) = found else {
+        return NO_TEXT;
+    };
+    text_stretch(image, offset, site::FORMAT.width, site::NAME)
 }
 
 // The user asked for, if any.
-pub fn user_text(source: &[u8], clause: Clause) -> Stretch
+pub fn user_text(source: &[u8], clause: Option<part::Stretch>) -> Stretch
     requires { holds (λ x. not (is_user_name x)) (octets_of source.now clause) ≡ false }
-    ensures { InRequest source.now result (get_or (octets_of source.now clause) []) }
+    ensures { InRequest source.now result (unwrap_or (octets_of source.now clause) []) }
 {
-    let Clause::Present { start, len } = clause else {
+    let Some(user) = clause else {
         return NO_TEXT;
     };
     Stretch {
         lender: Lender::Request,
-        start,
-        len: part(source, start, len).len(),
+        start: user.start,
+        len: user.of(source).len(),
     }
 }

@@ -1,6 +1,5 @@
-// What the programs share: texts written to standard output, and fields, hex digits and decimal numbers read from texts.
+// What the programs share: octets written in hex, and read from hex digits, and put one behind the other.
 #![tactic(auto)]
 
-pub mod digits;
-pub mod field;
-pub mod say;
+pub mod hex;
+pub mod source;

@@ -1,30 +1,21 @@
 -- Demand 1: whatever comes in, a call refuses by the documents' numbers, with no length, context, form or fields, and a refusal leaves every lent buffer as it was.
 -- One field for each public call, by its name; that every call ends is proved with its code.
-use Rattle.filter_read.specs.{Value.judged_number, Value.JudgeValuesPromise, Taken.taken_number, Taken.TakeApartPromise, declared.read.Taken.Taken}
-use Rattle.filter_read.specs.declared.value.Judged.{Judged}
-use Rattle.table_whole.specs.{Judgement.judgement_number, Judgement.JudgePromise, declared.judge.Judgement.Judgement}
-use Rattle.table_check.specs.{Check.check_of_lem, Check.CheckOfPromise, declared.check.Check.Check}
-use Rattle.std.specs.Prelude.{◌≡◌, true, ◌||◌, List, [], ◌∷◌, ℕ, ◌<◌, eqb}
-use Rattle.std.proofs.Math.Option.{none}
-use Rattle.answers.specs.{declared.Form.Form, declared.Refusal.Refusal, declared.written.Written.Written, Refusal.NumberOfPromise, Written.written_number, Written.written_length}
+use Rattle.std.specs.Prelude.{◌≡◌, true, ◌||◌, List, [], ◌∷◌, ℕ, ◌<◌, eqb, Err, None}
+use Rattle.std.specs.Result.{result_unwrap_or}
+use Rattle.answers.specs.{declared.Form.Form, declared.Refusal.Refusal, Refusal.NumberOfPromise, Try.Try, Try.number_of, Try.value_of}
 use Rattle.filter.specs.declared.request.Request.{Request}
-use Rattle.filter_read.specs.declared.read.Taken.TheVariants as taken
-use Rattle.filter_read.specs.declared.value.Judged.TheVariants as judged
-use Rattle.answers.specs.declared.written.Written.TheVariants as written
-use Rattle.locator.specs.declared.Answer.{Answer}
-use Rattle.locator.specs.declared.Answer.TheVariants as answer
-use Rattle.locator.specs.Answer.{answer_number, answer_length, answer_context, answer_form}
-use Rattle.mailslot.specs.{declared.message.Message.Message, declared.message.MessageRead.MessageRead, Read.message_number, Read.message_given, Read.ReadMessagePromise}
-use Rattle.mailslot.specs.declared.message.MessageRead.TheVariants as message_read
+use Rattle.filter_read.specs.{Value.JudgeValuesPromise, Taken.TakeApartPromise}
+use Rattle.locator.specs.declared.Answered.{Answered}
+use Rattle.locator.specs.Answer.{answer_length, answer_context, answer_form}
+use Rattle.mailslot.specs.{declared.message.Message.Message, Read.ReadMessagePromise}
 use Rattle.octets.specs.{Lists.any, Text.within}
 use Rattle.reader_forms.specs.declared.reading.Reading.{Reading}
-use Rattle.reader_forms.specs.declared.reading.Reading.TheVariants as reading
-use Rattle.reader_forms.specs.Reading.{reading_number, reading_length, reading_fields, ReadReplyPromise}
+use Rattle.reader_forms.specs.Reading.{reading_length, reading_fields, ReadReplyPromise}
 use Rattle.reader_text.specs.declared.NameText.{NameText}
-use Rattle.reader_text.specs.declared.TextLength.TheVariants as text
-use Rattle.reader_text.specs.Text.{text_number, text_length, text_given, NameTextPromise}
+use Rattle.reader_text.specs.Text.{text_given, NameTextPromise}
 use Rattle.table.specs.declared.Caller.{Caller}
-use Rattle.table_whole.specs.declared.judge.Judgement.TheVariants as judgement
+use Rattle.table_check.specs.{Check.check_of_lem, Check.CheckOfPromise, declared.check.Check.Check}
+use Rattle.table_whole.specs.Judgement.{JudgePromise}
 use Rattle.demands.specs.Calls.{WriteFilterPromise, WriteMessagePromise, AnswerPingPromise, AnswerMailslotPromise}
 
 -- numbers of refusals: from a number to another, or one of some
@@ -72,22 +63,22 @@ ForAny n = within 1 9 n || within 11 19 n || within 31 35 n || eqb n 41 ≡ true
 pub record Demand1 : Type 0 where
   -- it refuses nothing: of all octets it gives the two sums of the definition, 16 bits each
   pub check_of : (octets : List ℕ) (c : Check) → CheckOfPromise octets c → (c ≡ check_of_lem octets) × (c.a < 65536) × (c.b < 65536)
-  pub judge : (image : List ℕ) (j : Judgement) (r : Refusal) → JudgePromise image j → j ≡ judgement.Refused r → ForImage (judgement_number j)
-  pub take_apart : (filter : List ℕ) (t : Taken) (r : Refusal) → TakeApartPromise filter t → t ≡ taken.Refused r → ForFilter (taken_number t)
-  pub judge_values : (filter : List ℕ) (request : Request) (j : Judged) (r : Refusal) → JudgeValuesPromise filter request j → j ≡ judged.Refused r → ForValues (judged_number j)
-  pub write_filter : (source : List ℕ) (request : Request) (before after : List ℕ) (w : Written) (r : Refusal) → WriteFilterPromise source request before after w → w ≡ written.Refused r
-      → ForWriting (written_number w) × (written_length w ≡ 0) × (after ≡ before)
-  pub answer_ping : (image : List ℕ) (caller : Caller) (filter before after : List ℕ) (a : Answer) (r : Refusal) → AnswerPingPromise image caller filter before after a → a ≡ answer.Refused r
-      → ForPing (answer_number a) × (answer_length a ≡ 0) × (answer_context a ≡ 0) × (answer_form a ≡ none) × (after ≡ before)
-  pub read_reply : (reply : List ℕ) (form : Form) (v : ℕ) (x : Reading) (r : Refusal) → ReadReplyPromise reply form v x → x ≡ reading.Refused r
-      → ForReply (reading_number x) × (reading_length x ≡ 0) × (reading_fields x ≡ none)
-  pub name_text : (reply : List ℕ) (start : ℕ) (t : NameText) (r : Refusal) → NameTextPromise reply start t → t.len ≡ text.Refused r
-      → ForName (text_number t.len) × (text_length t.len ≡ 0) × (text_given t ≡ [])
-  pub read_message : (message : List ℕ) (m : MessageRead) (r : Refusal) → ReadMessagePromise message m → m ≡ message_read.Refused r → ForMessage (message_number m) × (message_given m ≡ none)
-  pub write_message : (source : List ℕ) (message : Message) (before after : List ℕ) (w : Written) (r : Refusal) → WriteMessagePromise source message before after w → w ≡ written.Refused r
-      → ForMessageWriting (written_number w) × (written_length w ≡ 0) × (after ≡ before)
-  pub answer_mailslot : (image : List ℕ) (caller : Caller) (message before after : List ℕ) (a : Answer) (r : Refusal) → AnswerMailslotPromise image caller message before after a
-      → a ≡ answer.Refused r
-      → ForMailslot (answer_number a) × (answer_length a ≡ 0) × (answer_context a ≡ 0) × (answer_form a ≡ none) × (after ≡ before)
+  pub judge : (image : List ℕ) (j : Try (Unit {0})) (r : Refusal) → JudgePromise image j → j ≡ Err r → ForImage (number_of j)
+  pub take_apart : (filter : List ℕ) (t : Try Request) (r : Refusal) → TakeApartPromise filter t → t ≡ Err r → ForFilter (number_of t)
+  pub judge_values : (filter : List ℕ) (request : Request) (j : Try ℕ) (r : Refusal) → JudgeValuesPromise filter request j → j ≡ Err r → ForValues (number_of j)
+  pub write_filter : (source : List ℕ) (request : Request) (before after : List ℕ) (w : Try ℕ) (r : Refusal) → WriteFilterPromise source request before after w → w ≡ Err r
+      → ForWriting (number_of w) × (result_unwrap_or w 0 ≡ 0) × (after ≡ before)
+  pub answer_ping : (image : List ℕ) (caller : Caller) (filter before after : List ℕ) (a : Try Answered) (r : Refusal) → AnswerPingPromise image caller filter before after a → a ≡ Err r
+      → ForPing (number_of a) × (answer_length a ≡ 0) × (answer_context a ≡ 0) × (answer_form a ≡ None) × (after ≡ before)
+  pub read_reply : (reply : List ℕ) (form : Form) (v : ℕ) (x : Try Reading) (r : Refusal) → ReadReplyPromise reply form v x → x ≡ Err r
+      → ForReply (number_of x) × (reading_length x ≡ 0) × (reading_fields x ≡ None)
+  pub name_text : (reply : List ℕ) (start : ℕ) (t : NameText) (r : Refusal) → NameTextPromise reply start t → t.len ≡ Err r
+      → ForName (number_of t.len) × (result_unwrap_or t.len 0 ≡ 0) × (text_given t ≡ [])
+  pub read_message : (message : List ℕ) (m : Try Message) (r : Refusal) → ReadMessagePromise message m → m ≡ Err r → ForMessage (number_of m) × (value_of m ≡ None)
+  pub write_message : (source : List ℕ) (message : Message) (before after : List ℕ) (w : Try ℕ) (r : Refusal) → WriteMessagePromise source message before after w → w ≡ Err r
+      → ForMessageWriting (number_of w) × (result_unwrap_or w 0 ≡ 0) × (after ≡ before)
+  pub answer_mailslot : (image : List ℕ) (caller : Caller) (message before after : List ℕ) (a : Try Answered) (r : Refusal) → AnswerMailslotPromise image caller message before after a
+      → a ≡ Err r
+      → ForMailslot (number_of a) × (answer_length a ≡ 0) × (answer_context a ≡ 0) × (answer_form a ≡ None) × (after ≡ before)
   -- it refuses nothing either, and gives each refusal a number of the documents
   pub number_of : (r : Refusal) (n : ℕ) → NumberOfPromise r n → ForAny n

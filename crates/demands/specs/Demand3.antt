@@ -1,21 +1,18 @@
 -- Demand 3: of every answer, each name of the reply, walked from where the layout places it, is read back as exactly its labels, with few pointers;
 -- and `read_reply` accepts the reply, and has each name from that octet, with its length, and counts as the walk does. By what the calls ensure, and the definitions.
-use Rattle.std.specs.Prelude.{◌≡◌, List, [], ℕ, ◌<◌, ◌≤◌, min, length, get_or}
-use Rattle.std.proofs.Math.Option.{Option, none, some}
-use Rattle.answers.specs.declared.Form.{Form}
+use Rattle.std.specs.Prelude.{◌≡◌, List, [], ℕ, ◌<◌, ◌≤◌, min, length, get_or, Ok, Option, None, Some}
+use Rattle.answers.specs.{declared.Form.Form, Try.Try}
 use Rattle.answers.specs.declared.Form.TheVariants.{Nt40, Response, Ex}
 use Rattle.names.specs.{Walk.WalkedName, Walk.walk, WalkRelation.Walks}
 use Rattle.octets.specs.Label as label
 use Rattle.reader.specs.ReaderWalks.{written_out}
 use Rattle.reader_forms.specs.{declared.reading.Fields.Fields, declared.reading.Reading.Reading, Reading.no_name, Reading.ReadReplyPromise, Settled.names_read}
 use Rattle.reader_forms.specs.Settled.{last_read}
-use Rattle.reader_forms.specs.declared.reading.Reading.TheVariants as reading
 use Rattle.reader_names.specs.{declared.NameAt.NameAt, Name.name_as}
 use Rattle.reader_text.specs.{declared.NameText.NameText, Text.text_given, Text.NameTextPromise}
-use Rattle.reader_text.specs.declared.TextLength.TheVariants.{Octets}
 use Rattle.reply.specs.Reply.{Reply, response_names, ex_names}
 use Rattle.demands.specs.Derivation.{ReplyIs, EveryAnswerOver, EveryReply}
-use Rattle.demands.specs.Places.{name_start_lem, last_start}
+use Rattle.demands.specs.Places.{name_start, last_start}
 
 -- the own octets of the names of a form, in their places: NT40 has no names
 abbrev pub names_of : Form → Reply → List (List ℕ)
@@ -25,14 +22,14 @@ names_of Ex r = ex_names r
 
 -- name 8, of the EX form alone, where it is written
 abbrev pub last_of : Form → Reply → Option (List ℕ)
-last_of Nt40 r = none
-last_of Response r = none
+last_of Nt40 r = None
+last_of Response r = None
 last_of Ex r = r.next_site_lem
 
 -- one name, at place k, with its first octet at `start` and its own octets `text`: the walk from there
 pub record NameWalked (s : List ℕ) (start k : ℕ) (text : List ℕ) : Type 0 where
   pub name : WalkedName
-  pub found : walk s start ≡ some name
+  pub found : walk s start ≡ Some name
   pub reads : name.labels ≡ label.labels text
   pub joins : label.joined name.labels ≡ text
   pub few : name.pointers ≤ min k (length (label.labels text))
@@ -47,22 +44,22 @@ pub record NameReported (s : List ℕ) (start k : ℕ) (text : List ℕ) (given 
 
 -- this holds of a name and of what is given for it, which is there exactly where the name is written
 abbrev pub WhereWritten : {A : Type 0} → (List ℕ → A → Type 0) → Option (List ℕ) → Option A → Type 0
-WhereWritten P none none = Unit {0}
-WhereWritten P none (some n) = ⊥
-WhereWritten P (some text) none = ⊥
-WhereWritten P (some text) (some n) = P text n
+WhereWritten P None None = Unit {0}
+WhereWritten P None (Some n) = ⊥
+WhereWritten P (Some text) None = ⊥
+WhereWritten P (Some text) (Some n) = P text n
 
 -- a reading of a reply r in its form, whose octets are s: it accepts the reply with its length, and every name is walked
-pub record ReadingWalked (form : Form) (v : ℕ) (r : Reply) (s : List ℕ) (len : ℕ) (given : Reading) : Type 0 where
+pub record ReadingWalked (form : Form) (v : ℕ) (r : Reply) (s : List ℕ) (len : ℕ) (given : Try Reading) : Type 0 where
   pub read : Fields
-  pub accepted : given ≡ reading.Read len read
+  pub accepted : given ≡ Ok (record { length = len; fields = read })
   pub many : length (names_read read) ≡ length (names_of form r)
-  pub names : (k : ℕ) → k < length (names_of form r) → NameReported s (name_start_lem form s k) k (get_or (names_of form r) k []) (get_or (names_read read) k (name_as no_name))
+  pub names : (k : ℕ) → k < length (names_of form r) → NameReported s (name_start form s k) k (get_or (names_of form r) k []) (get_or (names_read read) k (name_as no_name))
   pub last : WhereWritten (NameReported s (last_start v s) 8) (last_of form r) (last_read read)
 
 -- whatever `read_reply` returns of the octets, told the form and v
 abbrev pub ReadsWalked : Form → ℕ → Reply → List ℕ → ℕ → Type 0
-ReadsWalked form v r s len = (given : Reading) → ReadReplyPromise s form v given → ReadingWalked form v r s len given
+ReadsWalked form v r s len = (given : Try Reading) → ReadReplyPromise s form v given → ReadingWalked form v r s len given
 
 abbrev pub Demand3Over : Type 0
 Demand3Over = EveryAnswerOver (ReplyIs (λ form v r s. ReadsWalked form v r s (length s)))
@@ -75,20 +72,20 @@ Demand3Calls = EveryReply ReadsWalked
 -- reading is the walk's from its first offset: the length of its labels joined by dots, its count, and the octets that `name_text` gives from there.
 pub record NameIsWalk (s : List ℕ) (n : NameAt) : Type 0 where
   pub name : WalkedName
-  pub found : walk s n.start ≡ some name
+  pub found : walk s n.start ≡ Some name
   pub sized : n.len ≡ length (label.joined name.labels)
   pub counted : n.pointers ≡ name.pointers
-  pub told : (t : NameText) → NameTextPromise s n.start t → (t.len ≡ Octets n.len) × (text_given t ≡ label.joined name.labels)
+  pub told : (t : NameText) → NameTextPromise s n.start t → (t.len ≡ Ok n.len) × (text_given t ≡ label.joined name.labels)
 
 abbrev pub ReadingWalks : Type 0
 ReadingWalks =
     (s : List ℕ) (form : Form) (v len : ℕ) (read : Fields)
-    → ReadReplyPromise s form v (reading.Read len read)
-    → ((k : ℕ) → k < length (names_read read) → NameIsWalk s (get_or (names_read read) k (name_as no_name))) × ((n : NameAt) → last_read read ≡ some n → NameIsWalk s n)
+    → ReadReplyPromise s form v (Ok (record { length = len; fields = read }))
+    → ((k : ℕ) → k < length (names_read read) → NameIsWalk s (get_or (names_read read) k (name_as no_name))) × ((n : NameAt) → last_read read ≡ Some n → NameIsWalk s n)
 
 -- and the other half: every name of the walk that keeps to the reader's two limits `name_text` gives
 abbrev pub WalkTold : Type 0
 WalkTold =
     (s : List ℕ) (at c next : ℕ) (ls : List (List ℕ)) (t : NameText)
     → Walks s at at ls c next → length (written_out ls) ≤ 255 → c ≤ 16 → NameTextPromise s at t
-    → (t.len ≡ Octets (length (label.joined ls))) × (text_given t ≡ label.joined ls)
+    → (t.len ≡ Ok (length (label.joined ls))) × (text_given t ≡ label.joined ls)

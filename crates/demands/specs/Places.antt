@@ -30,9 +30,9 @@ names_start Response s = text_end s (text_end s (text_end s 2)) + guid_size + le
 names_start Ex s = 2 + 2 + 4 + guid_size
 
 -- the first octet of the name at a place: the first name's, or where the field of the name before it ends
-unfoldable pub name_start_lem : Form → List ℕ → ℕ → ℕ
-name_start_lem form s zero = names_start form s
-name_start_lem form s (suc k) = field_end s (name_start_lem form s k)
+unfoldable pub name_start : Form → List ℕ → ℕ → ℕ
+name_start form s zero = names_start form s
+name_start form s (suc k) = field_end s (name_start form s k)
 
 -- the address of an EX, if v has 8: an octet for its size, and as many octets
 abbrev pub address_size : ℕ → ℕ
@@ -40,4 +40,4 @@ address_size v = cond (has v netlogon_nt_version_5ex_with_ip) (1 + DcSockAddrSiz
 
 -- the first octet of name 8, which EX alone may have: after the names at places 0 to 7 and the address
 abbrev pub last_start : ℕ → List ℕ → ℕ
-last_start v s = name_start_lem Ex s 8 + address_size v
+last_start v s = name_start Ex s 8 + address_size v

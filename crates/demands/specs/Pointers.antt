@@ -1,7 +1,6 @@
 -- What pointers aim at. The tails that a name may point to are those that the names before it left: each starts at an offset of 14 bits, and
 -- none is written twice. So of the tails that fit, the first is the only one, and the lowest.
-use Rattle.std.specs.Prelude.{◌≡◌, true, not, ◌||◌, List, [], ℕ, ◌≤◌, leb, ltb, length, take}
-use Rattle.std.proofs.Math.Option.{some}
+use Rattle.std.specs.Prelude.{◌≡◌, true, not, ◌||◌, List, [], ℕ, ◌≤◌, leb, ltb, length, take, Some}
 use Rattle.answers.specs.declared.Form.{Form}
 use Rattle.answers.specs.declared.Form.TheVariants.{Nt40, Response, Ex}
 use Rattle.names.specs.Name.{pointer_limit, Tail, write_names}
@@ -25,7 +24,7 @@ pub record Fit (tails : List Tail) : Type 0 where
   pub low : all (λ t. ltb t.offset pointer_limit) tails ≡ true
   pub once : unique (λ t u. same t.text u.text) tails ≡ true
   pub lowest : (text : List ℕ) (t : Tail)
-      → first (λ u. same u.text text) tails ≡ some t → all (λ u. not (same u.text text) || leb t.offset u.offset) tails ≡ true
+      → first (λ u. same u.text text) tails ≡ Some t → all (λ u. not (same u.text text) || leb t.offset u.offset) tails ≡ true
 
 -- a reply r in its form, whose every pointer fits
 abbrev pub PointersFitIn : Form → ℕ → Reply → List ℕ → Type 0

@@ -1,13 +1,11 @@
 -- The reply law: of every answer, the reader, given the reply's octets, its form and the version bits asked, accepts the reply with its length
 -- and gives back the texts and numbers that went in.
-use Rattle.std.specs.Prelude.{◌≡◌, Bool, true, false, List, map, ℕ, length}
-use Rattle.std.proofs.Math.Option
-use Rattle.std.proofs.Math.Option.{Option, none, some}
-use Rattle.answers.specs.{declared.Form.Form, Try.Try, Try.good}
+use Rattle.std.specs.Prelude.{◌≡◌, Bool, true, false, List, map, ℕ, length, Ok, Option, None, Some, option_map}
+use Rattle.answers.specs.{declared.Form.Form, Try.Try}
 use Rattle.answers.specs.declared.Form.TheVariants.{Nt40, Response, Ex}
 use Rattle.answers.specs.Wire.{nt40_version, response_version, ex_version, ex_version_with_next_site}
 use Rattle.unicode_text.specs.{Utf8.is_utf8, Utf16.utf16}
-use Rattle.reader.specs.Field.{stretch_of}
+use Rattle.octets.specs.Stretch.{stretch_of}
 use Rattle.reader.specs.Reader.{NameRead, Nt40Fields, ResponseFields, ExFields, Fields, nt40, response, ex, read_in, read_length}
 use Rattle.reply.specs.Reply.{Reply, response_names, ex_names}
 use Rattle.demands.specs.Derivation.{ReplyIs, EveryAnswerOver, EveryAnswer}
@@ -23,13 +21,13 @@ pub record TextBack (text octets : List ℕ) : Type 0 where
 
 -- the address, exactly where it was written
 abbrev pub address_written : Reply → Bool → Option (List ℕ)
-address_written r true = some r.ipv4
-address_written r false = none
+address_written r true = Some r.ipv4
+address_written r false = None
 
 -- the version of an EX, by name 8
 abbrev pub version_written : Option (List ℕ) → ℕ
-version_written none = ex_version
-version_written (some text) = ex_version_with_next_site
+version_written None = ex_version
+version_written (Some text) = ex_version_with_next_site
 
 pub record Nt40Back (r : Reply) (s : List ℕ) (f : Nt40Fields) : Type 0 where
   pub opcode : f.opcode ≡ r.opcode
@@ -54,15 +52,15 @@ pub record ExBack (r : Reply) (s : List ℕ) (f : ExFields) : Type 0 where
   pub flags : f.flags ≡ r.flags
   pub guid : stretch_of s f.guid ≡ r.guid
   pub names : map text_of f.names ≡ ex_names r
-  pub ipv4 : Option.map (stretch_of s) f.ipv4 ≡ address_written r r.with_address_lem
-  pub next_site_lem : Option.map text_of f.next_site_lem ≡ r.next_site_lem
+  pub ipv4 : option_map (stretch_of s) f.ipv4 ≡ address_written r r.with_address_lem
+  pub next_site_lem : option_map text_of f.next_site_lem ≡ r.next_site_lem
   pub version : f.version ≡ version_written r.next_site_lem
 
 -- what is read of a reply r in its form, whose octets are s, gives back what went in
 abbrev pub GivenBack : Form → Reply → List ℕ → Try Fields → Type 0
-GivenBack Nt40 r s read = (f : Nt40Fields) × (read ≡ good (nt40 f)) × Nt40Back r s f
-GivenBack Response r s read = (f : ResponseFields) × (read ≡ good (response f)) × ResponseBack r s f
-GivenBack Ex r s read = (f : ExFields) × (read ≡ good (ex f)) × ExBack r s f
+GivenBack Nt40 r s read = (f : Nt40Fields) × (read ≡ Ok (nt40 f)) × Nt40Back r s f
+GivenBack Response r s read = (f : ResponseFields) × (read ≡ Ok (response f)) × ResponseBack r s f
+GivenBack Ex r s read = (f : ExFields) × (read ≡ Ok (ex f)) × ExBack r s f
 
 -- a reply r in its form, whose octets are s, read back
 abbrev pub ReadBack : Form → ℕ → Reply → List ℕ → Type 0

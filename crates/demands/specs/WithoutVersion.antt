@@ -1,8 +1,7 @@
 -- Document 02, #101: a filter without NtVer gets what its clauses get with version 1, and where that is an answer its form is NT40, whatever the roles.
-use Rattle.std.specs.Prelude.{◌≡◌, List, [], ◌∷◌, ℕ}
-use Rattle.std.proofs.Math.Option.{none, some}
+use Rattle.std.specs.Prelude.{◌≡◌, List, [], ◌∷◌, ℕ, Ok, None, Some}
 use Rattle.answers.specs.declared.Form.TheVariants.{Nt40}
-use Rattle.answers.specs.Try.{good, ◌>>=◌}
+use Rattle.answers.specs.Try.{◌>>=◌}
 use Rattle.filter.specs.{declared.request.ClauseName.ClauseName, declared.request.Request.Request, Request.clause, Request.octets_of}
 use Rattle.filter.specs.declared.request.ClauseName.TheVariants.{NtVer}
 use Rattle.filter_read.specs.{Taken.request_in, Value.ping_in, Value.ping_from}
@@ -18,7 +17,7 @@ version_one = 1 ∷ 0 ∷ 0 ∷ 0 ∷ []
 abbrev pub WithoutVersion : Type 0
 WithoutVersion =
     (f g : List ℕ) (q r : Request)
-    → request_in f ≡ good q → octets_of f (clause q NtVer) ≡ none → octets_of g (clause r NtVer) ≡ some version_one
+    → request_in f ≡ Ok q → octets_of f (clause q NtVer) ≡ None → octets_of g (clause r NtVer) ≡ Some version_one
     → ((name : ClauseName) → (name ≡ NtVer → ⊥) → octets_of f (clause q name) ≡ octets_of g (clause r name))
     → (ping_from f ≡ ping_in g r)
     × ((image : List ℕ) (caller : Caller) (room : ℕ) → answer_to image caller f room ≡ (table_in image >>= λ t. ping_in g r >>= λ p. answer_over t caller p room))
@@ -26,4 +25,4 @@ WithoutVersion =
 abbrev pub WithoutVersionNt40 : Type 0
 WithoutVersionNt40 =
     (image : List ℕ) (caller : Caller) (filter : List ℕ) (room : ℕ) (r : Request) (a : Outcome)
-    → request_in filter ≡ good r → octets_of filter (clause r NtVer) ≡ none → answer_to image caller filter room ≡ good a → a.form ≡ Nt40
+    → request_in filter ≡ Ok r → octets_of filter (clause r NtVer) ≡ None → answer_to image caller filter room ≡ Ok a → a.form ≡ Nt40

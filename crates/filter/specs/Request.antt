@@ -1,9 +1,7 @@
 -- Document 01, "The filter": the eight clause names, and a request's clause for each.
-use Rattle.std.specs.Prelude.{Bool, true, false, List, [], ◌∷◌, ℕ}
-use Rattle.std.proofs.Math.Option.{Option, none, some}
-use Rattle.octets.specs.Lists.{cut}
-use Rattle.filter.specs.{declared.request.Clause.Clause, declared.request.ClauseName.ClauseName, declared.request.Request.Request}
-use Rattle.filter.specs.declared.request.Clause.TheVariants.{Absent, Present}
+use Rattle.std.specs.Prelude.{List, [], ◌∷◌, ℕ, Option, option_map}
+use Rattle.octets.specs.{declared.part.Stretch.Stretch, Stretch.stretch_of}
+use Rattle.filter.specs.{declared.request.ClauseName.ClauseName, declared.request.Request.Request}
 use Rattle.filter.specs.declared.request.ClauseName.TheVariants.{DnsDomain, Host, DnsHostName, User, Aac, DomainSid, DomainGuid, NtVer}
 
 -- the clause names, in document 01's order
@@ -20,6 +18,10 @@ spelling Aac = 0x41 ∷ 0x41 ∷ 0x43 ∷ []
 spelling DomainSid = 0x44 ∷ 0x6F ∷ 0x6D ∷ 0x61 ∷ 0x69 ∷ 0x6E ∷ 0x53 ∷ 0x69 ∷ 0x64 ∷ []
 spelling DomainGuid = 0x44 ∷ 0x6F ∷ 0x6D ∷ 0x61 ∷ 0x69 ∷ 0x6E ∷ 0x47 ∷ 0x75 ∷ 0x69 ∷ 0x64 ∷ []
 spelling NtVer = 0x4E ∷ 0x74 ∷ 0x56 ∷ 0x65 ∷ 0x72 ∷ []
+
+-- a clause is absent, or present with its stretch of octets; present and empty is present
+abbrev pub Clause : Type 0
+Clause = Option Stretch
 
 -- the request whose clause for each name is given
 abbrev pub request_by : (ClauseName → Clause) → Request
@@ -45,11 +47,6 @@ clause r DomainSid = r.domain_sid
 clause r DomainGuid = r.domain_guid
 clause r NtVer = r.nt_ver
 
-abbrev pub is_present : Clause → Bool
-is_present Absent = false
-is_present (Present start len) = true
-
 -- the octets of a clause: those of its stretch that lie in the source
 abbrev pub octets_of : List ℕ → Clause → Option (List ℕ)
-octets_of s Absent = none
-octets_of s (Present start len) = some (cut s start len)
+octets_of s c = option_map (stretch_of s) c

@@ -1,67 +1,128 @@
-// The clauses of a filter as numbers in an array that is lent: a request would be copied with every clause.
-ghost use Rattle.std.specs.Prelude.{◌≡◌, ◌<◌};
-ghost use Rattle.filter_gather.specs.Internal.Seen.{packed, clause_seen, decoded};
+// The clauses of a filter that were read so far.
+ghost use Rattle.std.specs.Prelude.{◌≡◌, ◌≤◌, ◌<◌, length};
+ghost use Rattle.filter.specs.Request.{clause};
+ghost use Rattle.filter_position.specs.Filter.{filter_limit};
+ghost use Rattle.filter_position.specs.Internal.Position.{ClauseInside};
+ghost use Rattle.filter_gather.specs.Internal.Gather.{Gathered, nothing, added};
+ghost use Rattle.filter_gather.specs.Internal.Seen.{clause_count, packed, clause_seen, place_of, decoded};
 
-use filter::request::{Clause, Request};
+use crate::letters::place_spelled;
+use filter::request::{CLAUSE_NAMES, ClauseName, Request};
+use filter_position::position::RawClause;
+use octets::part::Stretch;
+use std::marker::Model;
 
-// The place of each clause name: 0 where the clause is absent, else its start times 65,536 and its length. No value starts at 0, as
-// its tags stand before it.
-pub const DNS_DOMAIN: usize = 0;
+pub const CLAUSE_COUNT: usize = CLAUSE_NAMES.len();
 
-pub const HOST: usize = 1;
+// The first clause of each name, whether one was of another name, and whether one was there before. A clause stands as one number at
+// the place of its name: 0 where it is absent, else its start times 65,536 and its length. No value starts at 0, as its tags stand
+// before it. A request here, of stretches in place of numbers, took six times as long: it would be copied with every clause.
+#[derive(Drop)]
+pub struct SeenClauses {
+    clauses: [u32; CLAUSE_COUNT],
+    unknown: bool,
+    duplicate: bool,
+}
 
-pub const DNS_HOST_NAME: usize = 2;
+impl Model for SeenClauses {
+    ghost Value = { Gathered };
 
-pub const USER: usize = 3;
+    ghost view = { λ g. decoded g.clauses g.unknown g.duplicate };
 
-pub const AAC: usize = 4;
-
-pub const DOMAIN_SID: usize = 5;
-
-pub const DOMAIN_GUID: usize = 6;
-
-pub const NT_VER: usize = 7;
-
-// Where 1 says that a clause was of another name, and that one was there before.
-pub const UNKNOWN: usize = 8;
-
-pub const DUPLICATE: usize = 9;
-
-pub const SEEN_COUNT: usize = 10;
+    ghost invariant = { λ g. length g.clauses ≡ clause_count };
+}
 
 // A stretch as one number.
-pub fn pack(start: usize, len: usize) -> u32
-    requires { (start < 65536) × (len < 65536) }
-    ensures { result ≡ packed start len }
+fn pack(stretch: Stretch) -> u32
+    requires { (stretch.start < 65536) × (stretch.len < 65536) }
+    ensures { result ≡ packed stretch }
 {
-    (65536 * start + len) as u32
+    (65536 * stretch.start + stretch.len) as u32
 }
 
 // A clause as it was gathered.
-pub fn clause_seen(x: u32) -> Clause
+fn clause_seen(x: u32) -> Option<Stretch>
     ensures { result ≡ clause_seen x }
 {
     if x == 0 {
-        return Clause::Absent;
+        return None;
     }
-    Clause::Present {
+    Some(Stretch {
         start: (x / 65536) as usize,
         len: (x % 65536) as usize,
-    }
+    })
 }
 
-// The request that was gathered.
-pub fn request_seen(seen: &[u32; SEEN_COUNT]) -> Request
-    ensures { result ≡ (decoded seen.now).request }
+// The place of a clause name.
+fn place_of(name: ClauseName) -> usize
+    ensures { result ≡ place_of name }
 {
-    Request {
-        dns_domain: clause_seen(seen[DNS_DOMAIN]),
-        host: clause_seen(seen[HOST]),
-        dns_host_name: clause_seen(seen[DNS_HOST_NAME]),
-        user: clause_seen(seen[USER]),
-        aac: clause_seen(seen[AAC]),
-        domain_sid: clause_seen(seen[DOMAIN_SID]),
-        domain_guid: clause_seen(seen[DOMAIN_GUID]),
-        nt_ver: clause_seen(seen[NT_VER]),
+    name as usize
+}
+
+impl SeenClauses {
+    // None was read.
+    pub fn new() -> SeenClauses
+        ensures { result ≡ nothing }
+    {
+        SeenClauses {
+            clauses: [0; CLAUSE_COUNT],
+            unknown: false,
+            duplicate: false,
+        }
+    }
+
+    // One more clause: of another name, of a name that is there already, or the first of its name.
+    pub fn add(&mut self, s: &[u8], clause: RawClause)
+        requires { (length s.now ≤ filter_limit) × ClauseInside (length s.now) clause }
+        ensures { self.new ≡ added s.now self.old clause }
+    {
+        let place = place_spelled(s, clause.name);
+        if CLAUSE_COUNT <= place {
+            self.unknown = true;
+            return;
+        }
+        if self.clauses[place] != 0 {
+            self.duplicate = true;
+            return;
+        }
+        self.clauses[place] = pack(clause.value);
+    }
+
+    // Whether a clause was of another name.
+    pub fn has_unknown(&self) -> bool
+        ensures { result ≡ self.now.unknown }
+    {
+        self.unknown
+    }
+
+    // Whether a clause was of a name that was there before.
+    pub fn has_duplicate(&self) -> bool
+        ensures { result ≡ self.now.duplicate }
+    {
+        self.duplicate
+    }
+
+    // The clause of one name.
+    pub fn clause(&self, name: ClauseName) -> Option<Stretch>
+        ensures { result ≡ clause self.now.request name }
+    {
+        clause_seen(self.clauses[place_of(name)])
+    }
+
+    // The request that was gathered.
+    pub fn request(&self) -> Request
+        ensures { result ≡ self.now.request }
+    {
+        Request {
+            dns_domain: self.clause(ClauseName::DnsDomain),
+            host: self.clause(ClauseName::Host),
+            dns_host_name: self.clause(ClauseName::DnsHostName),
+            user: self.clause(ClauseName::User),
+            aac: self.clause(ClauseName::Aac),
+            domain_sid: self.clause(ClauseName::DomainSid),
+            domain_guid: self.clause(ClauseName::DomainGuid),
+            nt_ver: self.clause(ClauseName::NtVer),
+        }
     }
 }

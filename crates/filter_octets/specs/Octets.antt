@@ -1,7 +1,6 @@
 -- Document 01, "The filter": the octets of a filter that is written.
-use Rattle.std.specs.Prelude.{cond, ℕ, ltb, length}
+use Rattle.std.specs.Prelude.{cond, ℕ, ltb, length, Option, None, Some}
 use mathlib.Core.List.{List, [], ◌∷◌, ◌++◌, flat_map}
-use Rattle.std.proofs.Math.Option.{Option, none, some}
 use Rattle.octets.specs.Number.{big_octets}
 use Rattle.filter.specs.{declared.request.ClauseName.ClauseName, declared.request.Request.Request}
 use Rattle.filter_position.specs.Filter.{short_limit, one_after, two_after, and_tag, equality_tag, string_tag}
@@ -16,8 +15,8 @@ element tag contents = (tag ∷ length_octets (length contents)) ++ contents
 
 -- the equality of a clause that is present
 abbrev pub equality_for : ClauseName → Option (List ℕ) → List ℕ
-equality_for name none = []
-equality_for name (some value) = element equality_tag (element string_tag (spelling name) ++ element string_tag value)
+equality_for name None = []
+equality_for name (Some value) = element equality_tag (element string_tag (spelling name) ++ element string_tag value)
 
 -- the present clauses, whose octets lie in the source, in document 01's order inside one AND
 unfoldable pub filter_octets : List ℕ → Request → List ℕ

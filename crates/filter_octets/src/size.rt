@@ -4,9 +4,9 @@ ghost use Rattle.filter.specs.Request.{clause_names, spelling, octets_of};
 ghost use Rattle.filter_octets.specs.Octets.{equality_for};
 ghost use Rattle.filter_octets.specs.Internal.Size.{head_size, element_size, contents};
 
-use filter::request::{CLAUSE_COUNT, Clause, ClauseName, Request, clause_name_at, spelling_of};
+use filter::request::{CLAUSE_NAMES, ClauseName, Request, spelling_of};
 use filter_position::position::SHORT_LIMIT;
-use octets::part::part;
+use octets::part::Stretch;
 
 // Lengths below this take one octet.
 pub const ONE_OCTET_LIMIT: usize = SHORT_LIMIT as usize;
@@ -19,7 +19,7 @@ pub fn name_size(name: ClauseName) -> usize
     ensures value { result ≡ length (spelling name) }
     ensures upper_bound { result ≤ 11 }
 {
-    spelling_of(name).len
+    spelling_of(name).len()
 }
 
 // How many octets a tag and the shortest length of n octets take.
@@ -46,13 +46,13 @@ pub fn element_size(n: usize) -> usize
 }
 
 // How many octets the equality of a clause takes.
-fn equality_size(source: &[u8], name: ClauseName, clause: Clause) -> usize
+fn equality_size(source: &[u8], name: ClauseName, clause: Option<Stretch>) -> usize
     ensures { result ≡ length (equality_for name (octets_of source.now clause)) }
 {
-    let Clause::Present { start, len } = clause else {
+    let Some(stretch) = clause else {
         return 0;
     };
-    let value = part(source, start, len);
+    let value = stretch.of(source);
     let inside = element_size(name_size(name)) + element_size(value.len());
     element_size(inside)
 }
@@ -76,11 +76,8 @@ pub fn contents_size(source: &[u8], request: Request) -> usize
     ensures { result ≡ min (length (contents source.now request clause_names)) 4096 }
 {
     let mut size = 0;
-    let mut i = 0;
-    while i < CLAUSE_COUNT {
-        let name = clause_name_at(i);
+    for name in CLAUSE_NAMES {
         size = capped_sum(size, equality_size(source, name, request.clause(name)));
-        i += 1;
     }
     size
 }

@@ -1,11 +1,12 @@
 // Where the elements of a filter lie: document 01, "The filter".
-ghost use Rattle.std.specs.Prelude.{◌≡◌, ◌+◌, ◌≤◌, ◌<◌, length};
+ghost use Rattle.std.specs.Prelude.{◌≡◌, ◌+◌, ◌≤◌, ◌<◌, length, IfSome};
 ghost use Rattle.octets.specs.Lists.{cut};
 ghost use Rattle.octets.specs.Number.{big};
 ghost use Rattle.filter_position.specs.Filter.{element_at, equality};
-ghost use Rattle.filter_position.specs.Internal.Position.{length_at, LengthWithin, tagged_as, TaggedWithin, equality_as, EqualityWithin, filter_at, ReadWithin, Inside};
+ghost use Rattle.filter_position.specs.Internal.Position.{contents_at, ContentsWithin, ElementWithin, ClauseInside, filter_at, ReadWithin, Inside};
 
 use octets::number::big_u16_at;
+use octets::part::Stretch;
 
 // The most octets that a filter may have.
 pub const FILTER_LIMIT: usize = 2048;
@@ -24,59 +25,40 @@ pub const EQUALITY_TAG: u8 = 0xA3;
 
 pub const STRING_TAG: u8 = 0x04;
 
-// A clause as it stands in a filter: the stretches of its name and its value.
-#[derive(Drop)]
+// A clause as it stands in a filter: its name and its value.
+#[derive(Clone, Copy)]
 pub struct RawClause {
-    pub name_start: usize,
-    pub name_len: usize,
-    pub start: usize,
-    pub len: usize,
+    pub name: Stretch,
+    pub value: Stretch,
 }
 
 // A position in a filter: what is still to be read lies from `at` to the end of the element around it.
-#[derive(Drop)]
+#[derive(Clone, Copy)]
 pub struct Position {
     pub at: usize,
     pub end: usize,
 }
 
-// The length of an element: where its contents start, and how many octets they are.
-#[derive(Drop)]
-pub enum ElementLength {
-    Wrong,
-    Of { start: usize, len: usize },
-}
-
-// An element: its tag, its contents, and what comes after it.
-#[derive(Drop)]
-pub enum Tagged {
-    Wrong,
-    Element {
-        tag: u8,
-        inside: Position,
-        rest: Position,
-    },
-}
-
-// A clause, where a name and a value fill an equality.
-#[derive(Drop)]
-pub enum Equality {
-    Wrong,
-    Clause(RawClause),
+// An element: its tag, where its contents start, and where what follows it does.
+#[derive(Clone, Copy)]
+pub struct Element {
+    pub tag: u8,
+    pub start: usize,
+    pub next: usize,
 }
 
 // A filter is a clause, or an AND of filters that lie at a position.
-#[derive(Drop)]
+#[derive(Clone, Copy)]
 pub enum Filter {
     Clause(RawClause),
     And(Position),
 }
 
 // A filter that was read, and the position where the next one begins.
-#[derive(Drop)]
-pub enum FilterRead {
-    Wrong,
-    Good { filter: Filter, rest: Position },
+#[derive(Clone, Copy)]
+pub struct FilterRead {
+    pub filter: Filter,
+    pub rest: Position,
 }
 
 // The two octets of a longer length, the first of them most significant.
@@ -88,128 +70,123 @@ fn two_octets(s: &[u8], at: usize) -> usize
     big_u16_at(s, at) as usize
 }
 
-// The length of the element at `at`: one octet below 80h, or 81h and one, or 82h and two.
-fn length_at(s: &[u8], at: usize, end: usize) -> ElementLength
+// The contents of the element at `at`, by its length: one octet below 80h, or 81h and one, or 82h and two.
+fn contents_at(s: &[u8], at: usize, end: usize) -> Option<Stretch>
     requires { (at + 2 ≤ end) × (end ≤ length s.now) }
-    ensures value { result ≡ length_at s.now at end }
-    ensures length_within { LengthWithin at end result }
+    ensures value { result ≡ contents_at s.now at end }
+    ensures contents_within { IfSome result (ContentsWithin at end) }
 {
     let first = s[at + 1];
     if first < SHORT_LIMIT {
-        return ElementLength::Of {
+        return Some(Stretch {
             start: at + 2,
             len: first as usize,
-        };
+        });
     }
     if first == ONE_AFTER {
         if end - at < 3 {
-            return ElementLength::Wrong;
+            return None;
         }
-        return ElementLength::Of {
+        return Some(Stretch {
             start: at + 3,
             len: s[at + 2] as usize,
-        };
+        });
     }
     if first != TWO_AFTER {
-        return ElementLength::Wrong;
+        return None;
     }
     if end - at < 4 {
-        return ElementLength::Wrong;
+        return None;
     }
-    ElementLength::Of {
+    Some(Stretch {
         start: at + 4,
         len: two_octets(s, at + 2),
-    }
+    })
 }
 
 impl Position {
     // The element here, which ends within what it stands in.
-    fn element(self, s: &[u8]) -> Tagged
+    fn element(self, s: &[u8]) -> Option<Element>
         requires { Inside (length s.now) self }
-        ensures value { result ≡ tagged_as self.end (element_at s.now self.at self.end) }
-        ensures tagged_within { TaggedWithin self result }
+        ensures value { result ≡ element_at s.now self.at self.end }
+        ensures element_within { IfSome result (ElementWithin self) }
     {
         let at = self.at;
         let end = self.end;
         if end - at < 2 {
-            return Tagged::Wrong;
+            return None;
         }
-        let ElementLength::Of { start, len } = length_at(s, at, end) else {
-            return Tagged::Wrong;
-        };
-        if end - start < len {
-            return Tagged::Wrong;
+        let contents = contents_at(s, at, end)?;
+        let start = contents.start;
+        if end - start < contents.len {
+            return None;
         }
-        let next = start + len;
-        Tagged::Element {
+        Some(Element {
             tag: s[at],
-            inside: Position {
-                at: start,
-                end: next,
-            },
-            rest: Position { at: next, end },
-        }
+            start,
+            next: start + contents.len,
+        })
     }
 
     // The clause of a name and a value that fill this stretch.
-    fn equality(self, s: &[u8]) -> Equality
+    fn equality(self, s: &[u8]) -> Option<RawClause>
         requires { Inside (length s.now) self }
-        ensures value { result ≡ equality_as (equality s.now self.at self.end) }
-        ensures equality_within { EqualityWithin self.end result }
+        ensures value { result ≡ equality s.now self.at self.end }
+        ensures clause_inside { IfSome result (ClauseInside self.end) }
     {
         let end = self.end;
-        let Tagged::Element { tag, inside, rest } = self.element(s) else {
-            return Equality::Wrong;
-        };
-        if tag != STRING_TAG {
-            return Equality::Wrong;
+        let name = self.element(s)?;
+        if name.tag != STRING_TAG {
+            return None;
         }
-        let Tagged::Element {
-            tag: value_tag,
-            inside: value,
-            rest: after,
-        } = rest.element(s)
-        else {
-            return Equality::Wrong;
-        };
-        if value_tag != STRING_TAG {
-            return Equality::Wrong;
+        let rest = Position { at: name.next, end };
+        let value = rest.element(s)?;
+        if value.tag != STRING_TAG {
+            return None;
         }
-        if after.at != end {
-            return Equality::Wrong;
+        if value.next != end {
+            return None;
         }
-        Equality::Clause(RawClause {
-            name_start: inside.at,
-            name_len: inside.end - inside.at,
-            start: value.at,
-            len: value.end - value.at,
+        Some(RawClause {
+            name: Stretch {
+                start: name.start,
+                len: name.next - name.start,
+            },
+            value: Stretch {
+                start: value.start,
+                len: value.next - value.start,
+            },
         })
     }
 
     // The filter here, and the position where the next one begins.
-    pub fn filter(self, s: &[u8]) -> FilterRead
+    pub fn filter(self, s: &[u8]) -> Option<FilterRead>
         requires { Inside (length s.now) self }
         ensures value { result ≡ filter_at s.now self.at self.end }
-        ensures read_within { ReadWithin self result }
+        ensures read_within { IfSome result (ReadWithin self) }
     {
-        let Tagged::Element { tag, inside, rest } = self.element(s) else {
-            return FilterRead::Wrong;
+        let element = self.element(s)?;
+        let inside = Position {
+            at: element.start,
+            end: element.next,
         };
-        if tag == EQUALITY_TAG {
-            let Equality::Clause(clause) = inside.equality(s) else {
-                return FilterRead::Wrong;
-            };
-            return FilterRead::Good {
+        let rest = Position {
+            at: element.next,
+            end: self.end,
+        };
+        if element.tag == EQUALITY_TAG {
+            let clause = inside.equality(s)?;
+            return Some(FilterRead {
                 filter: Filter::Clause(clause),
                 rest,
-            };
+            });
         }
-        if tag != AND_TAG {
-            return FilterRead::Wrong;
+        if element.tag != AND_TAG {
+            return None;
         }
-        FilterRead::Good {
+        Some(FilterRead {
             filter: Filter::And(inside),
             rest,
-        }
+        })
     }
 }

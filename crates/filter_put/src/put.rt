@@ -1,17 +1,16 @@
 // Writes the parts of a filter into a buffer that has the room.
-ghost use Rattle.std.specs.Prelude.{◌≡◌, ◌∷◌, ◌+◌, ◌≤◌, ◌<◌, length};
-ghost use Rattle.std.proofs.Math.Option.{some};
+ghost use Rattle.std.specs.Prelude.{◌≡◌, ◌∷◌, ◌+◌, ◌≤◌, ◌<◌, length, Some};
 ghost use Rattle.octets.specs.Buffer.{over};
 ghost use Rattle.filter_position.specs.Filter.{filter_limit, string_tag};
 ghost use Rattle.filter.specs.Request.{clause_names, spelling, octets_of};
 ghost use Rattle.filter_octets.specs.Octets.{length_octets, element, equality_for, filter_octets};
 ghost use Rattle.filter_octets.specs.Internal.Size.{head_size, element_size, contents};
 
-use filter::request::{CLAUSE_COUNT, Clause, ClauseName, Request, clause_name_at, spelling_of};
+use filter::request::{CLAUSE_NAMES, ClauseName, Request, spelling_of};
 use filter_octets::size::{ONE_OCTET_LIMIT, TWO_OCTETS_LIMIT, element_size, name_size};
 use filter_position::position::{AND_TAG, EQUALITY_TAG, ONE_AFTER, STRING_TAG, TWO_AFTER};
 use lent::put::put_octets_at;
-use octets::part::part;
+use octets::part::Stretch;
 
 // A tag and the shortest length of n octets.
 fn put_head(out: &mut [u8], tag: u8, n: usize) -> usize
@@ -51,10 +50,7 @@ fn put_name(out: &mut [u8], name: ClauseName) -> usize
     ensures value { result ≡ element_size (length (spelling name)) }
     ensures out_after { out.new ≡ over (element string_tag (spelling name)) out.old }
 {
-    let spelling = spelling_of(name);
-    let octets = spelling.octets;
-    let len = spelling.len;
-    put_string(out, part(&octets, 0, len))
+    put_string(out, spelling_of(name))
 }
 
 // The equality of a name and a value, whose contents are `size` octets.
@@ -62,7 +58,7 @@ fn put_pair(out: &mut [u8], name: ClauseName, value: &[u8], size: usize) -> usiz
     requires size_value { size ≡ element_size (length (spelling name)) + element_size (length value.now) }
     requires size_in_bounds { (element_size size ≤ length out.old) × (element_size size ≤ filter_limit) }
     ensures value { result ≡ element_size size }
-    ensures out_after { out.new ≡ over (equality_for name (some value.now)) out.old }
+    ensures out_after { out.new ≡ over (equality_for name (Some value.now)) out.old }
 {
     let name_at = put_head(out, EQUALITY_TAG, size);
     let value_at = name_at + put_name(&mut out[name_at..], name);
@@ -70,16 +66,16 @@ fn put_pair(out: &mut [u8], name: ClauseName, value: &[u8], size: usize) -> usiz
 }
 
 // The equality of a clause, where it is present.
-fn put_equality(out: &mut [u8], source: &[u8], name: ClauseName, clause: Clause) -> usize
+fn put_equality(out: &mut [u8], source: &[u8], name: ClauseName, clause: Option<Stretch>) -> usize
     requires clause_in_bounds { length (equality_for name (octets_of source.now clause)) ≤ length out.old }
     requires clause_len_bound { length (equality_for name (octets_of source.now clause)) ≤ filter_limit }
     ensures value { result ≡ length (equality_for name (octets_of source.now clause)) }
     ensures out_after { out.new ≡ over (equality_for name (octets_of source.now clause)) out.old }
 {
-    let Clause::Present { start, len } = clause else {
+    let Some(stretch) = clause else {
         return 0;
     };
-    let value = part(source, start, len);
+    let value = stretch.of(source);
     let size = element_size(name_size(name)) + element_size(value.len());
     put_pair(out, name, value, size)
 }
@@ -91,11 +87,8 @@ fn put_clauses(out: &mut [u8], source: &[u8], request: Request)
     ensures { out.new ≡ over (contents source.now request clause_names) out.old }
 {
     let mut at = 0;
-    let mut i = 0;
-    while i < CLAUSE_COUNT {
-        let name = clause_name_at(i);
+    for name in CLAUSE_NAMES {
         at += put_equality(&mut out[at..], source, name, request.clause(name));
-        i += 1;
     }
 }
 

@@ -1,21 +1,17 @@
 -- Document 01, "The filter" and "Answer numbers": taking a filter apart, with 5 to 8, each judged over the whole filter.
-use Rattle.std.specs.Prelude.{◌≡◌, Bool, not, List, ℕ, ltb, length}
-use Rattle.std.proofs.Math.Option.{Option, none, some}
+use Rattle.std.specs.Prelude.{◌≡◌, Bool, not, List, ℕ, ltb, length, Ok, Err, Option, None, Some, option_map}
 use Rattle.answers.specs.declared.Refusal.TheVariants.{FilterLength, FilterShape, UnknownClause, DuplicateClause}
-use Rattle.answers.specs.Refusal.{number}
-use Rattle.answers.specs.Try.{Try, refused, good, refused_if, number_of, value_of}
-use Rattle.octets.specs.Lists.{any, first, unique, cut}
+use Rattle.answers.specs.Try.{Try, refused_if, number_of, value_of}
+use Rattle.octets.specs.Lists.{any, first, unique}
+use Rattle.octets.specs.Stretch.{stretch_of}
 use Rattle.octets.specs.Text.{same_folded}
 use Rattle.filter_position.specs.{declared.position.RawClause.RawClause, Filter.filter_limit, Filter.clauses_of}
-use Rattle.filter.specs.{declared.request.Clause.Clause, declared.request.ClauseName.ClauseName, declared.request.Request.Request}
-use Rattle.filter.specs.declared.request.Clause.TheVariants.{Absent, Present}
-use Rattle.filter.specs.Request.{clause_names, spelling, request_by}
-use Rattle.filter_read.specs.declared.read.Taken.{Taken}
-use Rattle.filter_read.specs.declared.read.Taken.TheVariants as taken
+use Rattle.filter.specs.{declared.request.ClauseName.ClauseName, declared.request.Request.Request}
+use Rattle.filter.specs.Request.{Clause, clause_names, spelling, request_by}
 
 -- a clause's name as it stands in the filter
 abbrev pub name_octets : List ℕ → RawClause → List ℕ
-name_octets s f = cut s f.name_start f.name_len
+name_octets s f = stretch_of s f.name
 
 -- a clause is of this name, ASCII case ignored
 unfoldable pub is_named : List ℕ → ClauseName → RawClause → Bool
@@ -30,36 +26,21 @@ unfoldable pub has_duplicate : List ℕ → List RawClause → Bool
 has_duplicate s fs = not (unique (λ f g. same_folded (name_octets s f) (name_octets s g)) fs)
 
 abbrev pub as_clause : Option RawClause → Clause
-as_clause none = Absent
-as_clause (some f) = Present f.start f.len
+as_clause found = option_map (λ f. f.value) found
 
 -- the request that clauses make
 unfoldable pub request_of : List ℕ → List RawClause → Request
 request_of s fs = request_by (λ name. as_clause (first (is_named s name) fs))
 
 abbrev pub judged_clauses : List ℕ → Option (List RawClause) → Try Request
-judged_clauses s none = refused FilterShape
-judged_clauses s (some fs) = refused_if (has_unknown s fs) UnknownClause (refused_if (has_duplicate s fs) DuplicateClause (good (request_of s fs)))
+judged_clauses s None = Err FilterShape
+judged_clauses s (Some fs) = refused_if (has_unknown s fs) UnknownClause (refused_if (has_duplicate s fs) DuplicateClause (Ok (request_of s fs)))
 
 unfoldable pub request_in : List ℕ → Try Request
 request_in s = refused_if (ltb filter_limit (length s)) FilterLength (judged_clauses s (clauses_of s))
 
--- the answer of taking a filter apart, as the enum that the call returns
-abbrev pub taken_as : Try Request → Taken
-taken_as (refused r) = taken.Refused r
-taken_as (good q) = taken.Request q
-
--- document 01's number of it, and the request, none with a refusal
-abbrev pub taken_number : Taken → ℕ
-taken_number (taken.Request q) = 0
-taken_number (taken.Refused r) = number r
-
-abbrev pub taken_request : Taken → Option Request
-taken_request (taken.Request q) = some q
-taken_request (taken.Refused r) = none
-
--- what `take_apart` promises
-pub record TakeApartPromise (filter : List ℕ) (r : Taken) : Type 0 where
-  pub same : r ≡ taken_as (request_in filter)
-  pub numbered : taken_number r ≡ number_of (request_in filter)
-  pub given : taken_request r ≡ value_of (request_in filter)
+-- what `take_apart` promises: the answer, with its number and its request, none with a refusal
+pub record TakeApartPromise (filter : List ℕ) (r : Try Request) : Type 0 where
+  pub same : r ≡ request_in filter
+  pub numbered : number_of r ≡ number_of (request_in filter)
+  pub given : value_of r ≡ value_of (request_in filter)

@@ -1,35 +1,17 @@
 // A filter taken apart.
 ghost use Rattle.std.specs.Prelude.{◌≡◌};
-ghost use Rattle.filter_read.specs.Taken.{taken_number, TakeApartPromise};
+ghost use Rattle.filter_read.specs.Taken.{TakeApartPromise};
 
-use crate::clauses::{ClausesRead, read_clauses};
-use answers::{Refusal, number_of};
+use crate::clauses::read_clauses;
+use answers::Refusal;
 use filter::request::Request;
-use filter_gather::seen::{SEEN_COUNT, request_seen};
+use filter_gather::seen::SeenClauses;
 
-// What taking a filter apart gives: 0 with the request, or 5 to 8.
-#[derive(Clone, Copy)]
-pub enum Taken {
-    Request(Request),
-    Refused(Refusal),
-}
-
-// Document 01's number of it.
-pub fn taken_number(taken: Taken) -> u8
-    ensures { result ≡ taken_number taken }
-{
-    match taken {
-        Taken::Request(_) => 0,
-        Taken::Refused(refusal) => number_of(refusal),
-    }
-}
-
-pub fn take_apart(s: &[u8]) -> Taken
+// The request of a filter, or 5 to 8.
+pub fn take_apart(s: &[u8]) -> Result<Request, Refusal>
     ensures { TakeApartPromise s.now result }
 {
-    let mut seen = [0; SEEN_COUNT];
-    match read_clauses(s, &mut seen) {
-        ClausesRead::Gathered => Taken::Request(request_seen(&seen)),
-        ClausesRead::Refused(refusal) => Taken::Refused(refusal),
-    }
+    let mut seen = SeenClauses::new();
+    read_clauses(s, &mut seen)?;
+    Ok(seen.request())
 }

@@ -1,39 +1,55 @@
-// 9: clauses whose values are wrong.
-ghost use Rattle.std.specs.Prelude.{◌≡◌, ◌||◌};
+// 9: clauses whose values are wrong, and the numbers of those that are not.
+ghost use Rattle.std.specs.Prelude.{◌≡◌, false, ◌||◌, option_map, unwrap_or};
+ghost use Rattle.octets.specs.Number.{little};
+ghost use Rattle.filter.specs.Request.{octets_of};
 ghost use Rattle.filter_read.specs.Internal.WrongValue.{wrong_number, wrong_user};
 
-use filter::request::Clause;
-use octets::part::part;
+use octets::number::u32_at;
+use octets::part::Stretch;
 use unicode_text::user_name::is_user_name;
 
 // The octets of NtVer and of AAC.
 const NUMBER_WIDTH: usize = 4;
 
 // A clause that is present and is no number of four octets.
-fn is_wrong_number(s: &[u8], clause: Clause) -> bool
+fn is_wrong_number(s: &[u8], clause: Option<Stretch>) -> bool
     ensures { result ≡ wrong_number s.now clause }
 {
-    let Clause::Present { start, len } = clause else {
+    let Some(stretch) = clause else {
         return false;
     };
-    let value = part(s, start, len);
-    value.len() != NUMBER_WIDTH
+    stretch.of(s).len() != NUMBER_WIDTH
 }
 
 // A clause that is present and is no user's name: over 63 octets, not UTF-8, or holding a zero octet.
-fn is_wrong_user(s: &[u8], clause: Clause) -> bool
+fn is_wrong_user(s: &[u8], clause: Option<Stretch>) -> bool
     ensures { result ≡ wrong_user s.now clause }
 {
-    let Clause::Present { start, len } = clause else {
+    let Some(stretch) = clause else {
         return false;
     };
-    let value = part(s, start, len);
-    !is_user_name(value)
+    !is_user_name(stretch.of(s))
 }
 
 // 9, over the clauses whose values are judged.
-pub fn has_wrong_value(s: &[u8], nt_ver: Clause, aac: Clause, user: Clause) -> bool
+pub fn has_wrong_value(
+    s: &[u8],
+    nt_ver: Option<Stretch>,
+    aac: Option<Stretch>,
+    user: Option<Stretch>,
+) -> bool
     ensures { result ≡ (wrong_number s.now nt_ver || wrong_number s.now aac || wrong_user s.now user) }
 {
     is_wrong_number(s, nt_ver) | is_wrong_number(s, aac) | is_wrong_user(s, user)
+}
+
+// The number of a clause, once 9 was judged, or the one that stands for it where it is absent.
+pub fn number_or(s: &[u8], clause: Option<Stretch>, absent: u32) -> u32
+    requires { wrong_number s.now clause ≡ false }
+    ensures { result ≡ unwrap_or (option_map little (octets_of s.now clause)) absent }
+{
+    let Some(stretch) = clause else {
+        return absent;
+    };
+    u32_at(stretch.of(s), 0)
 }

@@ -2,4 +2,5 @@
 #![tactic(auto)]
 
 pub mod put;
+pub mod slices;
 pub mod stretch;

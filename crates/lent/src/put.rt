@@ -10,12 +10,8 @@ pub fn put_octets(out: &mut [u8], s: &[u8]) -> usize
     ensures value { result ≡ length s.now }
     ensures out_after { out.new ≡ over s.now out.old }
 {
-    let mut i = 0;
-    while i < s.len() {
-        out[i] = s[i];
-        i += 1;
-    }
-    i
+    out[..s.len()].copy_from_slice(s);
+    s.len()
 }
 
 // A number in two octets, little-endian.
@@ -24,9 +20,7 @@ pub fn put_u16(out: &mut [u8], n: u16) -> usize
     ensures value { result ≡ 2 }
     ensures out_after { out.new ≡ over (little_octets 2 n) out.old }
 {
-    out[0] = (n % 256) as u8;
-    out[1] = (n / 256 % 256) as u8;
-    2
+    put_octets(out, &n.to_le_bytes())
 }
 
 // A number in four octets, little-endian.
@@ -35,11 +29,7 @@ pub fn put_u32(out: &mut [u8], n: u32) -> usize
     ensures value { result ≡ 4 }
     ensures out_after { out.new ≡ over (little_octets 4 n) out.old }
 {
-    out[0] = (n % 256) as u8;
-    out[1] = (n / 256 % 256) as u8;
-    out[2] = (n / 256 / 256 % 256) as u8;
-    out[3] = (n / 256 / 256 / 256 % 256) as u8;
-    4
+    put_octets(out, &n.to_le_bytes())
 }
 
 // The same at an offset; the result is the offset after what was written.

@@ -1,30 +1,18 @@
-// Stretches of two lent slices, never copies.
-ghost use Rattle.std.specs.Prelude.{◌≡◌};
-ghost use Rattle.lent.specs.Internal.Stretch.{octets_at};
+// Stretches of two slices that are lent together.
+ghost use Rattle.std.specs.Prelude.{◌≤◌};
 
-use octets::part::part;
-
-// Where a stretch lies: in the table image, or in the octets that the ping came in.
+// Which of the two a stretch lies in: the table image, or the octets that the ping came in.
 #[derive(Clone, Copy)]
 pub enum Lender {
     Table,
     Request,
 }
 
+// Where a text of a reply lies. No text of document 01 is over 255 octets, so that lengths and offsets stay small.
 #[derive(Clone, Copy)]
 pub struct Stretch {
     pub lender: Lender,
     pub start: usize,
     pub len: usize,
-}
-
-// The text of a reply's slot, as a part of either of the two lent slices: as many of its octets as there are.
-pub fn slot_text<'a>(table: &'a [u8], request: &'a [u8], slot: Stretch) -> &'a [u8]
-    ensures { result.now ≡ octets_at table.now request.now slot }
-{
-    let lender = slot.lender;
-    match lender {
-        Lender::Table => part(table, slot.start, slot.len),
-        Lender::Request => part(request, slot.start, slot.len),
-    }
+    pub ghost short: { len ≤ 255 },
 }

@@ -1,6 +1,5 @@
 // Words of vector lines: what they stand for, the buffers that they lend, and the words of an answer.
 #![tactic(auto)]
 
-pub mod buffer;
-pub mod text;
-pub mod words;
+pub mod answer;
+pub mod word;

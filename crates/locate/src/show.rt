@@ -1,11 +1,9 @@
 // The answer to a filter or to a mailslot message, shown.
 use crate::message_shown::say_message;
-use answers::{Form, number_of};
-use console::say::{say, say_number};
-use filter_read::ping::{PingRead, read_ping};
-use locator::Answer;
+use answers::Refusal;
+use filter_read::ping::read_ping;
+use locator::Answered;
 use locator::ping::answer_ping;
-use mailslot::message::MessageRead;
 use mailslot_answer::answer::answer_mailslot;
 use mailslot_read::read::read_message;
 use octets::part::part;
@@ -19,42 +17,24 @@ use table::Caller;
 // No reply is longer than 1,108 octets.
 const REPLY_SIZE: usize = 1108;
 
-// The version bits that a filter asks with. One that was answered has them.
-fn version_asked(filter: &[u8]) -> u32 {
-    match read_ping(filter) {
-        PingRead::Ping(ping) => ping.version,
-        PingRead::Refused(_) => 0,
-    }
-}
-
-// The reply as our own reader reads it.
-fn show_reply<W: Write>(
+// An answer to what asked with version bits, and the buffer that was lent for a reply, which our own reader reads.
+fn show<W: Write>(
     to: &mut W,
+    answer: Result<Answered, Refusal>,
     reply: &[u8],
-    form: Form,
     version: u32,
-    context: u16,
 ) -> io::Result<()> {
-    say_answer(to, 0, b"answered")?;
-    say_form(to, form)?;
-    say(to, b"context   ")?;
-    say_number(to, context as u64)?;
-    say(to, b"\n")?;
-    say_reading(to, reply, read_reply(reply, form, version))
+    say_answer(to, &answer, "answered")?;
+    let Ok(answered) = answer else {
+        return Ok(());
+    };
+    say_form(to, answered.form)?;
+    writeln!(to, "context   {}", answered.context.0)?;
+    let reply = part(reply, 0, answered.length);
+    say_reading(to, reply, &read_reply(reply, answered.form, version))
 }
 
-// An answer to what asked with version bits, and the buffer that was lent for a reply.
-fn show<W: Write>(to: &mut W, answer: Answer, reply: &[u8], version: u32) -> io::Result<()> {
-    match answer {
-        Answer::Refused(refusal) => say_answer(to, number_of(refusal), b""),
-        Answer::Answered {
-            length,
-            context,
-            form,
-        } => show_reply(to, part(reply, 0, length), form, version, context.0),
-    }
-}
-
+// One that was answered has the version bits that it asks with.
 pub fn show_filter<'a, W: Write>(
     to: &mut W,
     image: &'a [u8],
@@ -63,17 +43,21 @@ pub fn show_filter<'a, W: Write>(
 ) -> io::Result<()> {
     let mut reply = [0u8; REPLY_SIZE];
     let answer = answer_ping(image, caller, filter, &mut reply);
-    show(to, answer, &reply, version_asked(filter))
+    let version = match read_ping(filter) {
+        Ok(ping) => ping.version,
+        Err(_) => 0,
+    };
+    show(to, answer, &reply, version)
 }
 
 // A message that is none is not shown; its version, which no reply asks for, is 0.
 fn show_asked<W: Write>(to: &mut W, octets: &[u8]) -> io::Result<u32> {
     match read_message(octets) {
-        MessageRead::Read(message) => {
+        Ok(message) => {
             say_message(to, octets, message)?;
             Ok(message.version)
         }
-        MessageRead::Refused(_) => Ok(0),
+        Err(_) => Ok(0),
     }
 }
 

@@ -2,10 +2,12 @@
 ghost use Rattle.table_whole.specs.Judgement.{Accepted};
 ghost use Rattle.locator.specs.Answer.{AnswerPingReturns, AnswerPingLeaves};
 
-use crate::Answer;
+use crate::Answered;
 use crate::over::answer_over;
-use filter_read::ping::{PingRead, read_ping};
+use answers::Refusal;
+use filter_read::ping::read_ping;
 use table::Caller;
+use table_whole::image::AcceptedImage;
 
 // What `answer_ping` promises, without judging the image again.
 pub fn answer_accepted<'a>(
@@ -13,13 +15,12 @@ pub fn answer_accepted<'a>(
     caller: Caller,
     filter: &'a [u8],
     reply: &mut [u8],
-) -> Answer
+) -> Result<Answered, Refusal>
     requires { Accepted image.now }
     ensures answer_ping_returns { AnswerPingReturns image.now caller filter.now reply.old result }
     ensures answer_ping_leaves { AnswerPingLeaves image.now caller filter.now reply.old reply.new }
 {
-    match read_ping(filter) {
-        PingRead::Refused(refusal) => Answer::Refused(refusal),
-        PingRead::Ping(ping) => answer_over(image, caller, filter, ping, reply),
-    }
+    let accepted = AcceptedImage::judged_before(image);
+    let ping = read_ping(filter)?;
+    answer_over(&accepted, caller, filter, ping, reply)
 }

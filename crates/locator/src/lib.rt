@@ -1,10 +1,7 @@
 // The locator: document 01, "Answer numbers" and "Choosing the answer".
 #![tactic(auto)]
 
-ghost use Rattle.std.specs.Prelude.{◌≡◌};
-ghost use Rattle.locator.specs.Answer.{answer_number};
-
-use answers::{Form, Refusal, number_of};
+use answers::Form;
 use table::ContextNumber;
 
 pub mod accepted;
@@ -12,27 +9,10 @@ pub mod over;
 pub mod ping;
 pub mod user;
 
-// The answer to a ping: its values are those of specs/Answer.antt.
+// What is told of a reply that was written: its length, the context used and the form.
 #[derive(Clone, Copy)]
-pub enum Answer {
-    Answered {
-        length: usize,
-        context: ContextNumber,
-        form: Form,
-    },
-    Refused(Refusal),
-}
-
-// Document 01's number of it.
-pub fn answer_number(answer: Answer) -> u8
-    ensures { result ≡ answer_number answer }
-{
-    match answer {
-        Answer::Answered {
-            length: _,
-            context: _,
-            form: _,
-        } => 0,
-        Answer::Refused(refusal) => number_of(refusal),
-    }
+pub struct Answered {
+    pub length: usize,
+    pub context: ContextNumber,
+    pub form: Form,
 }

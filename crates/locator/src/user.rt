@@ -7,18 +7,13 @@ ghost use Rattle.filter.specs.Request.{octets_of};
 ghost use Rattle.locator.specs.Answer.{is_ex};
 
 use answers::Form;
-use filter::request::Clause;
 use name_rules::name_rule::has_good_labels;
-use octets::part::part;
+use octets::part::Stretch;
 
 fn is_ex(form: Form) -> bool
     ensures { result ≡ is_ex form }
 {
-    match form {
-        Form::Nt40 => false,
-        Form::Response => false,
-        Form::Ex => true,
-    }
+    matches!(form, Form::Ex)
 }
 
 // A user's name is too short for a label of over 63 octets, so one that is not good is empty.
@@ -32,15 +27,15 @@ fn has_empty_label(name: &[u8]) -> bool
     !has_good_labels(name)
 }
 
-pub fn is_wrong_user(form: Form, source: &[u8], user: Clause) -> bool
+pub fn is_wrong_user(form: Form, source: &[u8], user: Option<Stretch>) -> bool
     requires { holds (λ x. not (is_user_name x)) (octets_of source.now user) ≡ false }
     ensures { result ≡ (is_ex form && holds (λ name. any (λ l. eqb (length l) 0) (labels name)) (octets_of source.now user)) }
 {
     if !is_ex(form) {
         return false;
     }
-    let Clause::Present { start, len } = user else {
+    let Some(user) = user else {
         return false;
     };
-    has_empty_label(part(source, start, len))
+    has_empty_label(user.of(source))
 }

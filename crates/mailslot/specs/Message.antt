@@ -1,11 +1,13 @@
 -- Document 02, #105, and source page 001: a mailslot message, the request of old logger machines. What it must be, how it is read, and its octets, written.
-use Rattle.std.specs.Prelude.{Bool, true, false, cond, not, ◌&&◌, ◌||◌, List, [], ◌∷◌, ◌++◌, ℕ, ◌+◌, ◌*◌, ◌-◌, ◌%◌, eqb, leb, ltb, length, drop, replicate}
+use Rattle.std.specs.Prelude.{Bool, true, false, cond, not, ◌&&◌, ◌||◌, List, [], ◌∷◌, ◌++◌, ℕ, ◌+◌, ◌*◌, ◌-◌, ◌%◌, eqb, leb, ltb, length, drop, replicate, Ok, Err}
 use Rattle.answers.specs.declared.Refusal.TheVariants.{MailslotShape, NoRoom}
-use Rattle.answers.specs.Try.{Try, refused, good, refused_if, ◌>>=◌}
+use Rattle.answers.specs.Try.{Try, refused_if, ◌>>=◌}
 use Rattle.answers.specs.Wire.{logon_sam_logon_request}
 use Rattle.octets.specs.{Lists.all, Lists.holds, NameRule.sized, NameRule.without, Number.little, Sid.sid_length, Text.within}
-use Rattle.reader.specs.{declared.field.Stretch.Stretch, Reader.read_constant, Reader.read_number, Reader.read_tokens, Text.read_text}
-use Rattle.reader.specs.Field.{Read, stretch_of, read_octets, read_stretch}
+use Rattle.reader.specs.{Reader.read_constant, Reader.read_number, Reader.read_tokens, Text.read_text}
+use Rattle.octets.specs.{declared.part.Stretch.Stretch, Stretch.stretch_of}
+use Rattle.reader.specs.declared.field.Read.{Read}
+use Rattle.reader.specs.Field.{read_octets, read_stretch}
 use Rattle.reply.specs.Reply.{u16, u32, ending}
 use Rattle.unicode_text.specs.{UserName.is_user_name, Utf16.points_of16, Utf16.utf8_from16}
 use Rattle.mailslot.specs.declared.message.Message.{Message}
@@ -58,7 +60,7 @@ unfoldable pub read_zero_ended : List ℕ → ℕ → Try (Read Stretch)
 read_zero_ended s at = do
   t ← read_stretch s at (length (before_zero (drop at s)))
   z ← read_octets s t.next 1
-  good (record { value = t.value; next = z.next })
+  Ok (record { value = t.value; next = z.next })
 
 -- the SID by its size, after the padding; neither where the size is 0
 abbrev pub read_sid : Bool → ℕ → List ℕ → ℕ → Try (Read Stretch)
@@ -84,14 +86,14 @@ read_fields s = do
 
 -- whatever is refused, it is 41
 abbrev pub as_shape : {A : Type 0} → Try A → Try A
-as_shape (refused r) = refused MailslotShape
-as_shape (good a) = good a
+as_shape (Err r) = Err MailslotShape
+as_shape (Ok a) = Ok a
 
 -- the message that octets are
 unfoldable pub message_in : List ℕ → Try Message
 message_in s = do
   m ← as_shape (read_fields s)
-  refused_if (not (good_message s m)) MailslotShape (good m)
+  refused_if (not (good_message s m)) MailslotShape (Ok m)
 
 -- ---- writing
 
@@ -124,4 +126,4 @@ unfoldable pub message_for : List ℕ → Message → ℕ → Try (List ℕ)
 message_for source m room =
     let octets = message_octets source m in
     refused_if (not (good_message source m)) MailslotShape
-    (refused_if (ltb room (length octets)) NoRoom (good octets))
+    (refused_if (ltb room (length octets)) NoRoom (Ok octets))

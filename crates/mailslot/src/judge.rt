@@ -7,8 +7,6 @@ ghost use Rattle.mailslot.specs.Internal.Shape.{is_sid_size};
 use crate::message::Message;
 use crate::text::text_run;
 use octets::number::wide;
-use octets::part::part;
-use reader::field::Stretch;
 use unicode_text::utf8::octet_at;
 
 pub const MAILSLOT_NAME_MOST: usize = 64;
@@ -42,15 +40,14 @@ pub fn name_run(s: &[u8], start: usize) -> usize
     requires { start ≤ length s.now }
     ensures { NameRun s.now start result }
 {
-    let mut at = start;
-    while at < s.len() {
+    let end = s.len();
+    for at in start..end {
         let octet = s[at];
         if (octet == 0) | (0x7F < octet) {
             return at;
         }
-        at += 1;
     }
-    at
+    end
 }
 
 pub fn is_mailslot_name(s: &[u8]) -> bool
@@ -83,12 +80,8 @@ pub fn is_message_sid(s: &[u8]) -> bool
 pub fn is_good_message(source: &[u8], message: Message) -> bool
     ensures { result ≡ good_message source.now message }
 {
-    let computer = message.computer;
-    let user = message.user;
-    let mailslot = message.mailslot;
-    let sid = message.sid;
-    is_computer_name(part(source, computer.start, computer.len))
-        & is_message_user(part(source, user.start, user.len))
-        & is_mailslot_name(part(source, mailslot.start, mailslot.len))
-        & is_message_sid(part(source, sid.start, sid.len))
+    is_computer_name(message.computer.of(source))
+        & is_message_user(message.user.of(source))
+        & is_mailslot_name(message.mailslot.of(source))
+        & is_message_sid(message.sid.of(source))
 }

@@ -1,9 +1,5 @@
-// What a mailslot message says, and what reading one gives.
-ghost use Rattle.std.specs.Prelude.{◌≡◌};
-ghost use Rattle.mailslot.specs.Read.{message_number};
-
-use answers::{Refusal, number_of};
-use reader::field::Stretch;
+// What a mailslot message says.
+use octets::part::Stretch;
 
 // By its limits no message has more octets.
 pub const MESSAGE_MOST: usize = 316;
@@ -19,21 +15,4 @@ pub struct Message {
     pub bits: u32,
     pub sid: Stretch,
     pub version: u32,
-}
-
-// The message, or 41.
-#[derive(Clone, Copy)]
-pub enum MessageRead {
-    Read(Message),
-    Refused(Refusal),
-}
-
-// Its number.
-pub fn message_number(read: MessageRead) -> u8
-    ensures { result ≡ message_number read }
-{
-    match read {
-        MessageRead::Read(_) => 0,
-        MessageRead::Refused(refusal) => number_of(refusal),
-    }
 }

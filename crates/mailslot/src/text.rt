@@ -64,33 +64,23 @@ fn octets_for(size: usize) -> usize
     4
 }
 
-fn fewer(a: usize, b: usize) -> usize
-    ensures { (result ≤ a) × (result ≤ b) }
-{
-    if a < b {
-        return a;
-    }
-    b
-}
-
 // How many plain letters stand from an offset on, of one octet of UTF-8 each, as most texts have no others: no more than a user may have.
 fn plain_run(s: &[u8], start: usize) -> usize
     requires { (start ≤ length s.now) × (are_octets s.now ≡ true) }
     ensures { Running s.now start (start + 2 * result) result }
 {
-    let units = fewer((s.len() - start) / 2, USER_NAME_MOST);
-    let mut i = 0;
-    while i < units {
+    let units = ((s.len() - start) / 2).min(USER_NAME_MOST);
+    for i in 0..units {
         let unit = u16_at(s, start + 2 * i);
         if (unit == 0) | (0x7F < unit) {
             return i;
         }
-        i += 1;
     }
-    i
+    units
 }
 
-// Where the longest user from an offset on ends: it stops at a zero unit, at a lone surrogate, and before the character that is too much.
+// Where the longest user from an offset on ends: it stops at a zero unit, at a lone surrogate, and before the character
+// that is too much. The step is a character's: no `for`.
 pub fn text_run(s: &[u8], start: usize) -> usize
     requires { start ≤ length s.now }
     ensures { TextRun s.now start result }

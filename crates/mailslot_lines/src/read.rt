@@ -1,45 +1,36 @@
 // `mailslot` lines: a mailslot message is read.
-use console::say::{say, say_bits};
-use line_words::text::say_text;
-use line_words::words::say_numbers;
-use mailslot::message::{Message, MessageRead, message_number};
+use answers::number_in;
+use line_words::answer::{Text, say_unknown};
+use line_words::word::only_octets;
+use mailslot::message::Message;
 use mailslot_read::read::read_message;
-use octets::part::part;
-use reader::field::Stretch;
+use std::alloc::Global;
 use std::io;
 use std::io::Write;
 
-fn say_stretch<W: Write>(to: &mut W, octets: &[u8], text: Stretch) -> io::Result<()> {
-    say_text(to, part(octets, text.start, text.len))
-}
-
-fn say_number_of_bits<W: Write>(to: &mut W, bits: u32) -> io::Result<()> {
-    say(to, b" ")?;
-    say_bits(to, bits)
-}
-
 fn say_message<W: Write>(to: &mut W, octets: &[u8], message: Message) -> io::Result<()> {
-    let computer = message.computer;
-    let user = message.user;
-    let mailslot = message.mailslot;
-    let sid = message.sid;
-    let numbers = [message.repeat as u64];
-    say_numbers(to, b"", &numbers)?;
-    say_stretch(to, octets, computer)?;
-    say_stretch(to, octets, user)?;
-    say_stretch(to, octets, mailslot)?;
-    say_number_of_bits(to, message.bits)?;
-    say_stretch(to, octets, sid)?;
-    say_number_of_bits(to, message.version)
+    let repeat = message.repeat;
+    let computer = Text(message.computer.of(octets));
+    let user = Text(message.user.of(octets));
+    let mailslot = Text(message.mailslot.of(octets));
+    let bits = message.bits;
+    let sid = Text(message.sid.of(octets));
+    let version = message.version;
+    write!(
+        to,
+        " {repeat} {computer} {user} {mailslot} {bits:08x} {sid} {version:08x}"
+    )
 }
 
 // A refusal has no fields.
-pub fn answer_mailslot_line<W: Write>(to: &mut W, octets: &[u8]) -> io::Result<()> {
-    let read = read_message(octets);
-    let numbers = [message_number(read) as u64];
-    say_numbers(to, b"mailslot", &numbers)?;
+pub fn answer_mailslot<W: Write>(to: &mut W, alloc: Global, fields: &[&str]) -> io::Result<()> {
+    let Some(octets) = only_octets(alloc, fields)? else {
+        return say_unknown(to);
+    };
+    let read = read_message(&octets);
+    write!(to, "mailslot {}", number_in(&read))?;
     match read {
-        MessageRead::Read(message) => say_message(to, octets, message),
-        MessageRead::Refused(_) => Ok(()),
+        Ok(message) => say_message(to, &octets, message),
+        Err(_) => Ok(()),
     }
 }

@@ -1,82 +1,60 @@
 // `mailwrite` lines: a mailslot message is written from its fields.
-ghost use Rattle.std.specs.Prelude.{◌≤◌, length};
-
-use line_words::buffer::{filled, is_room, room_of};
-use line_words::text::{is_text, take_text};
-use line_words::words::{
-    bits_of, is_four_octets, is_number, number_of, say_unknown, say_written, word,
-};
+use line_words::answer::{say_unknown, say_written};
+use line_words::word::{bits_of, buffer_of, number_of, text_of};
 use mailslot::message::Message;
 use mailslot_write::write::write_message;
-use octets::part::part;
+use std::alloc::{AllocError, Global};
 use std::io;
 use std::io::Write;
 
-// The words by their numbers.
-const ROOM: usize = 1;
-
-const REPEAT: usize = 2;
-
-const COMPUTER: usize = 3;
-
-const USER: usize = 4;
-
-const MAILSLOT: usize = 5;
-
-const BITS: usize = 6;
-
-const SID: usize = 7;
-
-const VERSION: usize = 8;
-
-// Whether a line's words are a message's fields, whatever their values.
-fn are_fields(line: &[u8]) -> bool {
-    is_number(word(line, REPEAT), 65535)
-        & is_text(word(line, COMPUTER))
-        & is_text(word(line, USER))
-        & is_text(word(line, MAILSLOT))
-        & is_four_octets(word(line, BITS))
-        & is_text(word(line, SID))
-        & is_four_octets(word(line, VERSION))
+fn repeat_of(word: &str) -> Option<u16> {
+    u16::try_from(number_of(word)?).ok()
 }
 
-// The message of such words, its texts put into the source.
-fn message_in(line: &[u8], source: &mut [u8]) -> Message {
-    Message {
-        repeat: (number_of(word(line, REPEAT)) % 65536) as u16,
-        computer: take_text(line, COMPUTER, source),
-        user: take_text(line, USER, source),
-        mailslot: take_text(line, MAILSLOT, source),
-        bits: bits_of(word(line, BITS)),
-        sid: take_text(line, SID, source),
-        version: bits_of(word(line, VERSION)),
-    }
+// The message of such fields, its texts put into the source.
+fn message_of(source: &mut Vec<u8>, fields: &[&str]) -> Result<Option<Message>, AllocError> {
+    let [repeat, computer, user, mailslot, bits, sid, version] = fields else {
+        return Ok(None);
+    };
+    let (Some(repeat), Some(bits), Some(version)) = (
+        repeat_of(repeat),
+        bits_of(bits),
+        bits_of(version),
+    ) else {
+        return Ok(None);
+    };
+    let Some(computer) = text_of(source, computer)? else {
+        return Ok(None);
+    };
+    let Some(user) = text_of(source, user)? else {
+        return Ok(None);
+    };
+    let Some(mailslot) = text_of(source, mailslot)? else {
+        return Ok(None);
+    };
+    let Some(sid) = text_of(source, sid)? else {
+        return Ok(None);
+    };
+    Ok(Some(Message {
+        repeat,
+        computer,
+        user,
+        mailslot,
+        bits,
+        sid,
+        version,
+    }))
 }
 
-fn write_into<W: Write>(
-    to: &mut W,
-    source: &[u8],
-    message: Message,
-    out: &mut [u8],
-    room: usize,
-) -> io::Result<()>
-    requires { room ≤ length out.old }
-{
-    let start = 0;
-    let written = write_message(source, message, &mut out[start..room]);
-    say_written(to, b"mailwrite", written, part(out, start, room))
-}
-
-pub fn answer_mailwrite_line<W: Write>(
-    to: &mut W,
-    line: &[u8],
-    space: &mut [u8],
-) -> io::Result<()> {
-    if !is_room(word(line, ROOM)) | !are_fields(line) {
-        say_unknown(to)?;
-        return Ok(());
-    }
-    let message = message_in(line, space);
-    let mut out = filled();
-    write_into(to, space, message, &mut out, room_of(word(line, ROOM)))
+pub fn answer_mailwrite<W: Write>(to: &mut W, alloc: Global, fields: &[&str]) -> io::Result<()> {
+    let [room, fields @ ..] = fields else {
+        return say_unknown(to);
+    };
+    let mut source = Vec::new(alloc);
+    let (Some(mut out), Some(message)) = (buffer_of(alloc, room)?, message_of(&mut source, fields)?)
+    else {
+        return say_unknown(to);
+    };
+    let written = write_message(&source, message, &mut out);
+    say_written(to, "mailwrite", written, &out)
 }

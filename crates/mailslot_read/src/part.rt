@@ -4,18 +4,17 @@ ghost use Rattle.answers.specs.Wire.{LmNtToken, Lm20Token};
 ghost use Rattle.octets.specs.Number.{u16_at};
 ghost use Rattle.transcode.specs.Transcode.{are_octets};
 ghost use Rattle.mailslot.specs.Message.{is_message_user, message_in};
-ghost use Rattle.mailslot.specs.Read.{message_as};
 ghost use Rattle.mailslot.specs.Longest.{message_most};
 ghost use Rattle.mailslot.specs.Internal.Shape.{EndsText, EndsName, OneEnd, Texts};
 
 use answers::Refusal;
 use answers::wire::{LM_NT_TOKEN, LM20_TOKEN};
 use mailslot::judge::{MAILSLOT_NAME_MOST, is_sid_size, name_run};
-use mailslot::message::{Message, MessageRead};
+use mailslot::message::Message;
 use mailslot::padding::sid_padding;
 use mailslot::text::text_run;
 use octets::number::{u16_at, u32_at};
-use reader::field::Stretch;
+use octets::part::Stretch;
 use unicode_text::utf8::octet_at;
 
 // The texts stand behind the opcode and the repeat count.
@@ -75,27 +74,27 @@ pub fn read_numbers(
     computer_end: usize,
     user_end: usize,
     mailslot_end: usize,
-) -> MessageRead
+) -> Result<Message, Refusal>
     requires { (length message.now ≤ message_most) × (are_octets message.now ≡ true) × Texts message.now computer_end user_end mailslot_end }
-    ensures { result ≡ message_as (message_in message.now) }
+    ensures { result ≡ message_in message.now }
 {
     let bits_at = mailslot_end + 1;
     if message.len() - bits_at < NUMBERS_SIZE {
-        return MessageRead::Refused(Refusal::MailslotShape);
+        return Err(Refusal::MailslotShape);
     }
     let size = u32_at(message, bits_at + 4);
     let sid_at = bits_at + 8 + sid_padding(size, bits_at + 8);
     if !is_sid_size(size, octet_at(message, sid_at + 1)) {
-        return MessageRead::Refused(Refusal::MailslotShape);
+        return Err(Refusal::MailslotShape);
     }
     let version_at = sid_at + (size as usize);
     if version_at + 8 != message.len() {
-        return MessageRead::Refused(Refusal::MailslotShape);
+        return Err(Refusal::MailslotShape);
     }
     if !has_tokens(message, version_at + 4) {
-        return MessageRead::Refused(Refusal::MailslotShape);
+        return Err(Refusal::MailslotShape);
     }
-    MessageRead::Read(Message {
+    Ok(Message {
         repeat: u16_at(message, 2),
         computer: Stretch {
             start: TEXTS_AT,

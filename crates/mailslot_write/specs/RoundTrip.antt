@@ -1,12 +1,9 @@
 -- Document 02, #105: a reader and a writer, "reading back what was written". The statements.
-use Rattle.std.specs.Prelude.{◌≡◌, List, ℕ, take}
-use Rattle.answers.specs.declared.written.Written.{Written}
-use Rattle.answers.specs.declared.written.Written.TheVariants as written
-use Rattle.answers.specs.Try.{good}
-use Rattle.mailslot.specs.{declared.message.Message.Message, declared.message.MessageRead.MessageRead, Message.message_in, Message.message_for, Read.ReadMessagePromise}
-use Rattle.mailslot.specs.declared.message.MessageRead.TheVariants as read
+use Rattle.std.specs.Prelude.{◌≡◌, List, ℕ, take, Ok}
+use Rattle.answers.specs.Try.{Try}
+use Rattle.mailslot.specs.{declared.message.Message.Message, Message.message_in, Message.message_for, Read.ReadMessagePromise}
 use Rattle.mailslot_write.specs.Write.{WriteMessageReturns, WriteMessageLeaves}
-use Rattle.reader.specs.Field.{stretch_of}
+use Rattle.octets.specs.Stretch.{stretch_of}
 
 -- the same message: the same numbers, and the same octets of each text
 pub record SameMessage (s : List ℕ) (q : Message) (source : List ℕ) (m : Message) : Type 0 where
@@ -21,15 +18,15 @@ pub record SameMessage (s : List ℕ) (q : Message) (source : List ℕ) (m : Mes
 -- of the definitions: for all messages and rooms where the writer refuses nothing, its octets read back to the same message
 abbrev pub RoundTrip : Type 0
 RoundTrip =
-    (source : List ℕ) (m : Message) (room : ℕ) (octets : List ℕ) → message_for source m room ≡ good octets
-    → (q : Message) × (message_in octets ≡ good q) × SameMessage octets q source m
+    (source : List ℕ) (m : Message) (room : ℕ) (octets : List ℕ) → message_for source m room ≡ Ok octets
+    → (q : Message) × (message_in octets ≡ Ok q) × SameMessage octets q source m
 
 -- of the two calls, by what their contracts ensure: where `write_message` answers with a length, `read_message` of that many octets of the buffer gives the same message
 abbrev pub CallsRoundTrip : Type 0
 CallsRoundTrip =
-    (source : List ℕ) (m : Message) (before after : List ℕ) (w : Written) (n : ℕ) (r : MessageRead)
+    (source : List ℕ) (m : Message) (before after : List ℕ) (w : Try ℕ) (n : ℕ) (r : Try Message)
     → WriteMessageReturns source m before w
     → WriteMessageLeaves source m before after
-    → w ≡ written.Length n
+    → w ≡ Ok n
     → ReadMessagePromise (take n after) r
-    → (q : Message) × (r ≡ read.Read q) × SameMessage (take n after) q source m
+    → (q : Message) × (r ≡ Ok q) × SameMessage (take n after) q source m

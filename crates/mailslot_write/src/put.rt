@@ -2,17 +2,15 @@
 ghost use Rattle.std.specs.Prelude.{◌≡◌, ◌++◌, ◌+◌, ◌≤◌, length, replicate};
 ghost use Rattle.lent.specs.Internal.OverAt.{over_at};
 ghost use Rattle.octets.specs.Buffer.{over};
-ghost use Rattle.reader.specs.Field.{stretch_of};
+ghost use Rattle.octets.specs.Stretch.{stretch_of};
 ghost use Rattle.mailslot.specs.Longest.{message_most};
 ghost use Rattle.mailslot.specs.Message.{message_head, message_octets, padded_sid};
 
-use crate::size::stretch_octets;
 use answers::wire::LOGON_SAM_LOGON_REQUEST;
 use lent::put::{put_octets_at, put_u16_at, put_u32_at};
 use mailslot::message::Message;
 use mailslot::padding::sid_padding;
-use octets::part::part;
-use reader::field::Stretch;
+use octets::part::{Stretch, part};
 use reply::fields::put_ending_at;
 
 // Zeros: a text has two after it, a mailslot's name one, a SID up to three before it.
@@ -31,7 +29,7 @@ fn put_ended_at(out: &mut [u8], at: usize, source: &[u8], text: Stretch, zeros: 
     ensures value { result ≡ at + length (stretch_of source.now text) + zeros }
     ensures out_after { out.new ≡ over_at at (stretch_of source.now text ++ replicate zeros 0) out.old }
 {
-    let at = put_octets_at(out, at, stretch_octets(source, text));
+    let at = put_octets_at(out, at, text.of(source));
     put_zeros_at(out, at, zeros)
 }
 
@@ -42,17 +40,13 @@ fn put_head(out: &mut [u8], source: &[u8], message: Message) -> usize
     ensures value { result ≡ length (message_head source.now message) }
     ensures out_after { out.new ≡ over (message_head source.now message) out.old }
 {
-    let computer = message.computer;
-    let user = message.user;
-    let mailslot = message.mailslot;
-    let sid = message.sid;
     let at = put_u16_at(out, 0, LOGON_SAM_LOGON_REQUEST);
     let at = put_u16_at(out, at, message.repeat);
-    let at = put_ended_at(out, at, source, computer, 2);
-    let at = put_ended_at(out, at, source, user, 2);
-    let at = put_ended_at(out, at, source, mailslot, 1);
+    let at = put_ended_at(out, at, source, message.computer, 2);
+    let at = put_ended_at(out, at, source, message.user, 2);
+    let at = put_ended_at(out, at, source, message.mailslot, 1);
     let at = put_u32_at(out, at, message.bits);
-    put_u32_at(out, at, stretch_octets(source, sid).len() as u32)
+    put_u32_at(out, at, message.sid.of(source).len() as u32)
 }
 
 // A SID behind its padding, from an offset on.
@@ -72,8 +66,7 @@ pub fn put_message(out: &mut [u8], source: &[u8], message: Message)
     requires message_in_bounds { length (message_octets source.now message) ≤ length out.old }
     ensures { out.new ≡ over (message_octets source.now message) out.old }
 {
-    let sid = message.sid;
     let at = put_head(out, source, message);
-    let at = put_sid_at(out, at, stretch_octets(source, sid));
+    let at = put_sid_at(out, at, message.sid.of(source));
     put_ending_at(out, at, message.version);
 }

@@ -1,1 +1,1 @@
-pub mod LabelStep
+pub mod Labels

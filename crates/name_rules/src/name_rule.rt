@@ -2,7 +2,6 @@
 ghost use Rattle.std.specs.Prelude.{◌≡◌};
 ghost use Rattle.octets.specs.Lists.{all};
 ghost use Rattle.octets.specs.Label.{parts};
-ghost use Rattle.name_rules.specs.Internal.LabelStep.{label_step, InLabel};
 ghost use Rattle.octets.specs.NameRule.{sized, is_dns_name, is_plain_name, is_netbios_name, is_site_name};
 ghost use Rattle.octets.specs.Sid.{is_sid};
 
@@ -16,73 +15,27 @@ const LABEL_MOST: usize = 63;
 fn is_sized(s: &[u8], low: usize, high: usize) -> bool
     ensures { result ≡ sized low high s.now }
 {
-    if s.len() < low {
-        return false;
-    }
-    s.len() <= high
-}
-
-// What an octet does to the label it stands in: a wrong length, or the octets of the label so far.
-#[derive(Drop)]
-pub enum LabelStep {
-    Bad,
-    Length(usize),
-}
-
-fn label_step(n: usize, x: u8) -> LabelStep
-    ensures value { result ≡ label_step n x }
-    ensures in_label { InLabel result }
-{
-    if x == DOT {
-        if n == 0 {
-            return LabelStep::Bad;
-        }
-        return LabelStep::Length(0);
-    }
-    if LABEL_MOST <= n {
-        return LabelStep::Bad;
-    }
-    LabelStep::Length(n + 1)
+    low <= s.len() && s.len() <= high
 }
 
 // Whether no label is empty or too long.
 pub fn has_good_labels(s: &[u8]) -> bool
     ensures { result ≡ all (sized 1 63) (parts s.now) }
 {
-    let mut n = 0;
-    let mut i = 0;
-    while i < s.len() {
-        let LabelStep::Length(next) = label_step(n, s[i]) else {
-            return false;
-        };
-        n = next;
-        i += 1;
-    }
-    1 <= n
+    s.split(|x| *x == DOT)
+        .all(|label| is_sized(label, 1, LABEL_MOST))
 }
 
 pub fn is_dns_name(s: &[u8]) -> bool
     ensures { result ≡ is_dns_name s.now }
 {
-    if !is_sized(s, 1, DNS_NAME_MOST) {
-        return false;
-    }
-    if !is_printable(s) {
-        return false;
-    }
-    has_good_labels(s)
+    is_sized(s, 1, DNS_NAME_MOST) && is_printable(s) && has_good_labels(s)
 }
 
 fn is_plain_name(s: &[u8], room: usize) -> bool
     ensures { result ≡ is_plain_name room s.now }
 {
-    if !is_sized(s, 1, room) {
-        return false;
-    }
-    if !is_printable(s) {
-        return false;
-    }
-    lacks(s, DOT)
+    is_sized(s, 1, room) && is_printable(s) && lacks(s, DOT)
 }
 
 pub fn is_netbios_name(s: &[u8]) -> bool

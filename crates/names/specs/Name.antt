@@ -1,6 +1,5 @@
 -- Document 01, "Reply octets": names written one after the other, compressed by RFC 1035 section 4.1.4.
-use Rattle.std.specs.Prelude.{List, [], ◌∷◌, ◌++◌, ℕ, ◌+◌, length}
-use Rattle.std.proofs.Math.Option.{Option, none, some}
+use Rattle.std.specs.Prelude.{List, [], ◌∷◌, ◌++◌, ℕ, ◌+◌, length, Option, None, Some}
 use Rattle.octets.specs.{Label.labels, Label.joined, Lists.first, Number.big_octets, Text.same}
 
 -- document 01's "name tail starting at a literally written label": the label's offset in the reply, and the octets from there to the end of the name
@@ -33,8 +32,8 @@ literally at text l rest = record { octets = literal_label l ++ rest.octets; tai
 
 -- a pointer ends the name where there is a tail to point to
 abbrev pub pointer_or : Option Tail → Writing → Writing
-pointer_or (some t) writing = record { octets = pointer_to t.offset; tails = [] }
-pointer_or none writing = writing
+pointer_or (Some t) writing = record { octets = pointer_to t.offset; tails = [] }
+pointer_or None writing = writing
 
 -- the rest of a name from a label on, at an offset. Earlier tails stand in the order of writing, so the first that fits is the lowest
 unfoldable pub write_labels : List Tail → ℕ → List (List ℕ) → Writing

@@ -1,6 +1,5 @@
 -- Document 01, "Reading a reply": the walk, a function of a reply's octets and an offset, and nothing else.
-use Rattle.std.specs.Prelude.{Bool, true, false, cond, List, [], ◌∷◌, ℕ, zero, suc, ◌+◌, ◌*◌, ◌%◌, ◌/◌, eqb, leb, ltb, length, get_or}
-use Rattle.std.proofs.Math.Option.{Option, none, some, map}
+use Rattle.std.specs.Prelude.{Bool, true, false, cond, List, [], ◌∷◌, ℕ, zero, suc, ◌+◌, ◌*◌, ◌%◌, ◌/◌, eqb, leb, ltb, length, get_or, Option, None, Some, option_map}
 use Rattle.octets.specs.{Lists.cut, Number.big}
 use Rattle.names.specs.Name.{pointer_limit}
 
@@ -53,14 +52,14 @@ with_pointer n = record { labels = n.labels; pointers = suc n.pointers }
 
 -- k steps at most from `at`, in a run of labels that starts at `run`: a pointer must aim below that start
 unfoldable pub walk_from : ℕ → List ℕ → ℕ → ℕ → Option WalkedName
-walk_from zero s run at = none
+walk_from zero s run at = None
 walk_from (suc k) s run at =
     on_look (look_at s at)
-    (some (record { labels = []; pointers = 0 }))
-    (λ n. elim (leb (at + 1 + n) (length s)) [ true ↦ map (with_label (label_at s at n)) (walk_from k s run (at + 1 + n)) | false ↦ none ])
-    (λ t. elim (ltb t run) [ true ↦ map with_pointer (walk_from k s t t) | false ↦ none ])
-    none
-    none
+    (Some (record { labels = []; pointers = 0 }))
+    (λ n. elim (leb (at + 1 + n) (length s)) [ true ↦ option_map (with_label (label_at s at n)) (walk_from k s run (at + 1 + n)) | false ↦ None ])
+    (λ t. elim (ltb t run) [ true ↦ option_map with_pointer (walk_from k s t t) | false ↦ None ])
+    None
+    None
 
 -- more steps than any walk takes: each label moves on within the octets, each pointer to an earlier start of a run
 abbrev pub steps : List ℕ → ℕ

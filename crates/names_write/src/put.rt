@@ -3,8 +3,8 @@ ghost use Rattle.std.specs.Prelude.{◌≡◌, ◌+◌, ◌≤◌, ◌<◌, leng
 ghost use Rattle.octets.specs.Buffer.{over};
 ghost use Rattle.names.specs.Internal.Plan.{literal_octets, ending_octets, PointsLow, name_octets, names_octets, Fit, AllFit};
 
-use lent::stretch::slot_text;
-use names::plan::{Ending, NAMES_MOST, PlannedName, label_end, starts_label};
+use lent::slices::Lent;
+use names::plan::{PlannedName, label_end, starts_label};
 
 // The octet at an offset of a text's labels written out.
 fn literal_octet(text: &[u8], at: usize) -> u8
@@ -22,20 +22,18 @@ fn put_labels(out: &mut [u8], text: &[u8], literal: usize)
     requires { (length text.now ≤ 255) × (literal ≤ length (literal_octets text.now)) × (literal ≤ length out.old) }
     ensures { out.new ≡ over (take literal (literal_octets text.now)) out.old }
 {
-    let mut i = 0;
-    while i < literal {
+    for i in 0..literal {
         out[i] = literal_octet(text, i);
-        i += 1;
     }
 }
 
 // A zero octet, or a pointer: its top two bits set, then its offset.
-fn put_ending(out: &mut [u8], ending: Ending) -> usize
-    requires { (length (ending_octets ending) ≤ length out.old) × PointsLow ending }
-    ensures value { result ≡ length (ending_octets ending) }
-    ensures out_after { out.new ≡ over (ending_octets ending) out.old }
+fn put_ending(out: &mut [u8], pointer: Option<usize>) -> usize
+    requires { (length (ending_octets pointer) ≤ length out.old) × PointsLow pointer }
+    ensures value { result ≡ length (ending_octets pointer) }
+    ensures out_after { out.new ≡ over (ending_octets pointer) out.old }
 {
-    let Ending::Pointer(offset) = ending else {
+    let Some(offset) = pointer else {
         out[0] = 0;
         return 1;
     };
@@ -45,36 +43,27 @@ fn put_ending(out: &mut [u8], ending: Ending) -> usize
 }
 
 // One planned name.
-pub fn put_name<'a>(out: &mut [u8], table: &'a [u8], request: &'a [u8], name: PlannedName) -> usize
-    requires fit { Fit table.now request.now name }
-    requires name_in_bounds { length (name_octets table.now request.now name) ≤ length out.old }
-    ensures value { result ≡ length (name_octets table.now request.now name) }
-    ensures out_after { out.new ≡ over (name_octets table.now request.now name) out.old }
+pub fn put_name<'a>(out: &mut [u8], lent: Lent<'a>, name: &PlannedName) -> usize
+    requires fit { Fit lent.table.now lent.request.now name.now }
+    requires name_in_bounds { length (name_octets lent.table.now lent.request.now name.now) ≤ length out.old }
+    ensures value { result ≡ length (name_octets lent.entry.table.now lent.entry.request.now name.now) }
+    ensures out_after { out.new ≡ over (name_octets lent.entry.table.now lent.entry.request.now name.now) out.old }
 {
     let literal = name.literal;
-    let ending = name.ending;
-    put_labels(out, slot_text(table, request, name.text), literal);
-    literal + put_ending(&mut out[literal..], ending)
+    put_labels(out, lent.text(name.text), literal);
+    literal + put_ending(&mut out[literal..], name.pointer)
 }
 
-// The first `count` planned names, one after the other.
-pub fn put_names<'a>(
-    out: &mut [u8],
-    table: &'a [u8],
-    request: &'a [u8],
-    names: [PlannedName; NAMES_MOST],
-    count: usize,
-) -> usize
-    requires count_bound { (count ≤ 9) × AllFit table.now request.now (take count names) }
-    requires names_in_bounds { length (names_octets table.now request.now (take count names)) ≤ length out.old }
-    ensures value { result ≡ length (names_octets table.now request.now (take count names)) }
-    ensures out_after { out.new ≡ over (names_octets table.now request.now (take count names)) out.old }
+// Planned names, one after the other.
+pub fn put_names<'a>(out: &mut [u8], lent: Lent<'a>, names: &[PlannedName]) -> usize
+    requires all_fit { AllFit lent.table.now lent.request.now names.now }
+    requires names_in_bounds { length (names_octets lent.table.now lent.request.now names.now) ≤ length out.old }
+    ensures value { result ≡ length (names_octets lent.entry.table.now lent.entry.request.now names.now) }
+    ensures out_after { out.new ≡ over (names_octets lent.entry.table.now lent.entry.request.now names.now) out.old }
 {
     let mut at = 0;
-    let mut i = 0;
-    while i < count {
-        at += put_name(&mut out[at..], table, request, names[i]);
-        i += 1;
+    for name in names {
+        at += put_name(&mut out[at..], lent, name);
     }
     at
 }

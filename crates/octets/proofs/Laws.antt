@@ -4,5 +4,6 @@ pub mod Label
 pub mod Lists
 pub mod NameRule
 pub mod Number
+pub mod Option
 pub mod Sid
 pub mod Text

@@ -6,4 +6,5 @@ pub mod Fold
 pub mod Label
 pub mod NameRule
 pub mod Sid
+pub mod Stretch
 pub mod Internal

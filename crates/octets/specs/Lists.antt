@@ -1,6 +1,5 @@
 -- Tests and searches over a list, the same for octets, labels, blocks and records.
-use Rattle.std.specs.Prelude.{Bool, true, false, ◌&&◌, ◌||◌, not, List, [], ◌∷◌, ℕ, zero, suc, take, drop}
-use Rattle.std.proofs.Math.Option.{Option, none, some}
+use Rattle.std.specs.Prelude.{Bool, true, false, ◌&&◌, ◌||◌, not, List, [], ◌∷◌, ℕ, zero, suc, take, drop, Option, None, Some}
 
 module _ {A : Type 0} where
   -- the test holds of each element
@@ -14,12 +13,12 @@ module _ {A : Type 0} where
   any p (x ∷ xs) = p x || any p xs
 
   abbrev pub first_or : Bool → A → Option A → Option A
-  first_or true x rest = some x
+  first_or true x rest = Some x
   first_or false x rest = rest
 
   -- the first element of which the test holds
   unfoldable pub first : (A → Bool) → List A → Option A
-  first p [] = none
+  first p [] = None
   first p (x ∷ xs) = first_or (p x) x (first p xs)
 
   abbrev pub keep_if : Bool → A → List A → List A
@@ -36,19 +35,15 @@ module _ {A : Type 0} where
   unique alike [] = true
   unique alike (x ∷ xs) = not (any (alike x) xs) && unique alike xs
 
-  abbrev pub is_some : Option A → Bool
-  is_some none = false
-  is_some (some x) = true
-
   -- what is there passes the test; nothing there passes none
   abbrev pub holds : (A → Bool) → Option A → Bool
-  holds p none = false
-  holds p (some x) = p x
+  holds p None = false
+  holds p (Some x) = p x
 
   -- what is there passes the test, if anything is there
   abbrev pub none_or : (A → Bool) → Option A → Bool
-  none_or p none = true
-  none_or p (some x) = p x
+  none_or p None = true
+  none_or p (Some x) = p x
 
   -- a stretch: n elements from `at`, or as many of them as there are
   abbrev pub cut : List A → ℕ → ℕ → List A

@@ -15,7 +15,7 @@ pub fn u16_at(s: &[u8], at: usize) -> u16
     requires { at + 2 ≤ length s.now }
     ensures { result ≡ u16_at s.now at }
 {
-    (wide(s[at]) + 256 * wide(s[at + 1])) as u16
+    u16::from_le_bytes([s[at], s[at + 1]])
 }
 
 // The little-endian number of four octets at an offset.
@@ -23,7 +23,7 @@ pub fn u32_at(s: &[u8], at: usize) -> u32
     requires { at + 4 ≤ length s.now }
     ensures { result ≡ u32_at s.now at }
 {
-    (u16_at(s, at) as u32) + 65536 * (u16_at(s, at + 2) as u32)
+    u32::from_le_bytes([s[at], s[at + 1], s[at + 2], s[at + 3]])
 }
 
 // The big-endian number of two octets at an offset.
@@ -31,7 +31,7 @@ pub fn big_u16_at(s: &[u8], at: usize) -> u16
     requires { at + 2 ≤ length s.now }
     ensures { result ≡ big (cut s.now at 2) }
 {
-    (256 * wide(s[at]) + wide(s[at + 1])) as u16
+    u16::from_be_bytes([s[at], s[at + 1]])
 }
 
 // Whether some bit of a mask is set.

@@ -1,10 +1,10 @@
 -- Document 01, "Reading a reply": a name of a received reply, the walk's rules, with a limit of 255 octets written out and of 16 pointers.
-use Rattle.std.specs.Prelude.{cond, not, ◌||◌, List, [], ℕ, zero, suc, ◌+◌, ◌-◌, eqb, ltb, length}
+use Rattle.std.specs.Prelude.{cond, not, ◌||◌, List, [], ℕ, zero, suc, ◌+◌, ◌-◌, eqb, ltb, length, Ok, Err}
 use Rattle.answers.specs.declared.Refusal.{Refusal}
 use Rattle.answers.specs.declared.Refusal.TheVariants.{ReplyCut, ReplyText}
-use Rattle.answers.specs.Try.{Try, refused, good, refused_if, ◌>>=◌}
+use Rattle.answers.specs.Try.{Try, refused_if, ◌>>=◌}
 use Rattle.names.specs.Walk.{look_at, on_look, label_at, WalkedName, with_label, steps}
-use Rattle.reader.specs.Field.{Read}
+use Rattle.reader.specs.declared.field.Read.{Read}
 
 -- the most octets of a name written out, its final zero counted, and the most pointers
 abbrev pub written_most : ℕ
@@ -31,19 +31,19 @@ ending_at next f = record { value = f.value; next = next }
 
 -- k steps at most from `at`, in a run of labels that starts at `run`, with `spent` octets written out and `pointers` followed so far
 unfoldable pub read_name_from : ℕ → List ℕ → ℕ → ℕ → ℕ → ℕ → Try (Read WalkedName)
-read_name_from zero s run at spent pointers = refused ReplyText
+read_name_from zero s run at spent pointers = Err ReplyText
 read_name_from (suc k) s run at spent pointers =
     on_look (look_at s at)
-    (good (record { value = record { labels = []; pointers = pointers }; next = at + 1 }))
+    (Ok (record { value = record { labels = []; pointers = pointers }; next = at + 1 }))
     (λ n.
     refused_if (ltb written_most (spent + 1 + n + 1)) ReplyText
     (refused_if (ltb (length s) (at + 1 + n)) (cut_after pointers)
-    (read_name_from k s run (at + 1 + n) (spent + 1 + n) pointers >>= λ f. good (label_before (label_at s at n) f))))
+    (read_name_from k s run (at + 1 + n) (spent + 1 + n) pointers >>= λ f. Ok (label_before (label_at s at n) f))))
     (λ t.
     refused_if (not (ltb t run) || eqb pointers pointers_most) ReplyText
-    (read_name_from k s t t spent (pointers + 1) >>= λ f. good (ending_at (at + 2) f)))
-    (refused (cut_after pointers))
-    (refused ReplyText)
+    (read_name_from k s t t spent (pointers + 1) >>= λ f. Ok (ending_at (at + 2) f)))
+    (Err (cut_after pointers))
+    (Err ReplyText)
 
 unfoldable pub read_name : List ℕ → ℕ → Try (Read WalkedName)
 read_name s at = read_name_from (steps s) s at at 0 0

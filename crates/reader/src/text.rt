@@ -1,14 +1,15 @@
 // A UTF-16 text of a received reply, which ends in a zero unit.
-ghost use Rattle.std.specs.Prelude.{◌≡◌, length};
+ghost use Rattle.std.specs.Prelude.{◌≡◌, length, IfOk};
 ghost use Rattle.reader.specs.Text.{unit_of, turn, read_text};
-ghost use Rattle.reader.specs.Internal.Text.{text_in, unit_step, StepWithin};
+ghost use Rattle.reader.specs.Internal.Text.{unit_step, StepWithin};
 
-use crate::field::{FieldRead, Stretch, octets_at};
+use crate::field::{Read, octets_at};
 use answers::Refusal;
 use octets::number::u16_at;
+use octets::part::Stretch;
 
 // A unit: the zero unit that ends a text, a unit of its own, the first or the second half of a pair.
-#[derive(Drop)]
+#[derive(Clone, Copy)]
 pub enum Unit16 {
     Ends,
     Plain,
@@ -17,31 +18,18 @@ pub enum Unit16 {
 }
 
 // What a unit leads to: the text ends, it goes on, after a high surrogate or not, or it is no UTF-16.
-#[derive(Drop)]
+#[derive(Clone, Copy)]
 pub enum Turn {
     Stop,
     Go(bool),
     Wrong,
 }
 
-// A unit that was read, and where the next one starts; or why the text is none.
-#[derive(Drop)]
+// A unit that was read, and where the next one starts.
+#[derive(Clone, Copy)]
 pub enum UnitStep {
     Stop(usize),
     Go { after_high: bool, next: usize },
-    Refused(Refusal),
-}
-
-#[derive(Drop)]
-pub struct TextField {
-    pub stretch: Stretch,
-    pub next: usize,
-}
-
-#[derive(Drop)]
-pub enum TextRead {
-    Text(TextField),
-    Refused(Refusal),
 }
 
 const FIRST_HIGH: u16 = 0xD800;
@@ -89,35 +77,33 @@ fn turn_of(after_high: bool, unit: Unit16) -> Turn
 }
 
 // 31 where a unit is not all there, 33 at a lone surrogate.
-fn unit_step(reply: &[u8], at: usize, after_high: bool) -> UnitStep
+#[tactic(auto, unfolding(crate::specs::Internal::Text::unit_step))]
+fn unit_step(reply: &[u8], at: usize, after_high: bool) -> Result<UnitStep, Refusal>
     ensures value { result ≡ unit_step reply.now at after_high }
-    ensures step_within { StepWithin (length reply.now) at result }
+    ensures step_within { IfOk result (StepWithin (length reply.now) at) }
 {
-    let next = match octets_at(reply, at, 2) {
-        FieldRead::Next(next) => next,
-        FieldRead::Refused(refusal) => return UnitStep::Refused(refusal),
-    };
+    let next = octets_at(reply, at, 2)?;
     match turn_of(after_high, unit_of(u16_at(reply, at))) {
-        Turn::Stop => UnitStep::Stop(next),
-        Turn::Go(high) => UnitStep::Go {
+        Turn::Stop => Ok(UnitStep::Stop(next)),
+        Turn::Go(high) => Ok(UnitStep::Go {
             after_high: high,
             next,
-        },
-        Turn::Wrong => UnitStep::Refused(Refusal::ReplyText),
+        }),
+        Turn::Wrong => Err(Refusal::ReplyText),
     }
 }
 
-// The text at an offset, as its stretch before the zero unit.
-pub fn read_text(reply: &[u8], start: usize) -> TextRead
-    ensures { text_in result ≡ read_text reply.now start }
+// The text at an offset, as its stretch before the zero unit. A `loop`, as any decoder: each unit decides how the next is taken.
+pub fn read_text(reply: &[u8], start: usize) -> Result<Read<Stretch>, Refusal>
+    ensures { result ≡ read_text reply.now start }
 {
     let mut at = start;
     let mut pending = false;
     loop {
-        match unit_step(reply, at, pending) {
+        match unit_step(reply, at, pending)? {
             UnitStep::Stop(next) => {
-                return TextRead::Text(TextField {
-                    stretch: Stretch {
+                return Ok(Read {
+                    value: Stretch {
                         start,
                         len: at - start,
                     },
@@ -128,7 +114,6 @@ pub fn read_text(reply: &[u8], start: usize) -> TextRead
                 pending = after_high;
                 at = next;
             }
-            UnitStep::Refused(refusal) => return TextRead::Refused(refusal),
         }
     }
 }

@@ -1,19 +1,12 @@
 -- Document 01, "Reading a reply": what the reader gives, as the call returns it. A name is its first offset, the length of its text and its pointer count.
-use Rattle.answers.specs.{declared.Form.Form, Refusal.number}
-use Rattle.std.specs.Prelude.{◌≡◌, List, [], map, ℕ, length, get_or}
-use Rattle.std.proofs.Math.Option
-use Rattle.std.proofs.Math.Option.{Option, none, some}
-use Rattle.answers.specs.Try.{Try, refused, good, number_of, value_of}
-use Rattle.reader.specs.declared.field.Stretch.{Stretch}
+use Rattle.std.specs.Prelude.{◌≡◌, List, [], map, ℕ, length, get_or, Ok, Err, Option, None, Some, option_map}
+use Rattle.answers.specs.declared.Form.{Form}
+use Rattle.answers.specs.Try.{Try, number_of, value_of}
 use Rattle.reader.specs.Reader as reader
 use Rattle.reader_names.specs.{declared.NameAt.NameAt, Name.name_as}
-use Rattle.reader_forms.specs.{declared.reading.Nt40Fields.Nt40Fields, declared.reading.ResponseFields.ResponseFields, declared.reading.Address.Address}
-use Rattle.reader_forms.specs.{declared.reading.NextSite.NextSite, declared.reading.ExFields.ExFields, declared.reading.Fields.Fields}
-use Rattle.reader_forms.specs.declared.reading.Reading.{Reading}
-use Rattle.reader_forms.specs.declared.reading.Address.TheVariants as address
-use Rattle.reader_forms.specs.declared.reading.NextSite.TheVariants as next_site_lem
+use Rattle.reader_forms.specs.{declared.reading.Nt40Fields.Nt40Fields, declared.reading.ResponseFields.ResponseFields, declared.reading.ExFields.ExFields}
+use Rattle.reader_forms.specs.{declared.reading.Fields.Fields, declared.reading.Reading.Reading}
 use Rattle.reader_forms.specs.declared.reading.Fields.TheVariants as fields
-use Rattle.reader_forms.specs.declared.reading.Reading.TheVariants as reading
 
 -- what stands past the last name, where no form has a place: a reading has 3 names or 8, as `ReadingSettled` implies
 abbrev pub no_name : reader.NameRead
@@ -42,14 +35,6 @@ response_as f =
       version = f.version;
     }
 
-abbrev pub address_as : Option Stretch → Address
-address_as none = address.Absent
-address_as (some t) = address.At t
-
-abbrev pub next_site_as : Option reader.NameRead → NextSite
-next_site_as none = next_site_lem.Absent
-next_site_as (some n) = next_site_lem.Name (name_as n)
-
 -- the names at places 0 to 7, and name 8 where it is present
 abbrev pub ex_as : reader.ExFields → ExFields
 ex_as f =
@@ -65,8 +50,8 @@ ex_as f =
       user = name_in f.names 5;
       own_site = name_in f.names 6;
       client_site = name_in f.names 7;
-      ipv4 = address_as f.ipv4;
-      next_site = next_site_as f.next_site_lem;
+      ipv4 = f.ipv4;
+      next_site = option_map name_as f.next_site_lem;
       version = f.version;
     }
 
@@ -75,27 +60,23 @@ fields_as (reader.nt40 f) = fields.Nt40 (nt40_as f)
 fields_as (reader.response f) = fields.Response (response_as f)
 fields_as (reader.ex f) = fields.Ex (ex_as f)
 
--- the reading of a reply's octets, as the enum that the call returns
-abbrev pub reading_as : List ℕ → Try reader.Fields → Reading
-reading_as s (refused r) = reading.Refused r
-reading_as s (good f) = reading.Read (length s) (fields_as f)
+-- the reading of a reply's octets, as the call returns it
+abbrev pub reading_as : List ℕ → Try reader.Fields → Try Reading
+reading_as s (Err r) = Err r
+reading_as s (Ok f) = Ok (record { length = length s; fields = fields_as f })
 
--- document 01's values of a reading: its number; with a refusal length 0 and no fields
-abbrev pub reading_number : Reading → ℕ
-reading_number (reading.Read len f) = 0
-reading_number (reading.Refused r) = number r
+-- document 01's values of a reading beside its number: with a refusal length 0 and no fields
+abbrev pub reading_length : Try Reading → ℕ
+reading_length (Err r) = 0
+reading_length (Ok read) = read.length
 
-abbrev pub reading_length : Reading → ℕ
-reading_length (reading.Read len f) = len
-reading_length (reading.Refused r) = 0
-
-abbrev pub reading_fields : Reading → Option Fields
-reading_fields (reading.Read len f) = some f
-reading_fields (reading.Refused r) = none
+abbrev pub reading_fields : Try Reading → Option Fields
+reading_fields (Err r) = None
+reading_fields (Ok read) = Some read.fields
 
 -- what `read_reply` promises
-pub record ReadReplyPromise (reply : List ℕ) (form : Form) (v : ℕ) (r : Reading) : Type 0 where
+pub record ReadReplyPromise (reply : List ℕ) (form : Form) (v : ℕ) (r : Try Reading) : Type 0 where
   pub same : r ≡ reading_as reply (reader.read_in form v reply)
-  pub numbered : reading_number r ≡ number_of (reader.read_in form v reply)
+  pub numbered : number_of r ≡ number_of (reader.read_in form v reply)
   pub sized : reading_length r ≡ reader.read_length (reader.read_in form v reply) reply
-  pub given : reading_fields r ≡ Option.map fields_as (value_of (reader.read_in form v reply))
+  pub given : reading_fields r ≡ option_map fields_as (value_of (reader.read_in form v reply))

@@ -1,9 +1,5 @@
 // What reading a reply gives, by value: numbers, stretches of the reply, and names by their first offsets.
-ghost use Rattle.std.specs.Prelude.{◌≡◌};
-ghost use Rattle.reader_forms.specs.Reading.{reading_number};
-
-use answers::{Refusal, number_of};
-use reader::field::Stretch;
+use octets::part::Stretch;
 use reader_names::NameAt;
 
 #[derive(Clone, Copy)]
@@ -30,20 +26,6 @@ pub struct ResponseFields {
     pub version: u32,
 }
 
-// The server's address, where v asked for it.
-#[derive(Clone, Copy)]
-pub enum Address {
-    Absent,
-    At(Stretch),
-}
-
-// Name 8, where it is present.
-#[derive(Clone, Copy)]
-pub enum NextSite {
-    Absent,
-    Name(NameAt),
-}
-
 #[derive(Clone, Copy)]
 pub struct ExFields {
     pub opcode: u16,
@@ -57,8 +39,10 @@ pub struct ExFields {
     pub user: NameAt,
     pub own_site: NameAt,
     pub client_site: NameAt,
-    pub ipv4: Address,
-    pub next_site: NextSite,
+    // where v asked for it
+    pub ipv4: Option<Stretch>,
+    // name 8, where it is present
+    pub next_site: Option<NameAt>,
     pub version: u32,
 }
 
@@ -70,22 +54,9 @@ pub enum Fields {
     Ex(ExFields),
 }
 
-// A reply that was read, with its length, or a refusal, which has neither length nor fields.
+// A reply that was read, with its length.
 #[derive(Clone, Copy)]
-pub enum Reading {
-    Read { length: usize, fields: Fields },
-    Refused(Refusal),
-}
-
-// Document 01's number of a reading.
-pub fn reading_number(reading: Reading) -> u8
-    ensures { result ≡ reading_number reading }
-{
-    match reading {
-        Reading::Read {
-            length: _,
-            fields: _,
-        } => 0,
-        Reading::Refused(r) => number_of(r),
-    }
+pub struct Reading {
+    pub length: usize,
+    pub fields: Fields,
 }

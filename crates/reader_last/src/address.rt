@@ -1,55 +1,29 @@
 // The server's address in an EX, where v asks for it.
-ghost use Rattle.reader_last.specs.Internal.Address.{AddressOf};
+ghost use Rattle.std.specs.Prelude.{◌≡◌};
+ghost use Rattle.reader.specs.Reader.{read_address};
 
 use answers::Refusal;
 use answers::wire::{DC_SOCK_ADDR_SIZE, SIN_FAMILY, SIN_ZERO};
+use octets::part::Stretch;
 use octets::size::IPV4_SIZE;
-use reader::field::{FieldRead, Stretch, fixed_at, fixed_u32_at, octets_at};
-use reader_forms::reading::Address;
+use reader::field::{Read, fixed_at, fixed_u32_at, stretch_at};
 
-#[derive(Drop)]
-pub struct AddressField {
-    pub address: Address,
-    pub next: usize,
-}
-
-#[derive(Drop)]
-pub enum AddressRead {
-    Address(AddressField),
-    Refused(Refusal),
-}
-
-pub fn read_address(reply: &[u8], asked: bool, at: usize) -> AddressRead
-    ensures { AddressOf reply.now asked at result }
+#[tactic(auto, unfolding(reader::specs::Reader::read_address))]
+pub fn read_address(reply: &[u8], asked: bool, at: usize) -> Result<Read<Option<Stretch>>, Refusal>
+    ensures { result ≡ read_address asked reply.now at }
 {
     if !asked {
-        return AddressRead::Address(AddressField {
-            address: Address::Absent,
+        return Ok(Read {
+            value: None,
             next: at,
         });
     }
-    let size = [DC_SOCK_ADDR_SIZE];
-    let family = match fixed_at(reply, at, &size) {
-        FieldRead::Next(next) => next,
-        FieldRead::Refused(refusal) => return AddressRead::Refused(refusal),
-    };
-    let start = match fixed_u32_at(reply, family, SIN_FAMILY) {
-        FieldRead::Next(next) => next,
-        FieldRead::Refused(refusal) => return AddressRead::Refused(refusal),
-    };
-    let zeros = match octets_at(reply, start, IPV4_SIZE) {
-        FieldRead::Next(next) => next,
-        FieldRead::Refused(refusal) => return AddressRead::Refused(refusal),
-    };
-    let padding = SIN_ZERO;
-    match fixed_at(reply, zeros, &padding) {
-        FieldRead::Next(next) => AddressRead::Address(AddressField {
-            address: Address::At(Stretch {
-                start,
-                len: IPV4_SIZE,
-            }),
-            next,
-        }),
-        FieldRead::Refused(refusal) => AddressRead::Refused(refusal),
-    }
+    let family = fixed_at(reply, at, &[DC_SOCK_ADDR_SIZE])?;
+    let start = fixed_u32_at(reply, family, SIN_FAMILY)?;
+    let ipv4 = stretch_at(reply, start, IPV4_SIZE)?;
+    let next = fixed_at(reply, ipv4.next, &SIN_ZERO)?;
+    Ok(Read {
+        value: Some(ipv4.value),
+        next,
+    })
 }

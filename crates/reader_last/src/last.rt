@@ -8,69 +8,58 @@ use answers::wire::{
     ENDING_SIZE, EX_VERSION, EX_VERSION_WITH_NEXT_SITE, NETLOGON_NT_VERSION_WITH_CLOSEST_SITE,
 };
 use octets::number::{has_bits, u32_at};
-use reader::field::{FieldRead, fixed_u32_at};
-use reader_forms::reading::NextSite;
-use reader_names::read::{NameRead, read_name};
+use reader::field::{Read, fixed_u32_at};
+use reader_names::NameAt;
+use reader_names::read::read_name;
 
-#[derive(Drop)]
+#[derive(Clone, Copy)]
 pub struct Last {
-    pub next_site: NextSite,
+    pub next_site: Option<NameAt>,
     pub version: u32,
-    pub next: usize,
-}
-
-#[derive(Drop)]
-pub enum LastRead {
-    Last(Last),
-    Refused(Refusal),
 }
 
 // Name 8 is present exactly when the version 8 octets from the end is 15h, whatever v asks.
+#[tactic(auto, unfolding(reader::specs::Reader::has_next_site))]
 pub fn has_next_site(reply: &[u8]) -> bool
     ensures { result ≡ has_next_site reply.now }
 {
-    if reply.len() < ENDING_SIZE {
-        return false;
-    }
-    u32_at(reply, reply.len() - ENDING_SIZE) == EX_VERSION_WITH_NEXT_SITE
+    ENDING_SIZE <= reply.len()
+        && u32_at(reply, reply.len() - ENDING_SIZE) == EX_VERSION_WITH_NEXT_SITE
 }
 
 // Name 8 and the version that goes with it: 34 where v lacks its bit.
-fn read_next_site(reply: &[u8], asked: u32, at: usize) -> LastRead
+#[tactic(auto, unfolding(reader::specs::Reader::read_last))]
+fn read_next_site(reply: &[u8], asked: u32, at: usize) -> Result<Read<Last>, Refusal>
     ensures { LastOf reply.now true asked at result }
 {
-    let site = match read_name(reply, at) {
-        NameRead::Name(field) => field,
-        NameRead::Refused(refusal) => return LastRead::Refused(refusal),
-    };
-    let next = match fixed_u32_at(reply, site.next, EX_VERSION_WITH_NEXT_SITE) {
-        FieldRead::Next(next) => next,
-        FieldRead::Refused(refusal) => return LastRead::Refused(refusal),
-    };
+    let site = read_name(reply, at)?;
+    let next = fixed_u32_at(reply, site.next, EX_VERSION_WITH_NEXT_SITE)?;
     if !has_bits(asked, NETLOGON_NT_VERSION_WITH_CLOSEST_SITE) {
-        return LastRead::Refused(Refusal::ReplyFixed);
+        return Err(Refusal::ReplyFixed);
     }
-    let name = site.name;
-    LastRead::Last(Last {
-        next_site: NextSite::Name(name),
-        version: EX_VERSION_WITH_NEXT_SITE,
+    Ok(Read {
+        value: Last {
+            next_site: Some(site.value),
+            version: EX_VERSION_WITH_NEXT_SITE,
+        },
         next,
     })
 }
 
 // The version is judged again where it stands.
-pub fn read_last(reply: &[u8], present: bool, asked: u32, at: usize) -> LastRead
+#[tactic(auto, unfolding(reader::specs::Reader::read_last))]
+pub fn read_last(reply: &[u8], present: bool, asked: u32, at: usize) -> Result<Read<Last>, Refusal>
     ensures { LastOf reply.now present asked at result }
 {
     if present {
         return read_next_site(reply, asked, at);
     }
-    match fixed_u32_at(reply, at, EX_VERSION) {
-        FieldRead::Next(next) => LastRead::Last(Last {
-            next_site: NextSite::Absent,
+    let next = fixed_u32_at(reply, at, EX_VERSION)?;
+    Ok(Read {
+        value: Last {
+            next_site: None,
             version: EX_VERSION,
-            next,
-        }),
-        FieldRead::Refused(refusal) => LastRead::Refused(refusal),
-    }
+        },
+        next,
+    })
 }

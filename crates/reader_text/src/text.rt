@@ -2,40 +2,34 @@
 ghost use Rattle.reader_text.specs.Text.{NameTextPromise};
 
 use crate::label::put_label;
-use crate::{NameText, TEXT_MOST, TextLength};
+use crate::{NameText, TEXT_MOST};
 use octets::part::part;
-use reader_names::step::{NameStep, name_step, text_len};
+use reader_names::step::{NameStep, text_len};
+use reader_names::walk::NameWalk;
 
 // Any offset may be asked for; where the reader accepts no name, its refusal is given, and no octets.
+// A `loop`: each step says where the next is.
 pub fn name_text(reply: &[u8], start: usize) -> NameText
     ensures { NameTextPromise reply.now start result }
 {
     let mut octets = [0; TEXT_MOST];
-    let mut run = start;
-    let mut at = start;
-    let mut spent = 0;
-    let mut pointers = 0;
+    let mut walk = NameWalk::starting(start);
     loop {
-        match name_step(reply, run, at, spent, pointers) {
-            NameStep::Ends => {
+        let here = walk;
+        match walk.step(reply) {
+            Ok(NameStep::Ends) => {
                 return NameText {
-                    len: TextLength::Octets(text_len(spent)),
+                    len: Ok(text_len(walk.spent)),
                     octets,
                 };
             }
-            NameStep::Label(len) => {
-                put_label(&mut octets, spent, part(reply, at + 1, len));
-                at = at + 1 + len;
-                spent = spent + 1 + len;
+            Ok(NameStep::Label(len)) => {
+                put_label(&mut octets, here.spent, part(reply, here.at + 1, len));
             }
-            NameStep::Pointer(aim) => {
-                run = aim;
-                at = aim;
-                pointers += 1;
-            }
-            NameStep::Refused(refusal) => {
+            Ok(NameStep::Pointer(_)) => {}
+            Err(refusal) => {
                 return NameText {
-                    len: TextLength::Refused(refusal),
+                    len: Err(refusal),
                     octets: [0; TEXT_MOST],
                 };
             }

@@ -1,6 +1,5 @@
 -- Document 01, "Reply octets": what a reply says, and its octets in each of the three forms.
-use Rattle.std.specs.Prelude.{Bool, true, false, List, [], ◌∷◌, ◌++◌, ℕ, length}
-use Rattle.std.proofs.Math.Option.{Option, none, some}
+use Rattle.std.specs.Prelude.{Bool, true, false, List, [], ◌∷◌, ◌++◌, ℕ, length, Option, None, Some}
 use Rattle.answers.specs.declared.Form.{Form}
 use Rattle.answers.specs.declared.Form.TheVariants.{Nt40, Response, Ex}
 use Rattle.answers.specs.Wire.{nt40_version, response_version, ex_version, ex_version_with_next_site, Sbz, NullGuid, LmNtToken, Lm20Token, DcSockAddrSize, sin_family, sin_zero}
@@ -72,8 +71,8 @@ address_if false ipv4 = []
 
 -- name 8, at its offset after what came before it, and the version by it
 abbrev pub ex_last : Option (List ℕ) → Writing → ℕ → List ℕ
-ex_last none names at = ending ex_version
-ex_last (some text) names at = (write_name names.tails at text).octets ++ ending ex_version_with_next_site
+ex_last None names at = ending ex_version
+ex_last (Some text) names at = (write_name names.tails at text).octets ++ ending ex_version_with_next_site
 
 unfoldable pub ex_octets : Reply → List ℕ
 ex_octets r =

@@ -1,4 +1,7 @@
 // What a reply says, its texts as stretches of the table image or of the ping's source.
+ghost use Rattle.std.specs.Prelude.{◌≡◌, ◌<◌, ◌≤◌, length, get_or, take};
+ghost use Rattle.lent.specs.Internal.Stretch.{empty_stretch};
+
 use lent::stretch::Stretch;
 
 // The slots of a reply's texts, the names of the EX form at their places: forest, context and host; the next three; own site and client site; and the next closest site.
@@ -22,4 +25,22 @@ pub struct RawReply {
     pub slots: [Stretch; SLOTS],
     pub with_address: bool,
     pub with_next_site: bool,
+}
+
+impl RawReply {
+    // Where the text of a slot lies.
+    pub fn text(&self, slot: usize) -> Stretch
+        requires { slot < 9 }
+        ensures { result ≡ get_or self.now.slots slot empty_stretch }
+    {
+        self.slots[slot]
+    }
+
+    // The same of the first `count` slots.
+    pub fn first(&self, count: usize) -> &[Stretch]
+        requires { count ≤ 9 }
+        ensures { (result.now ≡ take count self.now.slots) × (length result.now ≡ count) }
+    {
+        &self.slots[..count]
+    }
 }

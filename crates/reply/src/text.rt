@@ -1,13 +1,13 @@
 // Texts in UTF-16LE, as the two older forms have them.
-ghost use Rattle.std.specs.Prelude.{◌≡◌, ◌+◌, ◌≤◌, ◌<◌, length};
+ghost use Rattle.std.specs.Prelude.{◌≡◌, ◌+◌, ◌≤◌, length};
 ghost use Rattle.octets.specs.Buffer.{over};
 ghost use Rattle.lent.specs.Internal.OverAt.{over_at};
+ghost use Rattle.lent.specs.Internal.Stretch.{octets_at};
 ghost use Rattle.reply.specs.Reply.{text16};
-ghost use Rattle.reply.specs.Internal.RawReply.{slot_text, Short};
 
-use crate::raw::RawReply;
 use lent::put::put_u16_at;
-use lent::stretch::slot_text;
+use lent::slices::Lent;
+use lent::stretch::Stretch;
 use unicode_text::utf16::put_utf16;
 
 // A text, ended by a zero unit.
@@ -20,21 +20,11 @@ fn put_text(out: &mut [u8], s: &[u8]) -> usize
     put_u16_at(out, at, 0)
 }
 
-// The text of a slot.
-pub fn put_slot_at<'a>(
-    out: &mut [u8],
-    at: usize,
-    table: &'a [u8],
-    request: &'a [u8],
-    raw: RawReply,
-    slot: usize,
-) -> usize
-    requires short { Short raw × (slot < 9) }
-    requires slot_in_bounds { at + length (text16 (slot_text table.now request.now raw.slots slot)) ≤ length out.old }
-    ensures value { result ≡ at + length (text16 (slot_text table.now request.now raw.slots slot)) }
-    ensures out_after { out.new ≡ over_at at (text16 (slot_text table.now request.now raw.slots slot)) out.old }
+// The text of a slot, at an offset.
+pub fn put_text_at<'a>(out: &mut [u8], at: usize, lent: Lent<'a>, slot: Stretch) -> usize
+    requires { at + length (text16 (octets_at lent.table.now lent.request.now slot)) ≤ length out.old }
+    ensures value { result ≡ at + length (text16 (octets_at lent.entry.table.now lent.entry.request.now slot)) }
+    ensures out_after { out.new ≡ over_at at (text16 (octets_at lent.entry.table.now lent.entry.request.now slot)) out.old }
 {
-    let slots = raw.slots;
-    let text = slots[slot];
-    at + put_text(&mut out[at..], slot_text(table, request, text))
+    at + put_text(&mut out[at..], lent.text(slot))
 }

@@ -2,37 +2,30 @@
 ghost use Rattle.std.specs.Prelude.{◌≡◌, length};
 ghost use Rattle.octets.specs.Buffer.{over};
 ghost use Rattle.reply.specs.Reply.{octets_in};
-ghost use Rattle.reply.specs.Internal.RawReply.{reply_in, Short};
+ghost use Rattle.reply.specs.Internal.RawReply.{reply_in};
 ghost use Rattle.reply_write.specs.Internal.Fit.{FittedTo, octets_fitted};
 
 use crate::put::put_reply;
-use answers::Form;
+use answers::{Form, Refusal};
+use lent::slices::Lent;
 use reply::raw::RawReply;
 use reply_plan::plan::plan_reply;
 
-// What writing a reply gives: its length, or 19.
-#[derive(Drop)]
-pub enum Fitted {
-    Length(usize),
-    NoRoom,
-}
-
+// The length of a reply, or 19.
 pub fn fit_reply<'a>(
     out: &mut [u8],
-    table: &'a [u8],
-    request: &'a [u8],
+    lent: Lent<'a>,
     form: Form,
-    raw: RawReply,
-) -> Fitted
-    requires { Short raw }
-    ensures fitted_to { FittedTo (octets_in form (reply_in table.now request.now raw)) (length out.old) result }
-    ensures out_after { out.new ≡ over (octets_fitted (octets_in form (reply_in table.now request.now raw)) result) out.old }
+    raw: &RawReply,
+) -> Result<usize, Refusal>
+    ensures fitted_to { FittedTo (octets_in form (reply_in lent.entry.table.now lent.entry.request.now raw.now)) (length out.old) result }
+    ensures out_after { out.new ≡ over (octets_fitted (octets_in form (reply_in lent.entry.table.now lent.entry.request.now raw.now)) result) out.old }
 {
-    let plan = plan_reply(table, request, form, raw);
+    let plan = plan_reply(lent, form, raw);
     let length = plan.length;
     if out.len() < length {
-        return Fitted::NoRoom;
+        return Err(Refusal::NoRoom);
     }
-    put_reply(out, table, request, form, raw, plan);
-    Fitted::Length(length)
+    put_reply(out, lent, form, raw, &plan);
+    Ok(length)
 }

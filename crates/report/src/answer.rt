@@ -1,77 +1,60 @@
 // An answer number with its meaning: document 01, "Answer numbers" and "Reading a reply", and document 02.
-use answers::Form;
-use console::field::field;
-use console::say::{say, say_number};
+use answers::{Form, Refusal, number_of};
 use std::io;
 use std::io::Write;
 
-// What each refusal means, a row each from 0 on: 0 is none, and 10 is never given.
-const REFUSALS: [u8; 711] = *b"
-the table image is not 2 to 128 blocks of 512 octets
-the check of some block of the table is wrong
-the layout of some block of the table is wrong
-the table is wrong as a whole
-the filter is over 2,048 octets long
-the filter is not of the shape that is read
-the filter has a clause of another name
-the filter has a clause twice
-NtVer or AAC is not 4 octets, or User is over 63, not UTF-8 or has a zero octet
-
-DomainGuid is not 16 octets
-no context has this DomainGuid
-DnsDomain is empty
-no context has this DnsDomain
-DomainSid is not a SID
-no context has this DomainSid
-DomainSid is not that of the context used
-the reply would be EX, and a part of User between dots is empty
-the reply is longer than the buffer";
-
-const FIRST_OF_REPLY: u8 = 31;
-
-// From 31 on; 36 to 40 are none.
-const REPLY_REFUSALS: [u8; 212] = *b"the reply is cut short
-the opcode is not one of this form
-a text or a name is broken
-a fixed field has another value
-octets are left over after the reply
-
-
-
-
-
-the mailslot message is not of the shape that is read";
-
-fn say_refusal<W: Write>(to: &mut W, number: u8) -> io::Result<()> {
-    if number < FIRST_OF_REPLY {
-        say(to, field(&REFUSALS, b'\n', number as usize))?;
-        return Ok(());
+fn meaning_of(refusal: Refusal) -> &'static str {
+    match refusal {
+        Refusal::ImageLength => "the table image is not 2 to 128 blocks of 512 octets",
+        Refusal::BlockCheck => "the check of some block of the table is wrong",
+        Refusal::BlockLayout => "the layout of some block of the table is wrong",
+        Refusal::TableWhole => "the table is wrong as a whole",
+        Refusal::FilterLength => "the filter is over 2,048 octets long",
+        Refusal::FilterShape => "the filter is not of the shape that is read",
+        Refusal::UnknownClause => "the filter has a clause of another name",
+        Refusal::DuplicateClause => "the filter has a clause twice",
+        Refusal::ClauseValue => {
+            "NtVer or AAC is not 4 octets, or User is over 63, not UTF-8 or has a zero octet"
+        }
+        Refusal::GuidLength => "DomainGuid is not 16 octets",
+        Refusal::GuidNotHeld => "no context has this DomainGuid",
+        Refusal::DnsNameEmpty => "DnsDomain is empty",
+        Refusal::DnsNameNotHeld => "no context has this DnsDomain",
+        Refusal::SidShape => "DomainSid is not a SID",
+        Refusal::SidNotHeld => "no context has this DomainSid",
+        Refusal::SidOfAnother => "DomainSid is not that of the context used",
+        Refusal::UserLabelEmpty =>
+            "the reply would be EX, and a part of User between dots is empty",
+        Refusal::NoRoom => "the reply is longer than the buffer",
+        Refusal::ReplyCut => "the reply is cut short",
+        Refusal::ReplyOpcode => "the opcode is not one of this form",
+        Refusal::ReplyText => "a text or a name is broken",
+        Refusal::ReplyFixed => "a fixed field has another value",
+        Refusal::ReplyLeftOver => "octets are left over after the reply",
+        Refusal::MailslotShape => "the mailslot message is not of the shape that is read",
     }
-    say(
-        to,
-        field(&REPLY_REFUSALS, b'\n', (number - FIRST_OF_REPLY) as usize),
-    )
 }
 
-// The line of an answer. What 0 means is the program's to say.
-pub fn say_answer<W: Write>(to: &mut W, number: u8, good: &[u8]) -> io::Result<()> {
-    say(to, b"answer    ")?;
-    say_number(to, number as u64)?;
-    if number == 0 {
-        say(to, b", ")?;
-        say(to, good)?;
-    } else {
-        say(to, b", refused: ")?;
-        say_refusal(to, number)?;
+// The line of an answer. What one that is no refusal means is the program's to say.
+pub fn say_answer<T, W: Write>(
+    to: &mut W,
+    answer: &Result<T, Refusal>,
+    good: &str,
+) -> io::Result<()> {
+    match answer {
+        Ok(_) => writeln!(to, "answer    0, {good}"),
+        Err(refusal) => {
+            let number = number_of(*refusal);
+            writeln!(to, "answer    {number}, refused: {}", meaning_of(*refusal))
+        }
     }
-    say(to, b"\n")
 }
 
 pub fn say_form<W: Write>(to: &mut W, form: Form) -> io::Result<()> {
-    say(to, b"form      ")?;
-    match form {
-        Form::Nt40 => say(to, b"NT40\n"),
-        Form::Response => say(to, b"RESPONSE\n"),
-        Form::Ex => say(to, b"EX\n"),
-    }
+    let name = match form {
+        Form::Nt40 => "NT40",
+        Form::Response => "RESPONSE",
+        Form::Ex => "EX",
+    };
+    writeln!(to, "form      {name}")
 }

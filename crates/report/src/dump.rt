@@ -1,6 +1,5 @@
 // Octets as lines of sixteen: the offset, hex digits, and what is printable of them.
 use crate::text::is_printable;
-use console::say::{say, say_hex};
 use octets::part::part;
 use std::io;
 use std::io::Write;
@@ -8,64 +7,45 @@ use std::io::Write;
 const WIDTH: usize = 16;
 
 // The last line may lack columns.
-fn say_column<W: Write>(to: &mut W, line: &[u8], i: usize) -> io::Result<()> {
-    if i == WIDTH / 2 {
-        say(to, b" ")?;
-    }
-    if line.len() <= i {
-        say(to, b"   ")?;
-        return Ok(());
-    }
-    say(to, b" ")?;
-    say_hex(to, part(line, i, 1))
-}
-
 fn say_columns<W: Write>(to: &mut W, line: &[u8]) -> io::Result<()> {
-    let mut i = 0;
-    while i < WIDTH {
-        say_column(to, line, i)?;
-        i += 1;
+    for i in 0..WIDTH {
+        if i == WIDTH / 2 {
+            write!(to, " ")?;
+        }
+        match line.get(i) {
+            Some(octet) => write!(to, " {octet:02x}")?,
+            None => write!(to, "   ")?,
+        }
     }
     Ok(())
 }
 
-fn say_glyph<W: Write>(to: &mut W, x: u8) -> io::Result<()> {
-    let glyph = [x];
-    if is_printable(x) {
-        say(to, &glyph)?;
+fn glyph_of(octet: u8) -> char {
+    if is_printable(octet) {
+        char::from(octet)
     } else {
-        say(to, b".")?;
+        '.'
     }
-    Ok(())
 }
 
 fn say_glyphs<W: Write>(to: &mut W, line: &[u8]) -> io::Result<()> {
-    let mut i = 0;
-    while i < line.len() {
-        say_glyph(to, line[i])?;
-        i += 1;
+    for octet in line {
+        write!(to, "{}", glyph_of(*octet))?;
     }
     Ok(())
 }
 
-fn say_line<W: Write>(to: &mut W, octets: &[u8], at: usize) -> io::Result<()> {
-    let line = part(octets, at, WIDTH);
-    write!(to, "{at:08x}")?;
-    say(to, b" ")?;
+fn say_line<W: Write>(to: &mut W, at: usize, line: &[u8]) -> io::Result<()> {
+    write!(to, "{at:08x} ")?;
     say_columns(to, line)?;
-    say(to, b"  ")?;
+    write!(to, "  ")?;
     say_glyphs(to, line)?;
-    say(to, b"\n")
+    writeln!(to)
 }
 
 pub fn say_dump<W: Write>(to: &mut W, octets: &[u8]) -> io::Result<()> {
-    let mut at = 0;
-    while at < octets.len() {
-        say_line(to, octets, at)?;
-        if octets.len() - at <= WIDTH {
-            return Ok(());
-        }
-        at += WIDTH;
+    for at in (0..octets.len()).step_by(WIDTH) {
+        say_line(to, at, part(octets, at, WIDTH))?;
     }
     Ok(())
 }

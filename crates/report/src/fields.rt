@@ -1,78 +1,44 @@
 // The fields of a reply that was read, a line each.
 use crate::bits::{say_flags, say_opcode};
-use crate::text::{say_quoted, say_utf16_quoted};
-use console::say::{say, say_bits, say_hex, say_number};
-use octets::part::part;
-use reader::field::Stretch;
-use reader_forms::reading::{Address, ExFields, Fields, NextSite, Nt40Fields, ResponseFields};
+use crate::text::{Quoted, QuotedUtf16};
+use console::hex::Hex;
+use octets::part::{Stretch, part};
+use reader_forms::reading::{ExFields, Fields, Nt40Fields, ResponseFields};
 use reader_names::NameAt;
-use reader_text::TextLength;
 use reader_text::text::name_text;
 use std::io;
 use std::io::Write;
 
 pub fn say_version<W: Write>(to: &mut W, version: u32) -> io::Result<()> {
-    say(to, b"version   ")?;
-    say_bits(to, version)?;
-    say(to, b"\n")
+    writeln!(to, "version   {version:08x}")
 }
 
-pub fn say_text<W: Write>(to: &mut W, title: &[u8], reply: &[u8], text: Stretch) -> io::Result<()> {
-    say(to, title)?;
-    say_utf16_quoted(to, part(reply, text.start, text.len))?;
-    say(to, b"\n")
+pub fn say_text<W: Write>(to: &mut W, title: &str, reply: &[u8], text: Stretch) -> io::Result<()> {
+    writeln!(to, "{title}{}", QuotedUtf16(text.of(reply)))
 }
 
 fn say_guid<W: Write>(to: &mut W, reply: &[u8], guid: Stretch) -> io::Result<()> {
-    say(to, b"guid      ")?;
-    say_hex(to, part(reply, guid.start, guid.len))?;
-    say(to, b"\n")
-}
-
-fn say_decimal<W: Write>(to: &mut W, octet: u8) -> io::Result<()> {
-    say_number(to, octet as u64)
-}
-
-fn say_dotted<W: Write>(to: &mut W, octets: &[u8]) -> io::Result<()> {
-    if octets.len() < 4 {
-        return Ok(());
-    }
-    say_decimal(to, octets[0])?;
-    say(to, b".")?;
-    say_decimal(to, octets[1])?;
-    say(to, b".")?;
-    say_decimal(to, octets[2])?;
-    say(to, b".")?;
-    say_decimal(to, octets[3])
+    writeln!(to, "guid      {}", Hex(guid.of(reply)))
 }
 
 fn say_ipv4<W: Write>(to: &mut W, reply: &[u8], ipv4: Stretch) -> io::Result<()> {
-    say(to, b"address   ")?;
-    say_dotted(to, part(reply, ipv4.start, ipv4.len))?;
-    say(to, b"\n")
-}
-
-fn say_pointers<W: Write>(to: &mut W, n: u64) -> io::Result<()> {
-    say_number(to, n)?;
-    if n == 1 {
-        say(to, b" pointer\n")?;
-    } else {
-        say(to, b" pointers\n")?;
+    write!(to, "address   ")?;
+    if let [a, b, c, d, ..] = ipv4.of(reply) {
+        write!(to, "{a}.{b}.{c}.{d}")?;
     }
-    Ok(())
+    writeln!(to)
 }
 
-fn say_name<W: Write>(to: &mut W, title: &[u8], reply: &[u8], name: NameAt) -> io::Result<()> {
+fn say_name<W: Write>(to: &mut W, title: &str, reply: &[u8], name: NameAt) -> io::Result<()> {
     let text = name_text(reply, name.start);
-    let octets = text.octets;
-    let len = text.len;
-    say(to, title)?;
-    match len {
-        TextLength::Octets(n) => say_quoted(to, part(&octets, 0, n))?,
-        TextLength::Refused(_) => say(to, b"broken")?,
+    write!(to, "{title}")?;
+    match text.len {
+        Ok(len) => write!(to, "{}", Quoted(part(&text.octets, 0, len)))?,
+        Err(_) => write!(to, "broken")?,
     }
-    say(to, b", ")?;
-    say_pointers(to, name.pointers as u64)
+    let pointers = name.pointers;
+    let plural = if pointers == 1 { "" } else { "s" };
+    writeln!(to, ", {pointers} pointer{plural}")
 }
 
 // The texts of the two older forms.
@@ -83,9 +49,9 @@ fn say_texts<W: Write>(
     user: Stretch,
     domain: Stretch,
 ) -> io::Result<()> {
-    say_text(to, b"server    ", reply, server)?;
-    say_text(to, b"user      ", reply, user)?;
-    say_text(to, b"domain    ", reply, domain)
+    say_text(to, "server    ", reply, server)?;
+    say_text(to, "user      ", reply, user)?;
+    say_text(to, "domain    ", reply, domain)
 }
 
 // The names at places 0 to 2, of RESPONSE and EX alike.
@@ -96,84 +62,78 @@ fn say_first_names<W: Write>(
     context: NameAt,
     host: NameAt,
 ) -> io::Result<()> {
-    say_name(to, b"name 0    forest             ", reply, forest)?;
-    say_name(to, b"name 1    context            ", reply, context)?;
-    say_name(to, b"name 2    host               ", reply, host)
+    say_name(to, "name 0    forest             ", reply, forest)?;
+    say_name(to, "name 1    context            ", reply, context)?;
+    say_name(to, "name 2    host               ", reply, host)
 }
 
-fn say_nt40<W: Write>(to: &mut W, reply: &[u8], fields: Nt40Fields) -> io::Result<()> {
-    let server = fields.server;
-    let user = fields.user;
-    let domain = fields.domain;
+fn say_nt40<W: Write>(to: &mut W, reply: &[u8], fields: &Nt40Fields) -> io::Result<()> {
     say_opcode(to, fields.opcode)?;
-    say_texts(to, reply, server, user, domain)?;
+    say_texts(to, reply, fields.server, fields.user, fields.domain)?;
     say_version(to, fields.version)
 }
 
-fn say_response<W: Write>(to: &mut W, reply: &[u8], fields: ResponseFields) -> io::Result<()> {
-    let server = fields.server;
-    let user = fields.user;
-    let domain = fields.domain;
-    let guid = fields.guid;
-    let forest = fields.forest;
-    let context = fields.context;
-    let host = fields.host;
-    let ipv4 = fields.ipv4;
+fn say_response<W: Write>(to: &mut W, reply: &[u8], fields: &ResponseFields) -> io::Result<()> {
     say_opcode(to, fields.opcode)?;
     say_flags(to, fields.flags)?;
-    say_texts(to, reply, server, user, domain)?;
-    say_guid(to, reply, guid)?;
-    say_first_names(to, reply, forest, context, host)?;
-    say_ipv4(to, reply, ipv4)?;
+    say_texts(to, reply, fields.server, fields.user, fields.domain)?;
+    say_guid(to, reply, fields.guid)?;
+    say_first_names(to, reply, fields.forest, fields.context, fields.host)?;
+    say_ipv4(to, reply, fields.ipv4)?;
     say_version(to, fields.version)
 }
 
-fn say_address<W: Write>(to: &mut W, reply: &[u8], address: Address) -> io::Result<()> {
+fn say_address<W: Write>(to: &mut W, reply: &[u8], address: Option<Stretch>) -> io::Result<()> {
     match address {
-        Address::Absent => say(to, b"address   none\n"),
-        Address::At(ipv4) => say_ipv4(to, reply, ipv4),
+        None => writeln!(to, "address   none"),
+        Some(ipv4) => say_ipv4(to, reply, ipv4),
     }
 }
 
-fn say_next_site<W: Write>(to: &mut W, reply: &[u8], next_site: NextSite) -> io::Result<()> {
+fn say_next_site<W: Write>(to: &mut W, reply: &[u8], next_site: Option<NameAt>) -> io::Result<()> {
+    let title = "name 8    next closest site  ";
     match next_site {
-        NextSite::Absent => say(to, b"name 8    next closest site  none\n"),
-        NextSite::Name(name) => say_name(to, b"name 8    next closest site  ", reply, name),
+        None => writeln!(to, "{title}none"),
+        Some(name) => say_name(to, title, reply, name),
     }
 }
 
 // The names at places 0 to 7.
-fn say_ex_names<W: Write>(to: &mut W, reply: &[u8], fields: ExFields) -> io::Result<()> {
-    let forest = fields.forest;
-    let context = fields.context;
-    let host = fields.host;
-    let context_netbios = fields.context_netbios;
-    let server_netbios = fields.server_netbios;
-    let user = fields.user;
-    let own_site = fields.own_site;
-    let client_site = fields.client_site;
-    say_first_names(to, reply, forest, context, host)?;
-    say_name(to, b"name 3    context NetBIOS    ", reply, context_netbios)?;
-    say_name(to, b"name 4    server NetBIOS     ", reply, server_netbios)?;
-    say_name(to, b"name 5    user               ", reply, user)?;
-    say_name(to, b"name 6    own site           ", reply, own_site)?;
-    say_name(to, b"name 7    client site        ", reply, client_site)
+fn say_ex_names<W: Write>(to: &mut W, reply: &[u8], fields: &ExFields) -> io::Result<()> {
+    say_first_names(to, reply, fields.forest, fields.context, fields.host)?;
+    say_name(
+        to,
+        "name 3    context NetBIOS    ",
+        reply,
+        fields.context_netbios,
+    )?;
+    say_name(
+        to,
+        "name 4    server NetBIOS     ",
+        reply,
+        fields.server_netbios,
+    )?;
+    say_name(to, "name 5    user               ", reply, fields.user)?;
+    say_name(to, "name 6    own site           ", reply, fields.own_site)?;
+    say_name(
+        to,
+        "name 7    client site        ",
+        reply,
+        fields.client_site,
+    )
 }
 
-fn say_ex<W: Write>(to: &mut W, reply: &[u8], fields: ExFields) -> io::Result<()> {
-    let guid = fields.guid;
-    let ipv4 = fields.ipv4;
-    let next_site = fields.next_site;
+fn say_ex<W: Write>(to: &mut W, reply: &[u8], fields: &ExFields) -> io::Result<()> {
     say_opcode(to, fields.opcode)?;
     say_flags(to, fields.flags)?;
-    say_guid(to, reply, guid)?;
+    say_guid(to, reply, fields.guid)?;
     say_ex_names(to, reply, fields)?;
-    say_address(to, reply, ipv4)?;
-    say_next_site(to, reply, next_site)?;
+    say_address(to, reply, fields.ipv4)?;
+    say_next_site(to, reply, fields.next_site)?;
     say_version(to, fields.version)
 }
 
-pub fn say_fields<W: Write>(to: &mut W, reply: &[u8], fields: Fields) -> io::Result<()> {
+pub fn say_fields<W: Write>(to: &mut W, reply: &[u8], fields: &Fields) -> io::Result<()> {
     match fields {
         Fields::Nt40(nt40) => say_nt40(to, reply, nt40),
         Fields::Response(response) => say_response(to, reply, response),

@@ -1,72 +1,54 @@
 // Texts of a reply, quoted: printable ASCII as it is, any other octet as \hh, any other UTF-16 unit as \uhhhh.
-use console::say::{say, say_hex};
-use octets::part::part;
-use std::io;
-use std::io::Write;
+use std::fmt;
+use std::fmt::Display;
 
 pub fn is_printable(x: u8) -> bool {
-    if x < b' ' {
-        return false;
-    }
-    x <= b'~'
+    matches!(x, b' '..=b'~')
 }
 
 // Whether an octet can stand in quotes as it is.
 fn is_plain(x: u8) -> bool {
-    if x == b'"' {
-        return false;
-    }
-    if x == b'\\' {
-        return false;
-    }
-    is_printable(x)
+    is_printable(x) & !matches!(x, b'"' | b'\\')
 }
 
-fn say_octet<W: Write>(to: &mut W, x: u8) -> io::Result<()> {
-    let octet = [x];
-    if is_plain(x) {
-        say(to, &octet)?;
-        return Ok(());
+#[derive(Clone, Copy)]
+pub struct Quoted<'a>(pub &'a [u8]);
+
+fn put_octet<W: fmt::Write>(f: &mut fmt::Formatter<W>, octet: u8) -> fmt::Result {
+    if is_plain(octet) {
+        write!(f, "{}", char::from(octet))
+    } else {
+        write!(f, "\\{octet:02x}")
     }
-    say(to, b"\\")?;
-    say_hex(to, &octet)
 }
 
-pub fn say_quoted<W: Write>(to: &mut W, octets: &[u8]) -> io::Result<()> {
-    say(to, b"\"")?;
-    let mut i = 0;
-    while i < octets.len() {
-        say_octet(to, octets[i])?;
-        i += 1;
-    }
-    say(to, b"\"")
-}
-
-// A unit of two octets, the less significant first.
-fn say_unit<W: Write>(to: &mut W, unit: &[u8]) -> io::Result<()> {
-    if unit.len() < 2 {
-        return Ok(());
-    }
-    if unit[1] == 0 {
-        if is_plain(unit[0]) {
-            say(to, part(unit, 0, 1))?;
-            return Ok(());
+impl Display for Quoted<'_> {
+    fn fmt<W: fmt::Write>(&self, f: &mut fmt::Formatter<W>) -> fmt::Result {
+        write!(f, "\"")?;
+        for octet in self.0 {
+            put_octet(f, *octet)?;
         }
+        write!(f, "\"")
     }
-    say(to, b"\\u")?;
-    say_hex(to, part(unit, 1, 1))?;
-    say_hex(to, part(unit, 0, 1))
 }
 
-pub fn say_utf16_quoted<W: Write>(to: &mut W, octets: &[u8]) -> io::Result<()> {
-    say(to, b"\"")?;
-    let mut i = 0;
-    while i < octets.len() {
-        say_unit(to, part(octets, i, 2))?;
-        if octets.len() - i <= 2 {
-            break;
-        }
-        i += 2;
+// A text in UTF-16LE. Half a unit is not shown.
+#[derive(Clone, Copy)]
+pub struct QuotedUtf16<'a>(pub &'a [u8]);
+
+fn put_unit<W: fmt::Write>(f: &mut fmt::Formatter<W>, unit: u16) -> fmt::Result {
+    match u8::try_from(unit) {
+        Ok(octet) if is_plain(octet) => write!(f, "{}", char::from(octet)),
+        _ => write!(f, "\\u{unit:04x}"),
     }
-    say(to, b"\"")
+}
+
+impl Display for QuotedUtf16<'_> {
+    fn fmt<W: fmt::Write>(&self, f: &mut fmt::Formatter<W>) -> fmt::Result {
+        write!(f, "\"")?;
+        for unit in self.0.as_chunks::<2>().0 {
+            put_unit(f, u16::from_le_bytes(*unit))?;
+        }
+        write!(f, "\"")
+    }
 }

@@ -1,10 +1,10 @@
 -- Document 02, #105, and source page 001: messages octet by octet, by the sizes of their texts, and what they are read to.
-use Rattle.std.specs.Prelude.{◌≡◌, ℕ, ◌+◌, ◌*◌, replicate}
+use Rattle.std.specs.Prelude.{◌≡◌, ℕ, ◌+◌, ◌*◌, replicate, Ok, Err}
 use mathlib.Core.List.{List, [], ◌∷◌, ◌++◌, map, flat_map}
 use Rattle.answers.specs.declared.Refusal.TheVariants.{MailslotShape}
-use Rattle.answers.specs.Try.{Try, refused, good}
+use Rattle.answers.specs.Try.{Try}
 use Rattle.mailslot.specs.{declared.message.Message.Message, Message.message_in}
-use Rattle.reader.specs.declared.field.Stretch.{Stretch}
+use Rattle.octets.specs.declared.part.Stretch.{Stretch}
 
 -- so many units of the computer and of the user, octets of the mailslot's name and of padding, and parts of the SID
 abbrev pub Sizes : Type 0
@@ -30,7 +30,7 @@ abbrev pub at : ℕ → ℕ → Stretch
 at start len = record { start = start; len = len }
 
 abbrev pub message_of : Stretch → Stretch → Stretch → Stretch → Try Message
-message_of computer user name sid = good (record { repeat = 7; computer = computer; user = user; mailslot = name; bits = 0x10; sid = sid; version = 6 })
+message_of computer user name sid = Ok (record { repeat = 7; computer = computer; user = user; mailslot = name; bits = 0x10; sid = sid; version = 6 })
 
 -- the longest, of 316 octets; then each limit passed alone, a SID of 16 parts, padding counted from after the opcode, and each size of padding
 abbrev pub messages : List Sizes
@@ -51,11 +51,11 @@ abbrev pub MessagesRead : Type 0
 MessagesRead =
     map (λ sizes. message_in (octets_of_sizes sizes)) messages
     ≡ message_of (at 4 30) (at 36 126) (at 164 64) (at 240 68)
-    ∷ refused MailslotShape
-    ∷ refused MailslotShape
-    ∷ refused MailslotShape
-    ∷ refused MailslotShape
-    ∷ refused MailslotShape
+    ∷ Err MailslotShape
+    ∷ Err MailslotShape
+    ∷ Err MailslotShape
+    ∷ Err MailslotShape
+    ∷ Err MailslotShape
     ∷ message_of (at 4 0) (at 6 0) (at 8 3) (at 20 12)
     ∷ message_of (at 4 0) (at 6 2) (at 10 2) (at 24 12)
     ∷ message_of (at 4 0) (at 6 0) (at 8 1) (at 20 12)

@@ -1,10 +1,9 @@
 -- Document 01, "Sample answers": P1 to P12 as one table under one statement, with rows for #101 and #107, and for what no statement else ties to its numbers.
-use Rattle.std.specs.Prelude.{◌≡◌, cond, ℕ, ◌+◌, length, take, replicate}
+use Rattle.std.specs.Prelude.{◌≡◌, cond, ℕ, ◌+◌, length, take, replicate, Ok, Err, Option, None, Some}
 use mathlib.Core.List.{List, [], ◌∷◌, ◌++◌, map, flat_map}
-use Rattle.std.proofs.Math.Option.{Option, none, some}
 use Rattle.answers.specs.declared.Form.{Form}
 use Rattle.answers.specs.declared.Form.TheVariants.{Nt40, Response, Ex}
-use Rattle.answers.specs.Try.{Try, refused, good, number_of}
+use Rattle.answers.specs.Try.{Try, number_of}
 use Rattle.filter.specs.declared.request.ClauseName.{ClauseName}
 use Rattle.filter.specs.declared.request.ClauseName.TheVariants.{DnsDomain, User, Aac, DomainGuid, NtVer}
 use Rattle.filter_octets.specs.Octets.{element, equality_for}
@@ -17,7 +16,7 @@ use Rattle.table.specs.{Address.address_number, Bits.role_nt4_wanted, declared.C
 use Rattle.table_check.specs.Check.{check_of_lem}
 use Rattle.table_find.specs.Find.{in_subnet}
 use Rattle.unicode_text.specs.Utf16.{utf16}
-use Rattle.locator.specs.Answer.{Outcome, answer_to, answer_as, octets_written, answer_number, answer_length, answer_context, answer_form}
+use Rattle.locator.specs.Answer.{Outcome, answer_to, answer_as, octets_written, answer_length, answer_context, answer_form}
 
 -- the base table
 
@@ -82,7 +81,7 @@ pub record Value : Type 0 where
 
 -- a filter of clauses inside one AND
 unfoldable pub filter : List Value → List ℕ
-filter vs = element 0xA0 (flat_map (λ v. equality_for v.name (some v.octets)) vs)
+filter vs = element 0xA0 (flat_map (λ v. equality_for v.name (Some v.octets)) vs)
 
 unfoldable pub version : ℕ → Value
 version v = record { name = NtVer; octets = u32 v }
@@ -99,13 +98,13 @@ pings roles f room = answer_to (image roles) caller f room
 
 -- what an answer is judged by: its number, length and context, the form (0 none, 1 NT40, 2 RESPONSE, 3 EX), and the opcode, 0 where there is none
 abbrev pub form_mark : Option Form → ℕ
-form_mark none = 0
-form_mark (some Nt40) = 1
-form_mark (some Response) = 2
-form_mark (some Ex) = 3
+form_mark None = 0
+form_mark (Some Nt40) = 1
+form_mark (Some Response) = 2
+form_mark (Some Ex) = 3
 
 unfoldable pub summary : Try Outcome → List ℕ
-summary o = let a = answer_as o in answer_number a ∷ answer_length a ∷ answer_context a ∷ form_mark (answer_form a) ∷ little (take 2 (octets_written o)) ∷ []
+summary o = let a = answer_as o in number_of a ∷ answer_length a ∷ answer_context a ∷ form_mark (answer_form a) ∷ little (take 2 (octets_written o)) ∷ []
 
 unfoldable pub refusal : ℕ → List ℕ
 refusal n = n ∷ 0 ∷ 0 ∷ 0 ∷ 0 ∷ []
@@ -118,13 +117,13 @@ counts_in (response f) = map (λ n. n.pointers) f.names
 counts_in (ex f) = map (λ n. n.pointers) f.names
 
 abbrev pub counts : Try Fields → List ℕ
-counts (refused r) = []
-counts (good f) = counts_in f
+counts (Err r) = []
+counts (Ok f) = counts_in f
 
 -- one more than the count, so that 0 is no name
 abbrev pub walked_count : Option WalkedName → ℕ
-walked_count none = 0
-walked_count (some n) = 1 + n.pointers
+walked_count None = 0
+walked_count (Some n) = 1 + n.pointers
 
 unfoldable pub P1 : List ℕ
 P1 =
@@ -196,7 +195,7 @@ samples =
     -- a check that tells its octets apart
     ∷ row (let c = check_of_lem (1 ∷ 2 ∷ 3 ∷ []) in c.a ∷ c.b ∷ []) (7 ∷ 13 ∷ [])
     -- 10.1.2.3 is in 10.1.0.0/16, and not in 10.2.0.0/16
-    ∷ row (map (λ x. cond (in_subnet (address_number (10 ∷ 1 ∷ 2 ∷ 3 ∷ [])) (record { address = 10 ∷ x ∷ 0 ∷ 0 ∷ []; prefix = 16; site = none })) 1 0) (1 ∷ 2 ∷ [])) (1 ∷ 0 ∷ [])
+    ∷ row (map (λ x. cond (in_subnet (address_number (10 ∷ 1 ∷ 2 ∷ 3 ∷ [])) (record { address = 10 ∷ x ∷ 0 ∷ 0 ∷ []; prefix = 16; site = None })) 1 0) (1 ∷ 2 ∷ [])) (1 ∷ 0 ∷ [])
     -- a label cut short, and the same behind a pointer
     ∷ row (map (λ at. number_of (read_name (5 ∷ 0xC0 ∷ 0 ∷ []) at)) (0 ∷ 1 ∷ [])) (31 ∷ 33 ∷ [])
     ∷ []

@@ -1,8 +1,7 @@
 -- Document 02, #113: no reply "with the same fields and names in the same order is shorter, among all in which each name is written as labels ended by a
 -- zero octet or by one pointer to a literally written label of an earlier name". First these replies, by that sentence alone; then what holds of them.
-use Rattle.std.specs.Prelude.{◌≡◌, Bool, true, ℕ, ◌+◌, ◌<◌, ◌≤◌, length}
+use Rattle.std.specs.Prelude.{◌≡◌, Bool, true, ℕ, ◌+◌, ◌<◌, ◌≤◌, length, Option, None, Some}
 use mathlib.Core.List.{List, [], ◌∷◌, ◌++◌, map, Memᴰ as Among}
-use Rattle.std.proofs.Math.Option.{Option, none, some}
 use Rattle.answers.specs.declared.Form.{Form}
 use Rattle.answers.specs.declared.Form.TheVariants.{Nt40, Response, Ex}
 use Rattle.answers.specs.Wire.{response_version, ex_version, ex_version_with_next_site}
@@ -20,8 +19,8 @@ pub data Field : Type 0 where
 
 -- name 8, where there is one, and the version by it
 abbrev pub last_fields : Option (List ℕ) → List Field
-last_fields none = fixed (ending ex_version) ∷ []
-last_fields (some text) = name text ∷ fixed (ending ex_version_with_next_site) ∷ []
+last_fields None = fixed (ending ex_version) ∷ []
+last_fields (Some text) = name text ∷ fixed (ending ex_version_with_next_site) ∷ []
 
 -- NT40 has no names, so it is one field here
 abbrev pub fields_of : Form → Reply → List Field
@@ -78,7 +77,7 @@ AreNames form r = all is_name (texts_of (fields_of form r)) ≡ true
 
 -- the walk from a name's first octet gives its labels, by some number of pointers
 abbrev pub Read : List ℕ → Placed → Type 0
-Read s n = (pointers : ℕ) × (walk s n.offset ≡ some (record { labels = labels n.text; pointers = pointers }))
+Read s n = (pointers : ℕ) × (walk s n.offset ≡ Some (record { labels = labels n.text; pointers = pointers }))
 
 -- a reply says the names of some fields: they start at its places, in order, and each is read back
 pub record SaysNames (fields : List Field) (s : List ℕ) (places : List Placed) : Type 0 where
@@ -109,7 +108,7 @@ pub record Shortest (form : Form) (v : ℕ) (r : Reply) (s : List ℕ) : Type 0 
   pub places : List Placed
   pub compared : Compared form r s places
   pub least : (other : List ℕ) (at : List Placed) → Compared form r other at → length s ≤ length other
-  pub read_back_lem : (other : List ℕ) (at : List Placed) → Compared form r other at → SaysNames (fields_of form r) other at
+  pub read_back : (other : List ℕ) (at : List Placed) → Compared form r other at → SaysNames (fields_of form r) other at
 
 -- so of every answer over a table, and of the octets that an answering call leaves
 abbrev pub ShortestAnswerOver : Type 0

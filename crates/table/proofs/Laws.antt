@@ -1,3 +1,4 @@
 pub mod Field
 pub mod Format
 pub mod Table
+pub mod Walks

@@ -1,6 +1,5 @@
 -- Document 01, "The table image", kind 3: a naming context, and its fields' offsets in the body.
-use Rattle.std.specs.Prelude.{Bool, true, false, List, ℕ, eqb, drop, get_or}
-use Rattle.std.proofs.Math.Option.{Option, none, some}
+use Rattle.std.specs.Prelude.{Bool, true, false, List, ℕ, eqb, drop, get_or, Option, None, Some}
 use Rattle.octets.specs.{Lists.cut, NameRule.netbios_name_most, NameRule.dns_name_most, Number.u16_at, Sid.sid_length, Sid.guid_size}
 use Rattle.table.specs.{declared.ContextNumber.ContextNumber, declared.field.TextField.TextField, declared.record.RecordFormat.RecordFormat}
 use Rattle.table.specs.{Block.body_size, Countings.context_number, Field.text_at}
@@ -35,8 +34,8 @@ abbrev pub sid_at_lem : List ℕ → List ℕ
 sid_at_lem b = cut b sid_offset (sid_length (drop sid_offset b))
 
 abbrev pub sid_if : Bool → List ℕ → Option (List ℕ)
-sid_if true s = some s
-sid_if false s = none
+sid_if true s = Some s
+sid_if false s = None
 
 abbrev pub context_netbios_lem : TextField
 context_netbios_lem = record { offset = 88; room = netbios_name_most }

@@ -1,6 +1,5 @@
 -- Document 01, "The table image": naming-context numbers, site numbers and block places are three countings, and none is used for another.
-use Rattle.std.specs.Prelude.{Bool, cond, ℕ, ◌+◌, eqb}
-use Rattle.std.proofs.Math.Option.{Option, none, some}
+use Rattle.std.specs.Prelude.{Bool, cond, ℕ, ◌+◌, eqb, Option, None, Some}
 use Rattle.table.specs.{declared.BlockPlace.BlockPlace, declared.ContextNumber.ContextNumber, declared.SiteNumber.SiteNumber}
 
 abbrev pub context_number : ℕ → ContextNumber
@@ -18,7 +17,7 @@ next_place place = block_place (place.0 + 1)
 
 -- where 0 means none
 abbrev pub site_or_none : ℕ → Option SiteNumber
-site_or_none n = cond (eqb n 0) none (some (site_number n))
+site_or_none n = cond (eqb n 0) None (Some (site_number n))
 
 abbrev pub same_context : ContextNumber → ContextNumber → Bool
 same_context m n = eqb m.0 n.0

@@ -1,6 +1,5 @@
 -- Document 01, "The table image", kind 5: a site, and its fields' offsets in the record.
-use Rattle.std.specs.Prelude.{List, ℕ}
-use Rattle.std.proofs.Math.Option.{Option}
+use Rattle.std.specs.Prelude.{List, ℕ, Option}
 use Rattle.octets.specs.{NameRule.site_name_most, Number.u16_at}
 use Rattle.table.specs.{declared.SiteNumber.SiteNumber, declared.field.TextField.TextField, declared.record.RecordFormat.RecordFormat}
 use Rattle.table.specs.{Countings.site_number, Countings.site_or_none, Field.text_at}

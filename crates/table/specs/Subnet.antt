@@ -1,6 +1,5 @@
 -- Document 01, "The table image", kind 6: a subnet, and its fields' offsets in the record.
-use Rattle.std.specs.Prelude.{Bool, ◌&&◌, List, ℕ, eqb, get_or}
-use Rattle.std.proofs.Math.Option.{Option}
+use Rattle.std.specs.Prelude.{Bool, ◌&&◌, List, ℕ, eqb, get_or, Option}
 use Rattle.octets.specs.{Lists.cut, Number.u16_at, Sid.ipv4_size}
 use Rattle.table.specs.{declared.SiteNumber.SiteNumber, declared.record.RecordFormat.RecordFormat, Address.address_number, Countings.site_or_none}
 

@@ -1,4 +1,6 @@
 // An account, by its record's octets.
+#![tactic(auto, unfolding(crate::specs::Account::account_of))]
+
 ghost use Rattle.std.specs.Prelude.{◌≡◌};
 ghost use Rattle.table.specs.Account.{account_of};
 

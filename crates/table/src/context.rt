@@ -1,4 +1,6 @@
 // A naming context, by its record's octets.
+#![tactic(auto, unfolding(crate::specs::Context::context_of))]
+
 ghost use Rattle.std.specs.Prelude.{◌≡◌, eqb};
 ghost use Rattle.table.specs.Context.{application_octet, has_sid_octet, sid_at_lem, context_of};
 

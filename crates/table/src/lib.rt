@@ -15,17 +15,17 @@ pub mod site;
 pub mod subnet;
 
 // Naming-context numbers, site numbers and block places are three countings, and none is used for another.
-#[derive(Clone, Copy)]
+#[derive(Clone, Copy, PartialEq, Eq, PartialOrd, Ord)]
 pub struct ContextNumber(pub u16);
 
-#[derive(Clone, Copy)]
+#[derive(Clone, Copy, PartialEq, Eq)]
 pub struct SiteNumber(pub u16);
 
-#[derive(Clone, Copy)]
+#[derive(Clone, Copy, PartialEq, Eq)]
 pub struct BlockPlace(pub u16);
 
 // Who asks: the client's IPv4 address, in dotted order.
-#[derive(Drop)]
+#[derive(Clone, Copy)]
 pub struct Caller {
     pub address: [u8; 4],
 }

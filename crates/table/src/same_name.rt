@@ -4,6 +4,7 @@ ghost use Rattle.table.specs.SameName.{same_dns_name};
 
 use octets::text::same_folded;
 
+#[tactic(auto, unfolding(crate::specs::SameName::same_dns_name))]
 pub fn same_dns_name(a: &[u8], b: &[u8]) -> bool
     ensures { result ≡ same_dns_name a.now b.now }
 {

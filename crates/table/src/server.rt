@@ -1,4 +1,6 @@
 // The server, by the octets of its block's body.
+#![tactic(auto, unfolding(crate::specs::Server::server_of))]
+
 ghost use Rattle.std.specs.Prelude.{◌≡◌, ◌≤◌, length};
 ghost use Rattle.table.specs.Block.{block_size};
 ghost use Rattle.table.specs.Server.{server_of};

@@ -1,10 +1,11 @@
 // A site, by its record's octets, and sites that other records refer to.
+#![tactic(auto, unfolding(crate::specs::Site::site_of))]
+
 ghost use Rattle.std.specs.Prelude.{◌≡◌, ◌≤◌};
 ghost use Rattle.octets.specs.Number.{u16_at};
 ghost use Rattle.table.specs.Block.{block_size};
 ghost use Rattle.table.specs.Countings.{site_or_none};
 ghost use Rattle.table.specs.Site.{site_of};
-ghost use Rattle.table.specs.Internal.Reference.{referred};
 
 use crate::SiteNumber;
 use crate::field::{TextField, u16_in};
@@ -26,23 +27,16 @@ pub const NAME: TextField = TextField {
 
 pub const NEXT: usize = 66;
 
-// A site that is referred to, or none.
-#[derive(Clone, Copy)]
-pub enum SiteReference {
-    To(SiteNumber),
-    Nothing,
-}
-
 // The site number at an offset, where 0 means none.
-pub fn reference_in(octets: &[u8], offset: usize) -> SiteReference
+pub fn reference_in(octets: &[u8], offset: usize) -> Option<SiteNumber>
     requires { offset ≤ block_size }
-    ensures { referred result ≡ site_or_none (u16_at octets.now offset) }
+    ensures { result ≡ site_or_none (u16_at octets.now offset) }
 {
     let number = u16_in(octets, offset);
     if number == 0 {
-        return SiteReference::Nothing;
+        return None;
     }
-    SiteReference::To(SiteNumber(number))
+    Some(SiteNumber(number))
 }
 
 pub fn number(octets: &[u8]) -> SiteNumber
@@ -52,8 +46,8 @@ pub fn number(octets: &[u8]) -> SiteNumber
 }
 
 // The next closest site.
-pub fn next(octets: &[u8]) -> SiteReference
-    ensures { referred result ≡ (site_of octets.now).next }
+pub fn next(octets: &[u8]) -> Option<SiteNumber>
+    ensures { result ≡ (site_of octets.now).next }
 {
     reference_in(octets, NEXT)
 }

@@ -1,12 +1,14 @@
 // A subnet, by its record's octets.
+#![tactic(auto, unfolding(crate::specs::Subnet::subnet_of))]
+
 ghost use Rattle.std.specs.Prelude.{◌≡◌};
 ghost use Rattle.table.specs.Subnet.{in_use_octet, subnet_of};
-ghost use Rattle.table.specs.Internal.Reference.{referred};
 
+use crate::SiteNumber;
 use crate::block::BLOCKS_MOST;
 use crate::field::octet_in;
 use crate::record::RecordFormat;
-use crate::site::{SiteReference, reference_in};
+use crate::site::reference_in;
 use octets::part::part;
 use octets::size::IPV4_SIZE;
 
@@ -45,8 +47,8 @@ pub fn in_use_octet(octets: &[u8]) -> u8
     octet_in(octets, IN_USE)
 }
 
-pub fn site(octets: &[u8]) -> SiteReference
-    ensures { referred result ≡ (subnet_of octets.now).site }
+pub fn site(octets: &[u8]) -> Option<SiteNumber>
+    ensures { result ≡ (subnet_of octets.now).site }
 {
     reference_in(octets, SITE)
 }

@@ -32,13 +32,10 @@ fn all_records(b: &[u8], kind: RecordKind) -> bool
 {
     let format = format_of(kind);
     let width = format.width;
-    let count = format.count;
-    let mut i = 0;
-    while i < count {
+    for i in 0..format.count {
         if !record_layout(part(b, width * i, width), kind) {
             return false;
         }
-        i += 1;
     }
     true
 }
@@ -67,10 +64,10 @@ fn any_records_layout(octet: u8, b: &[u8]) -> bool
 fn body_layout(place: BlockPlace, octet: u8, b: &[u8]) -> bool
     ensures { result ≡ body_layout place octet b.now }
 {
-    if place.0 == server::PLACE.0 {
+    if place == server::PLACE {
         return (octet == server::KIND) & server_layout(b);
     }
-    if place.0 == forest::PLACE.0 {
+    if place == forest::PLACE {
         return (octet == forest::KIND) & forest_layout(b);
     }
     any_records_layout(octet, b)
@@ -80,9 +77,7 @@ pub fn block_layout(place: BlockPlace, block: &[u8]) -> bool
     ensures { result ≡ block_layout place block.now }
 {
     let own = place_of(block);
-    (version_of(block) == 1)
-        & (own.0 == place.0)
-        & body_layout(place, kind_of(block), body_of(block))
+    (version_of(block) == 1) & (own == place) & body_layout(place, kind_of(block), body_of(block))
 }
 
 // Whether each block of an image has the layout of its kind and names its own place.
@@ -90,14 +85,11 @@ pub fn good_layouts(image: &[u8]) -> bool
     requires { length image.now ≤ image_most }
     ensures { result ≡ layouts_from server_place (blocks_of image.now) }
 {
-    let n = image.len() / BLOCK_SIZE;
-    let mut i = 0;
-    while i < n {
+    for i in 0..image.len() / BLOCK_SIZE {
         let place = BlockPlace(i as u16);
         if !block_layout(place, block_at(image, place)) {
             return false;
         }
-        i += 1;
     }
     true
 }

@@ -1,13 +1,12 @@
 // The check of each block.
 ghost use Rattle.std.specs.Prelude.{◌≡◌, ◌*◌, ◌≤◌, ◌<◌, length};
 ghost use Rattle.octets.specs.Lists.{all};
-ghost use Rattle.table.specs.Block.{image_most, blocks_of};
+ghost use Rattle.table.specs.Block.{blocks_of};
 ghost use Rattle.table_check.specs.Check.{good_check, CheckOfPromise};
 ghost use Rattle.table_check.specs.Step.{sum, counted, step};
 
 use octets::part::part;
-use table::BlockPlace;
-use table::block::{BLOCK_SIZE, CHECK, block_at};
+use table::block::{BLOCK_SIZE, CHECK};
 use table::field::u16_in;
 
 // How many octets a step takes.
@@ -43,12 +42,10 @@ fn sums_of(octets: &[u8]) -> Sums
     let mut sum: u16 = 0;
     let mut counted: u16 = 0;
     let mut left = octets.len() as u16;
-    let mut i = 0;
-    while i < octets.len() {
-        sum += octets[i] as u16;
-        counted += weighed(octets[i], left);
+    for x in octets {
+        sum += *x as u16;
+        counted += weighed(*x, left);
         left -= 1;
-        i += 1;
     }
     Sums { sum, counted }
 }
@@ -70,12 +67,12 @@ pub fn check_of(octets: &[u8]) -> Check
     ensures { CheckOfPromise octets.now result }
 {
     let mut check = Check { a: 1, b: 0 };
-    let mut i = 0;
-    while STEP <= octets.len() - i {
-        check = step(check, &octets[i..i + STEP]);
-        i += STEP;
+    let mut left = octets;
+    while let Some((front, rest)) = left.split_at_checked(STEP) {
+        check = step(check, front);
+        left = rest;
     }
-    step(check, &octets[i..])
+    step(check, left)
 }
 
 pub fn good_check(block: &[u8]) -> bool
@@ -87,16 +84,7 @@ pub fn good_check(block: &[u8]) -> bool
 
 // Whether each block of an image stores its own check.
 pub fn good_checks(image: &[u8]) -> bool
-    requires { length image.now ≤ image_most }
     ensures { result ≡ all good_check (blocks_of image.now) }
 {
-    let n = image.len() / BLOCK_SIZE;
-    let mut i = 0;
-    while i < n {
-        if !good_check(block_at(image, BlockPlace(i as u16))) {
-            return false;
-        }
-        i += 1;
-    }
-    true
+    image.chunks_exact(BLOCK_SIZE).all(good_check)
 }

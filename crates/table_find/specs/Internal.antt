@@ -1,4 +1,3 @@
-pub mod Key
 pub mod Search
 pub mod Found
 pub mod Nearest

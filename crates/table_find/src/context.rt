@@ -11,13 +11,11 @@ use table::same_name::same_dns_name;
 use table::{ContextNumber, context};
 
 // Whether the context has this SID; one without SID has none.
+#[tactic(auto, unfolding(crate::specs::Find::holds_sid, table::specs::Context::context_of))]
 pub fn holds_sid(octets: &[u8], sid: &[u8]) -> bool
     ensures { result ≡ holds_sid sid.now (context_of octets.now) }
 {
-    if !context::has_sid(octets) {
-        return false;
-    }
-    same_octets(context::sid(octets), sid)
+    context::has_sid(octets) && same_octets(context::sid(octets), sid)
 }
 
 // A DnsDomain value as it is compared: some consoles close a name with a dot.
@@ -38,6 +36,7 @@ fn name_compared(asked: &[u8]) -> &[u8]
 }
 
 // Whether a DnsDomain value names the context.
+#[tactic(auto, unfolding(crate::specs::Find::is_named_by))]
 pub fn is_named_by(octets: &[u8], asked: &[u8]) -> bool
     ensures { result ≡ is_named_by asked.now (context_of octets.now) }
 {
@@ -47,6 +46,5 @@ pub fn is_named_by(octets: &[u8], asked: &[u8]) -> bool
 pub fn is_numbered(octets: &[u8], asked: ContextNumber) -> bool
     ensures { result ≡ same_context (context_of octets.now).number asked }
 {
-    let number = context::number(octets);
-    number.0 == asked.0
+    context::number(octets) == asked
 }

@@ -3,6 +3,5 @@
 
 pub mod account;
 pub mod context;
-pub mod search;
 pub mod site;
 pub mod subnet;

@@ -8,6 +8,5 @@ use table::{SiteNumber, site};
 pub fn is_site_numbered(octets: &[u8], asked: SiteNumber) -> bool
     ensures { result ≡ same_site_lem (site_of octets.now).number asked }
 {
-    let number = site::number(octets);
-    number.0 == asked.0
+    site::number(octets) == asked
 }

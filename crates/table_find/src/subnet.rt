@@ -9,6 +9,7 @@ use table::subnet;
 use table_address::address::{address_number, share_prefix};
 
 // Whether the subnet holds an address, given as a number.
+#[tactic(auto, unfolding(crate::specs::Find::in_subnet))]
 fn holds_address(octets: &[u8], address: u32) -> bool
     ensures { result ≡ in_subnet address (subnet_of octets.now) }
 {
@@ -20,8 +21,5 @@ fn holds_address(octets: &[u8], address: u32) -> bool
 pub fn is_holder(octets: &[u8], address: u32) -> bool
     ensures { result ≡ (is_used octets.now && in_subnet address (subnet_of octets.now)) }
 {
-    if !holds_address(octets, address) {
-        return false;
-    }
-    !all_zero(octets)
+    holds_address(octets, address) && !all_zero(octets)
 }

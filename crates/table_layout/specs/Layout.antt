@@ -1,6 +1,5 @@
 -- Document 01, "The table image": the layout of each kind of block, octet for octet. Every octet not named is zero.
-use Rattle.std.specs.Prelude.{Bool, true, false, cond, not, ◌&&◌, ◌||◌, List, [], ◌∷◌, ℕ, ◌+◌, eqb, leb, ltb, length}
-use Rattle.std.proofs.Math.Option.{Option, none, some}
+use Rattle.std.specs.Prelude.{Bool, true, false, cond, not, ◌&&◌, ◌||◌, List, [], ◌∷◌, ℕ, ◌+◌, eqb, leb, ltb, length, Option, None, Some}
 use Rattle.octets.specs.{Lists.all, Lists.any, Sid.is_sid, Text.all_zero}
 use Rattle.octets.specs.NameRule.{is_dns_name, is_netbios_name, is_site_name}
 use Rattle.unicode_text.specs.UserName.{is_account_name}
@@ -46,8 +45,8 @@ flags_layout b =
 
 -- a SID where the context has one; the room that it doesn't use is zero
 abbrev pub sid_layout : Option (List ℕ) → List ℕ → Bool
-sid_layout (some s) b = is_sid s && zeros b (sid_offset + length s) (sid_offset + sid_room)
-sid_layout none b = zeros b sid_offset (sid_offset + sid_room)
+sid_layout (Some s) b = is_sid s && zeros b (sid_offset + length s) (sid_offset + sid_room)
+sid_layout None b = zeros b sid_offset (sid_offset + sid_room)
 
 abbrev pub is_empty : List ℕ → Bool
 is_empty s = eqb (length s) 0

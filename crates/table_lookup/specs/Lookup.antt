@@ -1,6 +1,5 @@
 -- Document 01, "Choosing the answer": what is looked up in the table.
-use Rattle.std.specs.Prelude.{cond, List, [], ◌∷◌, ℕ, ltb}
-use Rattle.std.proofs.Math.Option.{Option, none, some}
+use Rattle.std.specs.Prelude.{cond, List, [], ◌∷◌, ℕ, ltb, Option, None, Some}
 use Rattle.octets.specs.{Lists.first, Lists.keep, Text.same}
 use Rattle.table.specs.{declared.Caller.Caller, declared.ContextNumber.ContextNumber, declared.SiteNumber.SiteNumber, Account.Account, Address.address_number}
 use Rattle.table.specs.{Context.Context, Countings.same_context, Countings.same_site_lem, Site.Site, Subnet.Subnet, Table.Table}
@@ -29,12 +28,12 @@ site_by_number t n = first (λ s. same_site_lem s.number n) t.sites
 
 -- a subnet, or one of a longer prefix where there is one
 abbrev pub nearer : Subnet → Option Subnet → Option Subnet
-nearer n none = some n
-nearer n (some m) = cond (ltb n.prefix m.prefix) (some m) (some n)
+nearer n None = Some n
+nearer n (Some m) = cond (ltb n.prefix m.prefix) (Some m) (Some n)
 
 -- the subnet with the longest prefix; of equal ones the first
 unfoldable pub nearest : List Subnet → Option Subnet
-nearest [] = none
+nearest [] = None
 nearest (n ∷ ns) = nearer n (nearest ns)
 
 -- the subnet that decides: the nearest of those that hold the caller's address
@@ -43,17 +42,17 @@ subnet_for t caller = nearest (keep (in_subnet (address_number caller.address)) 
 
 -- the site of a number that may be none
 abbrev pub site_if_any : Table → Option SiteNumber → Option Site
-site_if_any t none = none
-site_if_any t (some n) = site_by_number t n
+site_if_any t None = None
+site_if_any t (Some n) = site_by_number t n
 
 abbrev pub site_of_subnet : Table → Option Subnet → Option Site
-site_of_subnet t none = none
-site_of_subnet t (some n) = site_if_any t n.site
+site_of_subnet t None = None
+site_of_subnet t (Some n) = site_if_any t n.site
 
 -- document 01's client site s, as #102 has it: the only site, or that of the subnet that decides
 abbrev pub site_for : Table → Caller → List Site → Option Site
-site_for t caller [] = none
-site_for t caller (s ∷ []) = some s
+site_for t caller [] = None
+site_for t caller (s ∷ []) = Some s
 site_for t caller (s ∷ r ∷ rest) = site_of_subnet t (subnet_for t caller)
 
 unfoldable pub client_site_lem : Table → Caller → Option Site

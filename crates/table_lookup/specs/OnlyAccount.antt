@@ -1,7 +1,5 @@
 -- Document 02, #108: in every table that passed 1 to 4, the account found is the only one of its name in its context.
-use Rattle.std.specs.Prelude.{◌≡◌, List, [], ◌∷◌, ℕ}
-use Rattle.std.proofs.Math.Option.{Option, none, some}
-use Rattle.answers.specs.Try.{good}
+use Rattle.std.specs.Prelude.{◌≡◌, List, [], ◌∷◌, ℕ, Ok, Option, None, Some}
 use Rattle.octets.specs.Lists.{keep}
 use Rattle.table.specs.{declared.ContextNumber.ContextNumber, Account.Account, Table.Table}
 use Rattle.table_find.specs.Find.{is_account_of}
@@ -10,8 +8,8 @@ use Rattle.table_whole.specs.Judgement.{table_in}
 
 -- what was found and nothing else
 abbrev pub alone : Option Account → List Account
-alone none = []
-alone (some a) = a ∷ []
+alone None = []
+alone (Some a) = a ∷ []
 
 abbrev pub OnlyAccount : Type 0
-OnlyAccount = (image : List ℕ) (t : Table) (n : ContextNumber) (name : List ℕ) → table_in image ≡ good t → keep (is_account_of n name) t.accounts ≡ alone (account_by_name t n name)
+OnlyAccount = (image : List ℕ) (t : Table) (n : ContextNumber) (name : List ℕ) → table_in image ≡ Ok t → keep (is_account_of n name) t.accounts ≡ alone (account_by_name t n name)

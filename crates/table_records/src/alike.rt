@@ -1,35 +1,41 @@
 // Records compared in pairs: few of them, as contexts are, since the pairs grow by the square.
-ghost use Rattle.std.specs.Prelude.{◌≡◌};
+ghost use Rattle.std.specs.Prelude.{◌≡◌, ℕ, Bool};
 ghost use Rattle.octets.specs.Lists.{any, unique};
-ghost use Rattle.table.specs.Account.{account_of};
 ghost use Rattle.table.specs.Context.{context_of};
 ghost use Rattle.table.specs.SameName.{same_sid};
-ghost use Rattle.table.specs.Subnet.{same_network, subnet_of};
-ghost use Rattle.table_records.specs.Internal.Alike.{contexts_alike, accounts_alike, alike_by, record_kind_of, like_at, alike_at};
+ghost use Rattle.table_records.specs.Internal.Alike.{contexts_alike_at, accounts_alike_at, subnets_alike_at};
 
 use account_names::compare::same_account_name;
+use folding::fold::FoldTable;
 use octets::text::same_octets;
 use table::record::{RecordKind, record_at};
 use table::same_name::same_dns_name;
 use table::{account, context, subnet};
 use table_address::address::address_number;
 
-// Which records are compared.
-#[derive(Clone, Copy)]
-pub enum Likeness {
-    Contexts,
-    Accounts,
-    Subnets,
+// The records of one kind in an image, by their offsets: no two of them may be alike.
+pub trait Alike {
+    ghost alike: { Self → ℕ → ℕ → Bool };
+
+    fn are_alike(&self, p: u16, q: u16) -> bool
+        ensures { result ≡ alike self.now p q };
 }
 
-fn record_kind_of(likeness: Likeness) -> RecordKind
-    ensures { result ≡ record_kind_of likeness }
-{
-    match likeness {
-        Likeness::Contexts => RecordKind::Context,
-        Likeness::Accounts => RecordKind::Account,
-        Likeness::Subnets => RecordKind::Subnet,
-    }
+#[derive(Clone, Copy)]
+pub struct Contexts<'a> {
+    pub image: &'a [u8],
+}
+
+// The folding table is lent once for all comparisons.
+#[derive(Clone, Copy)]
+pub struct Accounts<'a> {
+    pub image: &'a [u8],
+    pub fold_table: &'a FoldTable,
+}
+
+#[derive(Clone, Copy)]
+pub struct Subnets<'a> {
+    pub image: &'a [u8],
 }
 
 // A context without SID has the SID of no other.
@@ -45,74 +51,57 @@ fn same_sid(a: &[u8], b: &[u8]) -> bool
     same_octets(context::sid(a), context::sid(b))
 }
 
-fn are_contexts_alike(a: &[u8], b: &[u8]) -> bool
-    ensures { result ≡ contexts_alike (context_of a.now) (context_of b.now) }
-{
-    let x = context::number(a);
-    let y = context::number(b);
-    (x.0 == y.0)
-        | same_octets(context::guid(a), context::guid(b))
-        | same_sid(a, b)
-        | same_dns_name(context::dns_name(a), context::dns_name(b))
+impl<'a> Alike for Contexts<'a> {
+    ghost alike = { λ s. contexts_alike_at s.image.now };
+
+    fn are_alike(&self, p: u16, q: u16) -> bool {
+        let a = record_at(self.image, RecordKind::Context, p);
+        let b = record_at(self.image, RecordKind::Context, q);
+        (context::number(a) == context::number(b))
+            | same_octets(context::guid(a), context::guid(b))
+            | same_sid(a, b)
+            | same_dns_name(context::dns_name(a), context::dns_name(b))
+    }
 }
 
-fn are_accounts_alike(a: &[u8], b: &[u8]) -> bool
-    ensures { result ≡ accounts_alike (account_of a.now) (account_of b.now) }
-{
-    let x = account::context(a);
-    let y = account::context(b);
-    (x.0 == y.0) & same_account_name(account::name(a), account::name(b))
+impl<'a> Alike for Accounts<'a> {
+    ghost alike = { λ s. accounts_alike_at s.image.now };
+
+    fn are_alike(&self, p: u16, q: u16) -> bool {
+        let a = record_at(self.image, RecordKind::Account, p);
+        let b = record_at(self.image, RecordKind::Account, q);
+        (account::context(a) == account::context(b))
+            & same_account_name(account::name(a), account::name(b))
+    }
 }
 
 // Subnets of different sites may be alike.
-fn are_subnets_alike(a: &[u8], b: &[u8]) -> bool
-    ensures { result ≡ same_network (subnet_of a.now) (subnet_of b.now) }
-{
-    let x = address_number(subnet::address(a));
-    let y = address_number(subnet::address(b));
-    (x == y) & (subnet::prefix(a) == subnet::prefix(b))
-}
+impl<'a> Alike for Subnets<'a> {
+    ghost alike = { λ s. subnets_alike_at s.image.now };
 
-fn are_alike(a: &[u8], b: &[u8], likeness: Likeness) -> bool
-    ensures { result ≡ alike_by likeness a.now b.now }
-{
-    match likeness {
-        Likeness::Contexts => are_contexts_alike(a, b),
-        Likeness::Accounts => are_accounts_alike(a, b),
-        Likeness::Subnets => are_subnets_alike(a, b),
+    fn are_alike(&self, p: u16, q: u16) -> bool {
+        let a = record_at(self.image, RecordKind::Subnet, p);
+        let b = record_at(self.image, RecordKind::Subnet, q);
+        (address_number(subnet::address(a)) == address_number(subnet::address(b)))
+            & (subnet::prefix(a) == subnet::prefix(b))
     }
 }
 
-// Whether some record is like this one.
-fn any_alike(image: &[u8], piece: &[u8], offsets: &[u16], likeness: Likeness) -> bool
-    ensures { result ≡ any (like_at likeness piece.now image.now) offsets.now }
+// Whether some record is like the one at p.
+fn any_alike<R: Alike>(records: &R, p: u16, offsets: &[u16]) -> bool
+    ensures { result ≡ any (R.alike records.now p) offsets.now }
 {
-    let mut i = 0;
-    while i < offsets.len() {
-        if are_alike(
-            piece,
-            record_at(image, record_kind_of(likeness), offsets[i]),
-            likeness,
-        ) {
-            return true;
-        }
-        i += 1;
-    }
-    false
+    offsets.iter().any(|&q| records.are_alike(p, q))
 }
 
 // Whether no two records are alike.
-pub fn all_unique(image: &[u8], offsets: &[u16], likeness: Likeness) -> bool
-    ensures { result ≡ unique (alike_at likeness image.now) offsets.now }
+pub fn all_unique<R: Alike>(records: &R, offsets: &[u16]) -> bool
+    ensures { result ≡ unique (R.alike records.now) offsets.now }
 {
-    let mut i = 0;
-    while i < offsets.len() {
-        let piece = record_at(image, record_kind_of(likeness), offsets[i]);
-        let next = i + 1;
-        if any_alike(image, piece, &offsets[next..], likeness) {
+    for i in 0..offsets.len() {
+        if any_alike(records, offsets[i], &offsets[i + 1..]) {
             return false;
         }
-        i = next;
     }
     true
 }

@@ -1,18 +1,15 @@
 // Whether no two records are alike: sorted, those that are alike stand next to each other.
 ghost use Rattle.std.specs.Prelude.{◌≡◌};
+ghost use Rattle.std.specs.List.Sorted.{IsPermutation};
 ghost use Rattle.octets.specs.Lists.{unique};
-ghost use Rattle.table_records.specs.declared.alike.Likeness.TheVariants as likeness;
-ghost use Rattle.table_records.specs.Internal.Alike.{alike_at};
+ghost use Rattle.table_records.specs.Internal.Alike.{accounts_alike_at, subnets_alike_at};
 ghost use Rattle.table_unique.specs.Internal.Neighbours.{neighbours_by};
-ghost use Rattle.table_unique.specs.Internal.OrderLikeness.{likeness_of};
-ghost use Rattle.table_radix.specs.Internal.Reordered.{Reordered};
-ghost use Rattle.table_compare.specs.Internal.OrderKey.{FoldsFor, compare_at};
 
-use account_names::compare::Ordering;
 use account_names::fold_table::FOLD_TABLE;
-use table_compare::compare::{Order, compare_at};
-use table_records::alike::{Likeness, all_unique};
-use table_sort::sort::sort;
+use std::cmp::Ordering;
+use table_compare::compare::Keyed;
+use table_records::alike::{Accounts, Subnets, all_unique};
+use table_sort::sort::Sorted;
 
 // What the first neighbours out of order show, if there are any: two that are alike, or a list that is not sorted.
 #[derive(Drop)]
@@ -22,14 +19,12 @@ pub enum Neighbours {
     Unsorted,
 }
 
-fn compare_neighbours(image: &[u8], fold_table: &[u16], offsets: &[u16], order: Order) -> Neighbours
-    requires { FoldsFor order fold_table.now }
-    ensures { result ≡ neighbours_by (compare_at order image.now) offsets.now }
+fn compare_neighbours<K: Keyed>(records: &K, offsets: &[u16]) -> Neighbours
+    ensures { result ≡ neighbours_by (K.compare records.now) offsets.now }
 {
-    let mut i = 1;
-    while i < offsets.len() {
-        match compare_at(image, fold_table, order, offsets[i - 1], offsets[i]) {
-            Ordering::Less => i += 1,
+    for i in 1..offsets.len() {
+        match records.compare(offsets[i - 1], offsets[i]) {
+            Ordering::Less => {}
             Ordering::Equal => return Neighbours::Duplicate,
             Ordering::Greater => return Neighbours::Unsorted,
         }
@@ -37,53 +32,45 @@ fn compare_neighbours(image: &[u8], fold_table: &[u16], offsets: &[u16], order: 
     Neighbours::Rising
 }
 
-// What two records that compare as equal are.
-fn likeness_of(order: Order) -> Likeness
-    ensures { result ≡ likeness_of order }
-{
-    match order {
-        Order::Accounts => Likeness::Accounts,
-        Order::Subnets => Likeness::Subnets,
-    }
-}
-
 // A table kept in order is not sorted again.
-fn put_in_order(image: &[u8], fold_table: &[u16], offsets: &mut [u16], order: Order)
-    requires { FoldsFor order fold_table.now }
-    ensures { Reordered offsets.old offsets.new }
+fn put_in_order<K: Sorted>(records: &K, offsets: &mut [u16])
+    ensures { IsPermutation offsets.old offsets.new }
 {
-    if let Neighbours::Unsorted = compare_neighbours(image, fold_table, offsets, order) {
-        sort(image, fold_table, offsets, order);
+    if let Neighbours::Unsorted = compare_neighbours(records, offsets) {
+        records.sort(offsets);
     }
 }
 
 // A list that the sort left unsorted would be compared in pairs: slow, and right all the same.
-fn are_unique(image: &[u8], fold_table: &[u16], offsets: &mut [u16], order: Order) -> bool
-    requires { FoldsFor order fold_table.now }
-    ensures { result ≡ unique (alike_at (likeness_of order) image.now) offsets.old }
+fn are_unique<K: Sorted>(records: &K, offsets: &mut [u16]) -> bool
+    ensures { result ≡ unique (K.alike records.now) offsets.old }
 {
-    put_in_order(image, fold_table, offsets, order);
-    match compare_neighbours(image, fold_table, offsets, order) {
+    put_in_order(records, offsets);
+    match compare_neighbours(records, offsets) {
         Neighbours::Rising => true,
         Neighbours::Duplicate => false,
-        Neighbours::Unsorted => all_unique(image, offsets, likeness_of(order)),
+        Neighbours::Unsorted => all_unique(records, offsets),
     }
 }
 
 // The folding table is copied here, once for all accounts, and not for fewer than two.
 pub fn are_accounts_unique(image: &[u8], accounts: &mut [u16]) -> bool
-    ensures { result ≡ unique (alike_at likeness.Accounts image.now) accounts.old }
+    ensures { result ≡ unique (accounts_alike_at image.now) accounts.old }
 {
     if accounts.len() < 2 {
         return true;
     }
     let fold_table = FOLD_TABLE;
-    are_unique(image, &fold_table, accounts, Order::Accounts)
+    let records = Accounts {
+        image,
+        fold_table: &fold_table,
+    };
+    are_unique(&records, accounts)
 }
 
 // Subnets are compared without the folding table.
 pub fn are_networks_unique(image: &[u8], subnets: &mut [u16]) -> bool
-    ensures { result ≡ unique (alike_at likeness.Subnets image.now) subnets.old }
+    ensures { result ≡ unique (subnets_alike_at image.now) subnets.old }
 {
-    are_unique(image, &[], subnets, Order::Subnets)
+    are_unique(&Subnets { image }, subnets)
 }

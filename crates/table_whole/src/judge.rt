@@ -1,9 +1,9 @@
 // An image judged: 1 to 4 in order, each over the whole image once the earlier ones passed.
 ghost use Rattle.std.specs.Prelude.{◌≡◌};
-ghost use Rattle.table_whole.specs.Judgement.{good_length, judgement_number, JudgePromise};
+ghost use Rattle.table_whole.specs.Judgement.{good_length, JudgePromise};
 
 use crate::whole::good_whole;
-use answers::{Refusal, number_of};
+use answers::Refusal;
 use table::block::{BLOCK_SIZE, IMAGE_LEAST, IMAGE_MOST};
 use table_blocks::layout::good_layouts;
 use table_check::check::good_checks;
@@ -21,37 +21,21 @@ fn has_good_length(image: &[u8]) -> bool
     image.len() % BLOCK_SIZE == 0
 }
 
-// What judging an image gives: 0, or 1 to 4.
-#[derive(Drop)]
-pub enum Judgement {
-    Passed,
-    Refused(Refusal),
-}
-
-// Document 01's number of it.
-pub fn judgement_number(judgement: Judgement) -> u8
-    ensures { result ≡ judgement_number judgement }
-{
-    match judgement {
-        Judgement::Passed => 0,
-        Judgement::Refused(r) => number_of(r),
-    }
-}
-
-pub fn judge(image: &[u8]) -> Judgement
+// The answer of judging an image: refused with 1 to 4, or accepted.
+pub fn judge(image: &[u8]) -> Result<(), Refusal>
     ensures { JudgePromise image.now result }
 {
     if !has_good_length(image) {
-        return Judgement::Refused(Refusal::ImageLength);
+        return Err(Refusal::ImageLength);
     }
     if !good_checks(image) {
-        return Judgement::Refused(Refusal::BlockCheck);
+        return Err(Refusal::BlockCheck);
     }
     if !good_layouts(image) {
-        return Judgement::Refused(Refusal::BlockLayout);
+        return Err(Refusal::BlockLayout);
     }
     if !good_whole(image) {
-        return Judgement::Refused(Refusal::TableWhole);
+        return Err(Refusal::TableWhole);
     }
-    Judgement::Passed
+    Ok(())
 }

@@ -9,9 +9,9 @@ ghost use Rattle.table_whole.specs.Internal.Half.{AllOf, SiteMarks, good_account
 use table::block::BLOCKS_MOST;
 use table::record::RecordKind;
 use table::{account, context, server, site, subnet};
-use table_records::alike::{Likeness, all_unique};
+use table_records::alike::{Contexts, all_unique};
 use table_records::offset::offsets_of;
-use table_refer::mark::{MARKS_SIZE, is_marked, mark_sites};
+use table_refer::mark::{Marks, mark_sites};
 use table_refer::refer::{all_sites_refer, all_subnets_refer, are_in_contexts, has_context};
 use table_unique::unique::{are_accounts_unique, are_networks_unique};
 
@@ -34,9 +34,9 @@ fn good_accounts_of(image: &[u8], contexts: &[u16]) -> bool
     requires { (length image.now ≤ image_most) × AllOf kind.Context image.now contexts.now }
     ensures { result ≡ good_accounts (table_from image.now) }
 {
-    let mut accounts: [u16; ACCOUNTS_MOST] = [0; ACCOUNTS_MOST];
-    let count = offsets_of(image, RecordKind::Account, &mut accounts);
-    are_accounts_good(image, &mut accounts[..count], contexts)
+    let mut room: [u16; ACCOUNTS_MOST] = [0; ACCOUNTS_MOST];
+    let accounts = offsets_of(image, RecordKind::Account, &mut room);
+    are_accounts_good(image, accounts, contexts)
 }
 
 // No two contexts have one number, GUID, SID or DNS name, the default one exists, and their accounts are good.
@@ -44,7 +44,7 @@ fn are_contexts_good(image: &[u8], contexts: &[u16]) -> bool
     requires { (block_size ≤ length image.now) × (length image.now ≤ image_most) × AllOf kind.Context image.now contexts.now }
     ensures { result ≡ good_contexts (table_from image.now) }
 {
-    all_unique(image, contexts, Likeness::Contexts)
+    all_unique(&Contexts { image }, contexts)
         & has_context(
             image,
             contexts,
@@ -58,24 +58,25 @@ fn is_context_half_good(image: &[u8]) -> bool
     requires { (block_size ≤ length image.now) × (length image.now ≤ image_most) }
     ensures { result ≡ context_half (table_from image.now) }
 {
-    let mut contexts: [u16; CONTEXTS_MOST] = [0; CONTEXTS_MOST];
-    let count = offsets_of(image, RecordKind::Context, &mut contexts);
+    let mut room: [u16; CONTEXTS_MOST] = [0; CONTEXTS_MOST];
+    let contexts = offsets_of(image, RecordKind::Context, &mut room);
+    let count = contexts.len();
     if count == 0 {
         return false;
     }
     if 16 < count {
         return false;
     }
-    are_contexts_good(image, &contexts[..count])
+    are_contexts_good(image, contexts)
 }
 
 // The server's own site exists, each next closest one exists and is another, and subnets refer rightly.
-fn are_sites_referred(image: &[u8], sites: &[u16], marks: &[u8]) -> bool
+fn are_sites_referred(image: &[u8], sites: &[u16], marks: &Marks) -> bool
     requires block_size_in_bounds { (block_size ≤ length image.now) × (length image.now ≤ image_most) }
     requires all_of { AllOf kind.Site image.now sites.now × SiteMarks marks.now (table_from image.now) }
     ensures { result ≡ good_references (table_from image.now) }
 {
-    is_marked(marks, server::own_site(server::server_of(image)))
+    marks.is_marked(server::own_site(server::server_of(image)))
         & all_sites_refer(image, sites, marks)
         & all_subnets_refer(image, marks)
 }
@@ -85,7 +86,7 @@ fn are_sites_good(image: &[u8], sites: &[u16]) -> bool
     requires { (block_size ≤ length image.now) × (length image.now ≤ image_most) × AllOf kind.Site image.now sites.now }
     ensures { result ≡ good_sites (table_from image.now) }
 {
-    let mut marks = [0u8; MARKS_SIZE];
+    let mut marks = Marks::new();
     if !mark_sites(image, sites, &mut marks) {
         return false;
     }
@@ -96,12 +97,13 @@ fn is_site_half_good(image: &[u8]) -> bool
     requires { (block_size ≤ length image.now) × (length image.now ≤ image_most) }
     ensures { result ≡ site_half (table_from image.now) }
 {
-    let mut sites: [u16; SITES_MOST] = [0; SITES_MOST];
-    let count = offsets_of(image, RecordKind::Site, &mut sites);
+    let mut room: [u16; SITES_MOST] = [0; SITES_MOST];
+    let sites = offsets_of(image, RecordKind::Site, &mut room);
+    let count = sites.len();
     if count == 0 {
         return false;
     }
-    are_sites_good(image, &sites[..count])
+    are_sites_good(image, sites)
 }
 
 // No two subnets have one address and prefix. Called after the halves and not in one of them, so that the arrays do not add up.
@@ -109,9 +111,9 @@ fn are_subnets_unique(image: &[u8]) -> bool
     requires { length image.now ≤ image_most }
     ensures { result ≡ subnets_unique (table_from image.now).subnets }
 {
-    let mut subnets: [u16; subnet::MOST] = [0; subnet::MOST];
-    let count = offsets_of(image, RecordKind::Subnet, &mut subnets);
-    are_networks_unique(image, &mut subnets[..count])
+    let mut room: [u16; subnet::MOST] = [0; subnet::MOST];
+    let subnets = offsets_of(image, RecordKind::Subnet, &mut room);
+    are_networks_unique(image, subnets)
 }
 
 // Whether the table is good as a whole, for an image of a whole block at least.

@@ -9,7 +9,7 @@ use table::block::{BLOCK_SIZE, block_at};
 use table_blocks::layout::block_layout;
 use table_check::check::good_check;
 
-// What each block is held to by itself, 2 and 3.
+// What each block is held to by itself, 2 and 3. A closure is no plainer: one clause more had to tie what it answers to a definition.
 #[derive(Clone, Copy)]
 pub enum BlockRule {
     Check,
@@ -31,13 +31,11 @@ pub fn first_wrong(image: &[u8], rule: BlockRule) -> usize
     ensures { result ≡ first_wrong rule server_place (blocks_of image.now) }
 {
     let n = image.len() / BLOCK_SIZE;
-    let mut i = 0;
-    while i < n {
+    for i in 0..n {
         let place = BlockPlace(i as u16);
         if !keeps_rule(rule, place, block_at(image, place)) {
             return i;
         }
-        i += 1;
     }
-    i
+    n
 }

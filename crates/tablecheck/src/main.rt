@@ -4,18 +4,17 @@
 mod first;
 
 use crate::first::{BlockRule, first_wrong};
-use arguments::complaint::complain;
-use arguments::file::{FileRead, IMAGE_SIZE, TABLE, read_table};
+use answers::Refusal;
+use arguments::fault::Fault;
+use arguments::file::{TABLE, read_table};
 use arguments::word::has_word;
-use console::say::{say, say_number};
-use octets::part::part;
 use report::answer::say_answer;
 use std::env::Env;
 use std::fs::Files;
 use std::io;
 use std::io::Write;
 use table::block::IMAGE_MOST;
-use table_whole::judge::{judge, judgement_number};
+use table_whole::judge::judge;
 
 const ARGUMENTS_END: usize = TABLE + 1;
 
@@ -23,39 +22,36 @@ fn say_first_wrong<W: Write>(to: &mut W, image: &[u8], rule: BlockRule) -> io::R
     if IMAGE_MOST < image.len() {
         return Ok(());
     }
-    say(to, b"block     ")?;
-    say_number(to, first_wrong(image, rule) as u64)?;
-    say(to, b" is the first wrong one, counted from 0\n")
+    let first = first_wrong(image, rule);
+    writeln!(
+        to,
+        "block     {first} is the first wrong one, counted from 0"
+    )
 }
 
 fn show_judgement<W: Write>(to: &mut W, image: &[u8]) -> io::Result<()> {
-    let number = judgement_number(judge(image));
-    say_answer(to, number, b"accepted")?;
-    match number {
-        2 => say_first_wrong(to, image, BlockRule::Check),
-        3 => say_first_wrong(to, image, BlockRule::Layout),
+    let judgement = judge(image);
+    say_answer(to, &judgement, "accepted")?;
+    match judgement {
+        Err(Refusal::BlockCheck) => say_first_wrong(to, image, BlockRule::Check),
+        Err(Refusal::BlockLayout) => say_first_wrong(to, image, BlockRule::Layout),
         _ => Ok(()),
     }
 }
 
-fn table_asked<E: Env + Files, W: Write>(
-    env: &E,
-    err: &mut W,
-    image: &mut [u8],
-) -> io::Result<FileRead> {
+// The table that the arguments name is judged.
+fn check_asked<E: Env + Files + AllocGlobal, W: Write>(env: &E, to: &mut W) -> Result<(), Fault> {
     if has_word(env, ARGUMENTS_END) {
-        complain(err, b"no argument is taken after TABLE\n")?;
-        return Ok(FileRead::Failed);
+        return Err(Fault::Slip("no argument is taken after TABLE"));
     }
-    read_table(env, err, image)
+    let image = read_table(env)?;
+    show_judgement(to, &image)?;
+    Ok(())
 }
 
 fn main(rt: HostRuntime) -> io::Result<()> {
-    let mut image = [0u8; IMAGE_SIZE];
-    let mut err = rt.stderr();
-    let FileRead::Octets(size) = table_asked(&rt, &mut err, &mut image)? else {
-        complain(&mut err, b"example: tablecheck data/base.table\n")?;
-        return Ok(());
-    };
-    show_judgement(&mut rt.stdout(), part(&image, 0, size))
+    match check_asked(&rt, &mut rt.stdout()) {
+        Ok(()) => Ok(()),
+        Err(fault) => fault.tell(&mut rt.stderr(), "example: tablecheck data/base.table\n"),
+    }
 }

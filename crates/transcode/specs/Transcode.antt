@@ -1,6 +1,5 @@
 -- Document 02, #105: a UTF-16LE text and the same text as UTF-8: either comes back from the other.
-use Rattle.std.specs.Prelude.{◌≡◌, Bool, true, List, ℕ, ◌*◌, ◌≤◌, ltb, length}
-use Rattle.std.proofs.Math.Option.{some}
+use Rattle.std.specs.Prelude.{◌≡◌, Bool, true, List, ℕ, ◌*◌, ◌≤◌, ltb, length, Some}
 use Rattle.octets.specs.{Lists.all, Lists.holds, NameRule.without}
 use Rattle.unicode_text.specs.{Utf8.is_utf8, Utf16.utf16, Utf16.points_of16, Utf16.utf8_from16}
 
@@ -16,7 +15,7 @@ pub record SaidIn8 (s t : List ℕ) : Type 0 where
   pub short : 2 * length t ≤ 3 * length s
 
 abbrev pub To8 : Type 0
-To8 = (s t : List ℕ) → are_octets s ≡ true → utf8_from16 s ≡ some t → SaidIn8 s t
+To8 = (s t : List ℕ) → are_octets s ≡ true → utf8_from16 s ≡ Some t → SaidIn8 s t
 
 abbrev pub Back8 : Type 0
-Back8 = (t : List ℕ) → is_utf8 t ≡ true → utf8_from16 (utf16 t) ≡ some t
+Back8 = (t : List ℕ) → is_utf8 t ≡ true → utf8_from16 (utf16 t) ≡ Some t

@@ -8,13 +8,6 @@ ghost use Rattle.transcode.specs.Internal.Text8.{utf8_text, SizeTold};
 use crate::point16::point16_at;
 use unicode_text::utf8::PointAt;
 
-// How many octets a text takes, or that it is none.
-#[derive(Drop)]
-pub enum Size8 {
-    NoText,
-    Takes(usize),
-}
-
 fn width(point: u32) -> usize
     ensures { (result ≡ length (utf8_of point)) × (result ≤ 4) }
 {
@@ -30,7 +23,8 @@ fn width(point: u32) -> usize
     4
 }
 
-pub fn utf8_size(s: &[u8]) -> Size8
+// How many octets a text takes; nothing where it is none. The step is a character's: no `for`.
+pub fn utf8_size(s: &[u8]) -> Option<usize>
     ensures { SizeTold s.now result }
 {
     let mut size = 0;
@@ -38,8 +32,8 @@ pub fn utf8_size(s: &[u8]) -> Size8
     loop {
         let here = point16_at(s, at);
         match here {
-            PointAt::End => return Size8::Takes(size),
-            PointAt::Bad => return Size8::NoText,
+            PointAt::End => return Some(size),
+            PointAt::Bad => return None,
             PointAt::Point { point, next } => {
                 size += width(point);
                 at = next;
@@ -75,16 +69,14 @@ fn put_point(out: &mut [u8], point: u32) -> usize
     4
 }
 
-// A text at the front of a buffer; nothing where it is none, which is known before an octet is written.
+// The step is a character's: no `for`. A text at the front of a buffer; nothing where it is none, which is known before an octet is written.
 pub fn put_utf8(out: &mut [u8], s: &[u8]) -> usize
     requires { length (utf8_text s.now) ≤ length out.old }
     ensures value { result ≡ length (utf8_text s.now) }
     ensures out_after { out.new ≡ over (utf8_text s.now) out.old }
 {
-    let told = utf8_size(s);
-    let size = match told {
-        Size8::NoText => return 0,
-        Size8::Takes(size) => size,
+    let Some(size) = utf8_size(s) else {
+        return 0;
     };
     let mut written = 0;
     let mut at = 0;

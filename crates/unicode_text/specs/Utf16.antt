@@ -1,7 +1,6 @@
 -- Document 01, "Reply octets": texts as UTF-16LE, the octets of code points and of a UTF-8 text. Document 02, #105: such a text as UTF-8.
-use Rattle.std.specs.Prelude.{◌≡◌, Bool, true, cond, ℕ, ◌+◌, ◌*◌, ◌-◌, ◌/◌, ◌%◌, ltb}
+use Rattle.std.specs.Prelude.{◌≡◌, Bool, true, cond, ℕ, ◌+◌, ◌*◌, ◌-◌, ◌/◌, ◌%◌, ltb, Option, None, option_map, unwrap_or}
 use mathlib.Core.List.{List, [], ◌∷◌, ◌++◌, flat_map}
-use Rattle.std.proofs.Math.Option.{Option, none, map, get_or}
 use Rattle.octets.specs.{Number.little, Number.little_octets, Text.within}
 use Rattle.unicode_text.specs.Utf8.{Partial, Decoded, bad, point, opens, Decoder, between, partway, on_decoded, at_end, points, is_utf8, utf8_of}
 
@@ -30,7 +29,7 @@ points_octets = flat_map point_octets
 
 -- a text that is UTF-8, in UTF-16LE
 unfoldable pub utf16 : List ℕ → List ℕ
-utf16 s = get_or (map points_octets (points s)) []
+utf16 s = unwrap_or (option_map points_octets (points s)) []
 
 -- ---- the way back: a text's code points, read unit by unit, as those of a UTF-8 text are read octet by octet
 
@@ -49,7 +48,7 @@ decode16 (partway i) u = follow16 i u
 -- the code points from a decoder on; none at half a unit or at a lone surrogate
 unfoldable pub points_from16 : Decoder → List ℕ → Option (List ℕ)
 points_from16 decoder [] = at_end decoder
-points_from16 decoder (a ∷ []) = none
+points_from16 decoder (a ∷ []) = None
 points_from16 decoder (a ∷ b ∷ rest) = on_decoded (decode16 decoder (little (a ∷ b ∷ []))) (λ next. points_from16 next rest)
 
 abbrev pub points_of16 : List ℕ → Option (List ℕ)
@@ -57,7 +56,7 @@ points_of16 = points_from16 between
 
 -- a UTF-16LE text in UTF-8; none where it is no text
 unfoldable pub utf8_from16 : List ℕ → Option (List ℕ)
-utf8_from16 s = map (flat_map utf8_of) (points_of16 s)
+utf8_from16 s = option_map (flat_map utf8_of) (points_of16 s)
 
 -- ---- what holds of both
 

@@ -1,7 +1,6 @@
 -- Document 01, "The table image": UTF-8 by RFC 3629, section 4; a text's code points, read octet by octet. Document 02, #105: the octets of a code point.
-use Rattle.std.specs.Prelude.{Bool, cond, List, [], ◌∷◌, ℕ, zero, suc, ◌+◌, ◌*◌, ◌/◌, ◌%◌, eqb, ltb}
-use Rattle.std.proofs.Math.Option.{Option, none, some, map}
-use Rattle.octets.specs.{Lists.is_some, Text.within}
+use Rattle.std.specs.Prelude.{Bool, cond, List, [], ◌∷◌, ℕ, zero, suc, ◌+◌, ◌*◌, ◌/◌, ◌%◌, eqb, ltb, Option, None, Some, option_map, is_some}
+use Rattle.octets.specs.{Text.within}
 
 -- a character read in part: octets (in UTF-16LE units) still to come, the range of the next one, and the code point's bits so far
 pub record Partial : Type 0 where
@@ -51,13 +50,13 @@ decode between x = lead x
 decode (partway i) x = follow i x
 
 abbrev pub on_decoded : Decoded → (Decoder → Option (List ℕ)) → Option (List ℕ)
-on_decoded bad rest = none
-on_decoded (point c) rest = map (λ cs. c ∷ cs) (rest between)
+on_decoded bad rest = None
+on_decoded (point c) rest = option_map (λ cs. c ∷ cs) (rest between)
 on_decoded (more i) rest = rest (partway i)
 
 abbrev pub at_end : Decoder → Option (List ℕ)
-at_end between = some []
-at_end (partway i) = none
+at_end between = Some []
+at_end (partway i) = None
 
 -- the code points from a decoder on; none where the octets are not UTF-8, a text cut within a character too
 unfoldable pub points_from : Decoder → List ℕ → Option (List ℕ)

@@ -19,7 +19,8 @@ fn point_size(point: u32) -> usize
     4
 }
 
-// How many octets a text takes; none where it is not UTF-8.
+// How many octets a text takes; none where it is not UTF-8. A character has one octet to four: no `for`. The two ways between UTF-8 and
+// UTF-16 differ in decoder, sizes, encoder and what no text gives: a trait of these with its laws would be longer than both.
 pub fn utf16_size(s: &[u8]) -> usize
     requires { length s.now ≤ 255 }
     ensures { (result ≡ length (utf16 s.now)) × (result ≤ 4 * length s.now) }
@@ -53,7 +54,7 @@ fn put_point(out: &mut [u8], point: u32) -> usize
     put_u16_at(out, at, (0xDC00 + above % 1024) as u16)
 }
 
-// A text at the front of a buffer; nothing where it is not UTF-8.
+// A text at the front of a buffer; nothing where it is not UTF-8. The step is a character's: no `for`.
 pub fn put_utf16(out: &mut [u8], s: &[u8]) -> usize
     requires { (length s.now ≤ 255) × (length (utf16 s.now) ≤ length out.old) }
     ensures value { result ≡ length (utf16 s.now) }

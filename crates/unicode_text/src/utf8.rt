@@ -173,6 +173,7 @@ pub fn point_at(s: &[u8], at: usize) -> PointAt
     }
 }
 
+// A character has one octet to four: the step is no count, and so no `for`.
 pub fn is_utf8(s: &[u8]) -> bool
     ensures { result ≡ is_utf8 s.now }
 {

@@ -8,17 +8,10 @@ mod ping_lines;
 mod write;
 
 use std::io;
+use std::io::LineWriter;
 
 fn main(rt: HostRuntime) -> io::Result<()> {
-    let mut line = [0u8; 140101];
-    // A line spends two digits on each of its octets.
-    let mut image = [0u8; 70050];
-    let mut space = [0u8; 140101];
-    input::answer_all(
-        &mut rt.stdin(),
-        &mut rt.stdout(),
-        &mut line,
-        &mut image,
-        &mut space,
-    )
+    let alloc = rt.alloc();
+    let mut to = LineWriter::new(alloc, rt.stdout())?;
+    input::answer_all(alloc, rt.stdin(), &mut to)
 }

@@ -3,7 +3,7 @@
 
 ghost use Rattle.c_promises.specs.Calls.{ExportedJudge, ExportedCheck, ExportedTakeApart, ExportedJudgeValues, ExportedWriteFilter, ExportedAnswerPing, ExportedReadMailslot, ExportedWriteMailslot, ExportedAnswerMailslot, ExportedRead, ExportedNameText};
 
-use answers::Form;
+use answers::{Form, number_in};
 use c_answer::answer::{ANSWER_MEMBERS, answer_members};
 use c_calls::calls::{
     put_check, put_filter, put_message, put_message_members, put_reading, put_request, put_text,
@@ -12,18 +12,17 @@ use c_calls::calls::{
 use c_mailslot::message::MESSAGE_MEMBERS;
 use c_reading::reading::READING_MEMBERS;
 use c_request::request::REQUEST_MEMBERS;
-use locator::answer_number;
 use locator::ping::answer_ping;
 use mailslot_answer::answer::answer_mailslot;
 use reader_text::TEXT_MOST;
 use table::Caller;
-use table_whole::judge::{judge, judgement_number};
+use table_whole::judge::judge;
 
 #[unsafe(no_mangle)]
 pub extern "C" fn vinegarjar_judge(image: &[u8]) -> u8
     ensures { ExportedJudge image.now result }
 {
-    judgement_number(judge(image))
+    number_in(&judge(image))
 }
 
 #[unsafe(no_mangle)]
@@ -76,7 +75,7 @@ pub extern "C" fn vinegarjar_answer_ping<'a>(
     let caller = Caller { address: *client };
     let given = answer_ping(image, caller, filter, reply);
     *answer = answer_members(given);
-    answer_number(given)
+    number_in(&given)
 }
 
 #[unsafe(no_mangle)]
@@ -114,7 +113,7 @@ pub extern "C" fn vinegarjar_answer_mailslot<'a>(
     let caller = Caller { address: *client };
     let given = answer_mailslot(image, caller, message, reply);
     *answer = answer_members(given);
-    answer_number(given)
+    number_in(&given)
 }
 
 #[unsafe(no_mangle)]

@@ -5,9 +5,9 @@
 ghost use Rattle.c_promises.specs.Calls.{ExportedAnswerPing, ExportedAnswerMailslot};
 ghost use Rattle.table_whole.specs.Judgement.{Accepted};
 
+use answers::number_in;
 use c_answer::answer::{ANSWER_MEMBERS, answer_members};
 use locator::accepted::answer_accepted;
-use locator::answer_number;
 use mailslot_answer::accepted::answer_mailslot_accepted;
 use table::Caller;
 
@@ -25,7 +25,7 @@ pub extern "C" fn vinegarjar_answer_ping_on_accepted_image<'a>(
     let caller = Caller { address: *client };
     let given = answer_accepted(image, caller, filter, reply);
     *answer = answer_members(given);
-    answer_number(given)
+    number_in(&given)
 }
 
 #[unsafe(no_mangle)]
@@ -42,5 +42,5 @@ pub extern "C" fn vinegarjar_answer_mailslot_on_accepted_image<'a>(
     let caller = Caller { address: *client };
     let given = answer_mailslot_accepted(image, caller, message, reply);
     *answer = answer_members(given);
-    answer_number(given)
+    number_in(&given)
 }

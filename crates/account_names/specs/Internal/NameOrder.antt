@@ -3,8 +3,8 @@ use Rattle.std.specs.Prelude.{◌≡◌, Bool, true, false, ◌&&◌, List, [], 
 use Rattle.octets.specs.Fold.{fold_points}
 use Rattle.unicode_text.specs.Utf8.{is_utf8}
 use Rattle.unicode_text.specs.Internal.Point.{readable}
-use Rattle.account_names.specs.declared.compare.Ordering.{Ordering}
-use Rattle.account_names.specs.declared.compare.Ordering.TheVariants.{Less, Equal, Greater}
+use Rattle.std.specs.declared.cmp.Ordering.{Ordering}
+use Rattle.std.specs.declared.cmp.Ordering.TheVariants.{Less, Equal, Greater}
 use Rattle.account_names.specs.Internal.Ordering.{compare}
 
 -- what can be read of a name, folded

@@ -7,8 +7,7 @@ use lib.Dec.{eqb}
 use lib.ListN.{get_or}
 use borrow.Author.Tests.{eqb-true}
 use Rattle.c_mailslot.specs.Message.{stretch_at, sid_unless, MessageHandedOn}
-use Rattle.reader.specs.declared.field.Stretch.{Stretch}
-use Rattle.reader.specs.Field.{stretch_of}
+use Rattle.octets.specs.{declared.part.Stretch.Stretch, Stretch.stretch_of}
 
 pub sid_of_three : (b : Bool) (t : Stretch) → get_or (sid_unless b t) 0 0 ∷ get_or (sid_unless b t) 1 0 ∷ get_or (sid_unless b t) 2 0 ∷ [] ≡ sid_unless b t
 sid_of_three true t = refl

@@ -1,12 +1,8 @@
 -- What is present in a reading, stored member by member.
-use Rattle.std.specs.Prelude.{List, ℕ, ◌+◌, set}
-use Rattle.reader.specs.declared.field.Stretch.{Stretch}
+use Rattle.std.specs.Prelude.{List, ℕ, ◌+◌, set, Option, None, Some}
+use Rattle.octets.specs.declared.part.Stretch.{Stretch}
 use Rattle.reader_names.specs.declared.NameAt.{NameAt}
-use Rattle.reader_forms.specs.declared.reading.Address.{Address}
-use Rattle.reader_forms.specs.declared.reading.Address.TheVariants as address
 use Rattle.reader_forms.specs.declared.reading.ExFields.{ExFields}
-use Rattle.reader_forms.specs.declared.reading.NextSite.{NextSite}
-use Rattle.reader_forms.specs.declared.reading.NextSite.TheVariants as next_site_lem
 
 abbrev pub number_put : List ℕ → ℕ → ℕ → List ℕ
 number_put d at n = set (set d at 1) (at + 1) n
@@ -27,10 +23,10 @@ abbrev pub other_names_put : List ℕ → ExFields → List ℕ
 other_names_put d f =
     name_put (name_put (name_put (name_put (name_put d 30 f.context_netbios) 34 f.server_netbios) 38 f.user) 42 f.own_site) 46 f.client_site
 
-abbrev pub address_put : List ℕ → Address → List ℕ
-address_put d address.Absent = d
-address_put d (address.At t) = number_put d 7 t.start
+abbrev pub address_put : List ℕ → Option Stretch → List ℕ
+address_put d None = d
+address_put d (Some t) = number_put d 7 t.start
 
-abbrev pub next_site_put : List ℕ → NextSite → List ℕ
-next_site_put d next_site_lem.Absent = d
-next_site_put d (next_site_lem.Name n) = name_put d 50 n
+abbrev pub next_site_put : List ℕ → Option NameAt → List ℕ
+next_site_put d None = d
+next_site_put d (Some n) = name_put d 50 n

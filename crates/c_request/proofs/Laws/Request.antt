@@ -1,13 +1,13 @@
 -- A clause is what its members say.
 use mathlib.Core.Path.{◌≡◌, refl}
 use lib.Dec.{eqb}
-use Rattle.filter.specs.declared.request.Clause.{Clause}
-use Rattle.filter.specs.declared.request.Clause.TheVariants.{Absent, Present}
+use Rattle.std.proofs.Common.{None, Some}
+use Rattle.filter.specs.Request.{Clause}
 use Rattle.c_request.specs.Request.{clause_unless, presence, start_of, length_of, RequestHandedOn}
 
 clause_again : (c : Clause) → clause_unless (eqb (presence c) 0) (start_of c) (length_of c) ≡ c
-clause_again Absent = refl
-clause_again (Present start len) = refl
+clause_again None = refl
+clause_again (Some t) = refl
 
 pub request_handed_on : RequestHandedOn
 request_handed_on r =

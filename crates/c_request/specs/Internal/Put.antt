@@ -1,6 +1,6 @@
 -- A clause's members, stored one after the other.
 use Rattle.std.specs.Prelude.{List, ℕ, ◌+◌, set}
-use Rattle.filter.specs.declared.request.Clause.{Clause}
+use Rattle.filter.specs.Request.{Clause}
 use Rattle.c_request.specs.Request.{presence, start_of, length_of}
 
 abbrev pub clause_put : List ℕ → ℕ → Clause → List ℕ

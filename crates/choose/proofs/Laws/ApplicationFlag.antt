@@ -1,7 +1,7 @@
 -- Without DnsDomain only the flags around the application flag are left, and none of them has its bit.
+use Rattle.std.proofs.Common.{None}
 use mathlib.Core.Path.{◌≡◌, ap}
 use mathlib.Core.Bool.{Bool, false}
-use mathlib.Core.Option.{none}
 use Prim.Native.Nat.{ℕ, ◌+◌, ◌*◌, ◌/◌, ◌%◌, ◌<◌}
 use native.Mathlib.Omega.{arith}
 use lib.Bits.{bit_and, and_high}
@@ -20,7 +20,7 @@ bit_clear x low high h e =
     let b : bit_and x ds_ndnc_flag ≡ x / 0x400 % 2 * 0x400 = and_high x 1 10 in
     rw (b, z)
 
-none_named : (t : Table) (p : Ping) → p.dns_domain_lem ≡ none → names_application t p ≡ false
+none_named : (t : Table) (p : Ping) → p.dns_domain_lem ≡ None → names_application t p ≡ false
 unfolding names_application
 none_named t p e = rw e
 

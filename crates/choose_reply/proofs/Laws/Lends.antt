@@ -1,23 +1,22 @@
 -- Laws of texts that stretches lend.
+use Rattle.std.proofs.Common.{Option, None, Some, is_some, option_map}
 use mathlib.Core.Path.{◌≡◌, refl, sym, ap, ◌∙◌}
 use mathlib.Core.List.{List, [], ◌∷◌}
-use mathlib.Core.Option.{map}
 use Prim.Native.Nat.{ℕ, zero, suc, ◌+◌, ◌/◌, ◌≤◌, ◌<◌}
 use native.Mathlib.Omega.{arith}
 use lib.ListN.{length, take, drop, get_or, length-take, length-drop}
 use Rattle.lent.specs.declared.stretch.Stretch.{Stretch}
+use Rattle.lent.specs.Internal.Stretch.{octets_at}
 use Rattle.octets.specs.Lists.{cut}
 use Rattle.octets.proofs.Laws.Lists.{cut-cut}
-use Rattle.reply.specs.Internal.RawReply.{no_stretch, slot_text, text_if}
+use Rattle.reply.specs.Internal.RawReply.{slot_text, text_if}
 use Rattle.table.specs.Block.{block_size, body_offset, body_size}
 use Rattle.table.specs.Forest.{forest_of}
 use Rattle.table.specs.Server.{server_of}
 use Rattle.table.specs.Table.{table_of, table_from}
 use Rattle.table.proofs.Laws.Table.{body_there}
-use Rattle.table_find.specs.declared.search.Found.{Found}
-use Rattle.table_find.specs.declared.search.Found.TheVariants.{At, Nothing}
 use Rattle.table_find.specs.Internal.Found.{site_at}
-use Rattle.choose_reply.specs.Internal.Lends.{Lends, LendsEach, is_found, name_of}
+use Rattle.choose_reply.specs.Internal.Lends.{LendsEach, name_of}
 
 -- a stretch by as many octets as it has
 pub cut-own : {A : Type 0} (s : List A) (at n : ℕ) → cut s at (length (cut s at n)) ≡ cut s at n
@@ -37,24 +36,20 @@ cut-within s at w from n h =
 -- slots, one after the other
 module _ (table request : List ℕ) where
   pub no_slots : LendsEach table request [] []
-  no_slots = record { octets = λ k. refl; short = λ k. omega arith }
+  no_slots = record { octets = λ k h. absurd (omega arith) }
 
   pub slot_then : (s : Stretch) (text : List ℕ) (slots : List Stretch) (texts : List (List ℕ))
-      → Lends table request s text → LendsEach table request slots texts → LendsEach table request (s ∷ slots) (text ∷ texts)
-  slot_then s text slots texts l ls = record { octets = octets; short = short }
+      → octets_at table request s ≡ text → LendsEach table request slots texts → LendsEach table request (s ∷ slots) (text ∷ texts)
+  slot_then s text slots texts l ls = record { octets = octets }
     where
-      octets : (k : ℕ) → slot_text table request (s ∷ slots) k ≡ get_or (text ∷ texts) k []
-      octets zero = l.octets
-      octets (suc k) = ls.octets k
-
-      short : (k : ℕ) → (get_or (s ∷ slots) k no_stretch).len ≤ 255
-      short zero = l.short
-      short (suc k) = ls.short k
+      octets : (k : ℕ) → k < length (text ∷ texts) → slot_text table request (s ∷ slots) k ≡ get_or (text ∷ texts) k []
+      octets zero h = l
+      octets (suc k) h = ls.octets k (omega arith)
 
 -- the next site's name is there where the site is
-pub next_there : (image : List ℕ) (found : Found) → text_if (is_found found) (name_of (site_at image found)) ≡ map (λ s. s.name) (site_at image found)
-next_there image (At offset) = refl
-next_there image Nothing = refl
+pub next_there : (image : List ℕ) (found : Option ℕ) → text_if (is_some found) (name_of (site_at image found)) ≡ option_map (λ s. s.name) (site_at image found)
+next_there image (Some offset) = refl
+next_there image None = refl
 
 -- the server and the forest by the bodies of their blocks
 pub server-body : (image : List ℕ) → block_size ≤ length image → server_of (cut image body_offset body_size) ≡ (table_from image).server
@@ -68,6 +63,3 @@ unfolding table_of
 forest-body image h =
     let k : 1 < length image / block_size = omega arith in
     ap forest_of (sym (cut-cut image block_size block_size body_offset body_size (omega arith)) ∙ body_there image 1 k)
-
-pub lends_same : (table request : List ℕ) (s : Stretch) (a b : List ℕ) → a ≡ b → Lends table request s a → Lends table request s b
-lends_same table request s a b e l = record { octets = l.octets ∙ e; short = l.short }

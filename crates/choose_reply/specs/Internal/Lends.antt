@@ -1,43 +1,29 @@
 -- Texts that stretches lend, and the texts of a reply in the order of their slots.
-use Rattle.std.specs.Prelude.{◌≡◌, Bool, true, false, List, [], ◌∷◌, ℕ, ◌≤◌, get_or}
-use Rattle.std.proofs.Math.Option
-use Rattle.std.proofs.Math.Option.{Option, map}
+use Rattle.std.specs.Prelude.{◌≡◌, List, [], ◌∷◌, ℕ, ◌<◌, length, get_or, Option, option_map, unwrap_or}
 use Rattle.filter_read.specs.Value.{Ping}
 use Rattle.lent.specs.declared.stretch.Stretch.{Stretch}
 use Rattle.lent.specs.Internal.Stretch.{octets_at}
-use Rattle.reply.specs.Internal.RawReply.{no_stretch, slot_text}
+use Rattle.reply.specs.Internal.RawReply.{slot_text}
 use Rattle.table.specs.Context.{Context}
 use Rattle.table.specs.Site.{Site}
 use Rattle.table.specs.Table.{Table}
-use Rattle.table_find.specs.declared.search.Found.{Found}
-use Rattle.table_find.specs.declared.search.Found.TheVariants.{At, Nothing}
 use Rattle.table_lookup.specs.Lookup.{site_by_number}
 
--- a short stretch whose octets are a text
-pub record Lends (table request : List ℕ) (s : Stretch) (text : List ℕ) : Type 0 where
-  pub octets : octets_at table request s ≡ text
-  pub short : s.len ≤ 255
-
--- one of the table image, whatever the request
+-- a stretch of the table image that holds a text, whatever the request
 abbrev pub InTable : List ℕ → Stretch → List ℕ → Type 0
-InTable table s text = (request : List ℕ) → Lends table request s text
+InTable table s text = (request : List ℕ) → octets_at table request s ≡ text
 
 -- one of the request, whatever the table image
 abbrev pub InRequest : List ℕ → Stretch → List ℕ → Type 0
-InRequest request s text = (table : List ℕ) → Lends table request s text
+InRequest request s text = (table : List ℕ) → octets_at table request s ≡ text
 
 -- the same of each slot
 pub record LendsEach (table request : List ℕ) (slots : List Stretch) (texts : List (List ℕ)) : Type 0 where
-  pub octets : (k : ℕ) → slot_text table request slots k ≡ get_or texts k []
-  pub short : (k : ℕ) → (get_or slots k no_stretch).len ≤ 255
-
-abbrev pub is_found : Found → Bool
-is_found (At offset) = true
-is_found Nothing = false
+  pub octets : (k : ℕ) → k < length texts → slot_text table request slots k ≡ get_or texts k []
 
 -- a name that may be absent
 abbrev pub name_of : Option Site → List ℕ
-name_of site = Option.get_or (map (λ s. s.name) site) []
+name_of site = unwrap_or (option_map (λ s. s.name) site) []
 
 abbrev pub texts : Table → Ping → Context → Option Site → Option (List ℕ) → List (List ℕ)
 texts t p c client next =
@@ -46,8 +32,8 @@ texts t p c client next =
     ∷ t.server.host
     ∷ c.netbios
     ∷ t.server.netbios
-    ∷ Option.get_or p.user []
+    ∷ unwrap_or p.user []
     ∷ name_of (site_by_number t t.server.site)
     ∷ name_of client
-    ∷ Option.get_or next []
+    ∷ unwrap_or next []
     ∷ []

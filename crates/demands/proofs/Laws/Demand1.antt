@@ -1,41 +1,32 @@
 -- Demand 1 is proved: each definition names the reasons for which it refuses, and what follows it names its own.
+use Rattle.std.proofs.Common.{Ok, Err, Option, None, Some}
 use mathlib.Core.Path.{◌≡◌, refl, sym, ap, ◌∙◌, subst}
 use mathlib.Core.Bool.{not}
 use mathlib.Core.List.{List, [], ◌∷◌}
-use mathlib.Core.Option.{Option, none, some}
 use Prim.Native.Nat.{ℕ, ◌<◌}
 use native.Mathlib.Omega.{arith}
 use lib.ListN.{length, take}
 use Rattle.answers.specs.declared.Refusal.{Refusal}
+use Rattle.std.specs.Result.{result_unwrap_or}
 use Rattle.answers.specs.declared.Refusal.TheVariants.{ImageLength, BlockCheck, BlockLayout, TableWhole}
 use Rattle.answers.specs.declared.Refusal.TheVariants.{FilterLength, FilterShape, UnknownClause, DuplicateClause, ClauseValue}
 use Rattle.answers.specs.declared.Refusal.TheVariants.{GuidLength, GuidNotHeld, DnsNameEmpty, DnsNameNotHeld}
 use Rattle.answers.specs.declared.Refusal.TheVariants.{SidShape, SidNotHeld, SidOfAnother, UserLabelEmpty, NoRoom}
 use Rattle.answers.specs.declared.Refusal.TheVariants.{ReplyCut, ReplyOpcode, ReplyText, ReplyFixed, ReplyLeftOver, MailslotShape}
 use Rattle.answers.specs.Refusal.{number}
-use Rattle.answers.specs.Try.{Try, refused, good, ◌>>=◌}
+use Rattle.answers.specs.Try.{Try, ◌>>=◌, number_of, value_of}
 use Rattle.choose.specs.Judge.{context_used, or_whole, context_in}
 use Rattle.filter_position.specs.declared.position.RawClause.{RawClause}
 use Rattle.filter.specs.declared.request.Request.{Request}
 use Rattle.filter_position.specs.Filter.{clauses_of}
-use Rattle.filter_read.specs.declared.read.Taken.{Taken}
-use Rattle.filter_read.specs.declared.read.Taken.TheVariants as taken
-use Rattle.filter_read.specs.declared.value.Judged.{Judged}
-use Rattle.filter_read.specs.declared.value.Judged.TheVariants as judged
-use Rattle.filter_read.specs.Taken.{judged_clauses, request_in, taken_as, taken_number}
-use Rattle.filter_read.specs.Value.{Ping, ping_in, ping_from, judged_values, judged_number}
-use Rattle.answers.specs.declared.written.Written.{Written}
-use Rattle.answers.specs.declared.written.Written.TheVariants as written
-use Rattle.answers.specs.Written.{written_as, written_octets, written_length, written_number}
+use Rattle.filter_read.specs.Taken.{judged_clauses, request_in}
+use Rattle.filter_read.specs.Value.{Ping, ping_in, ping_from, judged_values}
+use Rattle.answers.specs.Written.{written_as, written_octets}
 use Rattle.filter_write.specs.Write.{filter_for}
-use Rattle.locator.specs.declared.Answer.{Answer}
-use Rattle.locator.specs.declared.Answer.TheVariants as answer
-use Rattle.locator.specs.Answer.{Outcome, reply_to, answer_over, answer_by, answer_to, answer_as, octets_written, answer_length, answer_context, answer_form, answer_number}
+use Rattle.locator.specs.declared.Answered.{Answered}
+use Rattle.locator.specs.Answer.{Outcome, reply_to, answer_over, answer_by, answer_to, answer_as, octets_written, answer_length, answer_context, answer_form}
 use Rattle.mailslot.specs.declared.message.Message.{Message}
-use Rattle.mailslot.specs.declared.message.MessageRead.{MessageRead}
-use Rattle.mailslot.specs.declared.message.MessageRead.TheVariants as message_read
 use Rattle.mailslot.specs.Message.{good_message, as_shape, read_fields, message_in, message_for}
-use Rattle.mailslot.specs.Read.{message_as, message_number, message_given}
 use Rattle.mailslot_answer.specs.Ping.{message_ping, mailslot_ping}
 use Rattle.octets.specs.Buffer.{over}
 use Rattle.octets.proofs.Laws.Buffer.{over_none}
@@ -43,20 +34,15 @@ use Rattle.octets.specs.Lists.{any}
 use Rattle.reader.specs.Name.{read_name}
 use Rattle.reader.specs.Reader.{read_in}
 use Rattle.reader_forms.specs.declared.reading.Reading.{Reading}
-use Rattle.reader_forms.specs.declared.reading.Reading.TheVariants as reading
-use Rattle.reader_forms.specs.Reading.{reading_as, reading_length, reading_fields, reading_number}
+use Rattle.reader_forms.specs.Reading.{reading_as, reading_length, reading_fields}
 use Rattle.reader_text.specs.declared.NameText.{NameText}
-use Rattle.reader_text.specs.declared.TextLength.{TextLength}
-use Rattle.reader_text.specs.declared.TextLength.TheVariants as text
-use Rattle.reader_text.specs.Text.{name_text_lem, text_length_as, text_length, text_number}
+use Rattle.reader_text.specs.Text.{name_text_lem}
 use Rattle.table.specs.declared.Caller.{Caller}
 use Rattle.table.specs.Context.{Context}
 use Rattle.table.specs.Table.{Table}
 use Rattle.table_check.specs.declared.check.Check.{Check}
 use Rattle.table_check.specs.Check.{grow, grown, check_of_lem}
-use Rattle.table_whole.specs.declared.judge.Judgement.{Judgement}
-use Rattle.table_whole.specs.declared.judge.Judgement.TheVariants as judgement
-use Rattle.table_whole.specs.Judgement.{table_in, judged_as, judgement_number}
+use Rattle.table_whole.specs.Judgement.{table_in, judged_as}
 use Rattle.demands.specs.Demand1.{ForImage, ForFilter, ForValues, ForWriting, ForPing, ForReply, ForName, ForMessage, ForMessageWriting, ForMailslot, Demand1, ForAny}
 use Rattle.demands.proofs.Laws.Only.{Only, Any, only_if, only_then, only-returned}
 use Rattle.demands.proofs.Laws.Reading.{form_read, name-only, reading_only}
@@ -77,8 +63,8 @@ module _ (P : Refusal → Type 0) where
   request-only a b c d s = search (only_if P, clauses (clauses_of s))
     where
       clauses : (o : Option (List RawClause)) → Only P Any (judged_clauses s o)
-      clauses none = b
-      clauses (some fs) = search (only_if P)
+      clauses None = b
+      clauses (Some fs) = search (only_if P)
 
   ping-only : P ClauseValue → (s : List ℕ) (r : Request) → Only P Any (ping_in s r)
   unfolding ping_in
@@ -89,20 +75,20 @@ module _ (P : Refusal → Type 0) where
   filter-only a b c source r room = search (only_if P)
 
   shape_only : {A : Type 0} → P MailslotShape → (t : Try A) → Only P Any (as_shape t)
-  shape_only a (refused r) = a
-  shape_only a (good m) = tt
+  shape_only a (Err r) = a
+  shape_only a (Ok m) = tt
 
   message_only : P MailslotShape → (s : List ℕ) → Only P Any (message_in s)
   unfolding message_in
-  message_only a s = only_then P Any (as_shape (read_fields s)) _ (shape_only a (read_fields s)) (λ m. only_if P Any (not (good_message s m)) MailslotShape (good m) a tt)
+  message_only a s = only_then P Any (as_shape (read_fields s)) _ (shape_only a (read_fields s)) (λ m. only_if P Any (not (good_message s m)) MailslotShape (Ok m) a tt)
 
   message_written-only : P MailslotShape → P NoRoom → (source : List ℕ) (m : Message) (room : ℕ) → Only P Any (message_for source m room)
   unfolding message_for
   message_written-only a b source m room = search (only_if P)
 
   found-only : P TableWhole → (o : Option Context) → Only P Any (or_whole o)
-  found-only e none = e
-  found-only e (some c) = tt
+  found-only e None = e
+  found-only e (Some c) = tt
 
   -- 15 to 17: a message names no context
   message_context-only : P TableWhole → P SidShape → P SidNotHeld → P SidOfAnother → (t : Table) (s : List ℕ) (m : Message) → Only P Any (context_in t (message_ping s m))
@@ -131,9 +117,9 @@ unfolding answer_by mailslot_ping answer_over
 mailslot-only image caller message room =
     only_then (By ForMailslot) Any (table_in image) _ (table-only (By ForMailslot) refl refl refl refl image) (λ t. by (message_in message) t (message_only (By ForMailslot) refl message))
   where
-    by : (o : Try Message) (t : Table) → Only (By ForMailslot) Any o → Only (By ForMailslot) Any (o >>= (λ m. good (message_ping message m)) >>= λ p. context_in t p >>= reply_to t caller p room)
-    by (refused r) t h = h
-    by (good m) t h =
+    by : (o : Try Message) (t : Table) → Only (By ForMailslot) Any o → Only (By ForMailslot) Any (o >>= (λ m. Ok (message_ping message m)) >>= λ p. context_in t p >>= reply_to t caller p room)
+    by (Err r) t h = h
+    by (Ok m) t h =
         let p : Ping = message_ping message m in
         only_then (By ForMailslot) Any (context_in t p) _ (message_context-only (By ForMailslot) refl refl refl refl t message m) (reply_only (By ForMailslot) refl refl t caller p room)
 
@@ -182,45 +168,45 @@ demand_1 =
       check_of = λ octets c p. let s = subst Sums (sym p) (sums_grown (record { a = 1; b = 0 }) octets (omega arith, omega arith)) in (p, s.0, s.1);
       judge =
           λ image j r p e.
-          subst (λ (x : Judgement). ForImage (judgement_number x)) (sym e) (only-returned judged_as judgement.Refused (λ q r h. cc) (λ a r h. cc) (By ForImage) Any (table_in image) (table-only (By ForImage) refl refl refl refl image) j r p.same e).0;
+          subst (λ (x : Try (Unit {0})). ForImage (number_of x)) (sym e) (only-returned judged_as (λ q. refl) (λ a. (_, refl)) (By ForImage) Any (table_in image) (table-only (By ForImage) refl refl refl refl image) j r p.same e).0;
       take_apart =
           λ filter t r p e.
-          subst (λ (x : Taken). ForFilter (taken_number x)) (sym e) (only-returned taken_as taken.Refused (λ q r h. cc) (λ a r h. cc) (By ForFilter) Any (request_in filter) (request-only (By ForFilter) refl refl refl refl filter) t r p.same e).0;
+          subst (λ (x : Try Request). ForFilter (number_of x)) (sym e) (only-returned (λ (x : Try Request). x) (λ q. refl) (λ a. (_, refl)) (By ForFilter) Any (request_in filter) (request-only (By ForFilter) refl refl refl refl filter) t r p.same e).0;
       judge_values =
           λ filter request j r p e.
-          subst (λ (x : Judged). ForValues (judged_number x)) (sym e) (only-returned judged_values judged.Refused (λ q r h. cc) (λ a r h. cc) (By ForValues) Any (ping_in filter request) (ping-only (By ForValues) refl filter request) j r p.same e).0;
+          subst (λ (x : Try ℕ). ForValues (number_of x)) (sym e) (only-returned judged_values (λ q. refl) (λ a. (_, refl)) (By ForValues) Any (ping_in filter request) (ping-only (By ForValues) refl filter request) j r p.same e).0;
       write_filter =
           λ source request before after w r p e.
           let t : Try (List ℕ) = filter_for source request (length before) in
-          let o = only-returned written_as written.Refused (λ q r h. cc) (λ a r h. cc) (By ForWriting) Any t (filter-only (By ForWriting) refl refl refl source request (length before)) w r p.returned.same e in
-          (subst (λ (x : Written). ForWriting (written_number x)) (sym e) o.0, ap written_length e, p.left ∙ ap (λ (x : Try (List ℕ)). over (written_octets x) before) o.1 ∙ over_none before);
+          let o = only-returned written_as (λ q. refl) (λ a. (_, refl)) (By ForWriting) Any t (filter-only (By ForWriting) refl refl refl source request (length before)) w r p.returned.same e in
+          (subst (λ (x : Try ℕ). ForWriting (number_of x)) (sym e) o.0, ap (λ (x : Try ℕ). result_unwrap_or x 0) e, p.left ∙ ap (λ (x : Try (List ℕ)). over (written_octets x) before) o.1 ∙ over_none before);
       answer_ping =
           λ image caller filter before after a r p e.
           let t : Try Outcome = answer_to image caller filter (length before) in
-          let o = only-returned answer_as answer.Refused (λ q r h. cc) (λ a r h. cc) (By ForPing) Any t (answer_only image caller filter (length before)) a r p.returned.same e in
-          (subst (λ (x : Answer). ForPing (answer_number x)) (sym e) o.0, ap answer_length e, ap answer_context e, ap answer_form e, p.left ∙ ap (λ (x : Try Outcome). over (octets_written x) before) o.1 ∙ over_none before);
+          let o = only-returned answer_as (λ q. refl) (λ a. (_, refl)) (By ForPing) Any t (answer_only image caller filter (length before)) a r p.returned.same e in
+          (subst (λ (x : Try Answered). ForPing (number_of x)) (sym e) o.0, ap answer_length e, ap answer_context e, ap answer_form e, p.left ∙ ap (λ (x : Try Outcome). over (octets_written x) before) o.1 ∙ over_none before);
       read_reply =
           λ reply form v x r p e.
-          let o = only-returned (reading_as reply) reading.Refused (λ q r h. cc) (λ a r h. cc) (By ForReply) (λ f. form_read f ≡ form) (read_in form v reply) (reading_only (By ForReply) refl refl refl refl refl form v reply) x r p.same e in
-          (subst (λ (x : Reading). ForReply (reading_number x)) (sym e) o.0, ap reading_length e, ap reading_fields e);
+          let o = only-returned (reading_as reply) (λ q. refl) (λ a. (_, refl)) (By ForReply) (λ f. form_read f ≡ form) (read_in form v reply) (reading_only (By ForReply) refl refl refl refl refl form v reply) x r p.same e in
+          (subst (λ (x : Try Reading). ForReply (number_of x)) (sym e) o.0, ap reading_length e, ap reading_fields e);
       name_text =
           λ reply start t r p e.
-          let o = only-returned text_length_as text.Refused (λ q r h. cc) (λ a r h. cc) (By ForName) Any (name_text_lem reply start)
+          let o = only-returned written_as (λ q. refl) (λ a. (_, refl)) (By ForName) Any (name_text_lem reply start)
           (only_then (By ForName) Any (read_name reply start) _ (name-only (By ForName) refl refl reply start) (λ f. tt)) t.len r (ap (λ (x : NameText). x.len) p.same) e in
-          (subst (λ (x : TextLength). ForName (text_number x)) (sym e) o.0, ap text_length e, ap (λ (l : TextLength). take (text_length l) t.octets) e);
+          (subst (λ (x : Try ℕ). ForName (number_of x)) (sym e) o.0, ap (λ (l : Try ℕ). result_unwrap_or l 0) e, ap (λ (l : Try ℕ). take (result_unwrap_or l 0) t.octets) e);
       read_message =
           λ message m r p e.
-          let o = only-returned message_as message_read.Refused (λ q r h. cc) (λ a r h. cc) (By ForMessage) Any (message_in message) (message_only (By ForMessage) refl message) m r p.same e in
-          (subst (λ (x : MessageRead). ForMessage (message_number x)) (sym e) o.0, ap message_given e);
+          let o = only-returned (λ (x : Try Message). x) (λ q. refl) (λ a. (_, refl)) (By ForMessage) Any (message_in message) (message_only (By ForMessage) refl message) m r p.same e in
+          (subst (λ (x : Try Message). ForMessage (number_of x)) (sym e) o.0, ap value_of e);
       write_message =
           λ source message before after w r p e.
           let t : Try (List ℕ) = message_for source message (length before) in
-          let o = only-returned written_as written.Refused (λ q r h. cc) (λ a r h. cc) (By ForMessageWriting) Any t (message_written-only (By ForMessageWriting) refl refl source message (length before)) w r p.returned.same e in
-          (subst (λ (x : Written). ForMessageWriting (written_number x)) (sym e) o.0, ap written_length e, p.left ∙ ap (λ (x : Try (List ℕ)). over (written_octets x) before) o.1 ∙ over_none before);
+          let o = only-returned written_as (λ q. refl) (λ a. (_, refl)) (By ForMessageWriting) Any t (message_written-only (By ForMessageWriting) refl refl source message (length before)) w r p.returned.same e in
+          (subst (λ (x : Try ℕ). ForMessageWriting (number_of x)) (sym e) o.0, ap (λ (x : Try ℕ). result_unwrap_or x 0) e, p.left ∙ ap (λ (x : Try (List ℕ)). over (written_octets x) before) o.1 ∙ over_none before);
       answer_mailslot =
           λ image caller message before after a r p e.
           let t : Try Outcome = answer_by mailslot_ping image caller message (length before) in
-          let o = only-returned answer_as answer.Refused (λ q r h. cc) (λ a r h. cc) (By ForMailslot) Any t (mailslot-only image caller message (length before)) a r p.returned.same e in
-          (subst (λ (x : Answer). ForMailslot (answer_number x)) (sym e) o.0, ap answer_length e, ap answer_context e, ap answer_form e, p.left ∙ ap (λ (x : Try Outcome). over (octets_written x) before) o.1 ∙ over_none before);
+          let o = only-returned answer_as (λ q. refl) (λ a. (_, refl)) (By ForMailslot) Any t (mailslot-only image caller message (length before)) a r p.returned.same e in
+          (subst (λ (x : Try Answered). ForMailslot (number_of x)) (sym e) o.0, ap answer_length e, ap answer_context e, ap answer_form e, p.left ∙ ap (λ (x : Try Outcome). over (octets_written x) before) o.1 ∙ over_none before);
       number_of = λ r n p. subst ForAny (sym p) (number_known r);
     }

@@ -1,13 +1,12 @@
 -- Demand 3 of the definitions: the names stand in a row from where the layout starts them, and reader and walk find each at its place.
+use Rattle.std.proofs.Common.{Ok, Option, None, Some}
 use mathlib.Core.Path.{◌≡◌, refl}
 use mathlib.Core.List.{List, []}
-use mathlib.Core.Option.{Option, none, some}
 use Prim.Native.Nat.{ℕ, ◌+◌, ◌<◌}
 use native.Mathlib.Omega.{arith}
 use lib.ListN.{length, get_or}
 use Rattle.answers.specs.declared.Form.{Form}
 use Rattle.answers.specs.declared.Form.TheVariants.{Nt40, Response, Ex}
-use Rattle.answers.specs.Try.{good}
 use Rattle.names.proofs.Laws.Name.{Spot, row_spot}
 use Rattle.names.proofs.Laws.Walk.{finds}
 use Rattle.octets.specs.Label.{labels}
@@ -17,7 +16,7 @@ use Rattle.reader.proofs.Laws.Reader.{NamesRow, given_back_lem, read-nt40, given
 use Rattle.reader_forms.specs.Reading.{no_name}
 use Rattle.reply.specs.Reply.{Reply, nt40_octets, response_octets, ex_octets, octets_in}
 use Rattle.demands.specs.Demand3.{names_of, last_of, NameWalked, WhereWritten}
-use Rattle.demands.specs.Places.{names_start, name_start_lem, last_start}
+use Rattle.demands.specs.Places.{names_start, name_start, last_start}
 use Rattle.demands.proofs.Laws.Forms.Ex.{ex_front, ex-row, ex-start, ex-last-start, ex-read, LastSpot, last_there}
 use Rattle.demands.proofs.Laws.Forms.Nt40.{nt40_opened}
 use Rattle.demands.proofs.Laws.Forms.Response.{response-row, response-start, response-read}
@@ -31,8 +30,8 @@ names_in (response f) = f.names
 names_in (ex f) = f.names
 
 abbrev pub last_in : Fields → Option NameRead
-last_in (nt40 f) = none
-last_in (response f) = none
+last_in (nt40 f) = None
+last_in (response f) = None
 last_in (ex f) = f.next_site_lem
 
 -- one name, walked, and as the reader gave it back
@@ -45,9 +44,9 @@ pub record NameGiven (s : List ℕ) (start k : ℕ) (text : List ℕ) (given : N
 -- every name of a reply r in its form, whose octets are s
 pub record NamesWalked (form : Form) (v : ℕ) (r : Reply) (s : List ℕ) : Type 0 where
   pub fields : Fields
-  pub accepted : read_in form v s ≡ good fields
+  pub accepted : read_in form v s ≡ Ok fields
   pub many : length (names_in fields) ≡ length (names_of form r)
-  pub names : (k : ℕ) → k < length (names_of form r) → NameGiven s (name_start_lem form s k) k (get_or (names_of form r) k []) (get_or (names_in fields) k no_name)
+  pub names : (k : ℕ) → k < length (names_of form r) → NameGiven s (name_start form s k) k (get_or (names_of form r) k []) (get_or (names_in fields) k no_name)
   pub last : WhereWritten (NameGiven s (last_start v s) 8) (last_of form r) (last_in fields)
 
 -- a name where the walk finds it, and where the reader found it
@@ -69,7 +68,7 @@ given {text = text} {count = count} k spot =
 
 -- the names of a row, from where the layout places them
 row-given : (form : Form) {s : List ℕ} {at : ℕ} {texts : List (List ℕ)} {octets : List ℕ} (row : NamesRow s at texts octets) → names_start form s ≡ at → (i : ℕ) → i < length texts
-    → NameGiven s (name_start_lem form s i) i (get_or texts i []) (get_or (given_back_lem row.starts texts row.counts) i no_name)
+    → NameGiven s (name_start form s i) i (get_or texts i []) (get_or (given_back_lem row.starts texts row.counts) i no_name)
 row-given form {texts = texts} row first i h = rw (name-placed form row first i h, given-at row.row no_name i h) (given i (row_spot row.row i h))
 
 nt40-walked : (v : ℕ) (r : Reply) → Sound Nt40 v r → NamesWalked Nt40 v r (nt40_octets r)
@@ -95,8 +94,8 @@ response-walked v r k =
 
 last-given : (v : ℕ) (r : Reply) (k : Sound Ex v r) (site : Option (List ℕ)) (count : ℕ) → LastSpot v r k site count
     → WhereWritten (NameGiven (ex_octets r) (length (ex_front v r k)) 8) site (last_given site (length (ex_front v r k)) count).next_site_lem
-last-given v r k none count spot = tt
-last-given v r k (some text) count spot = given 8 spot
+last-given v r k None count spot = tt
+last-given v r k (Some text) count spot = given 8 spot
 
 ex-walked : (v : ℕ) (r : Reply) → Sound Ex v r → NamesWalked Ex v r (ex_octets r)
 ex-walked v r k =

@@ -1,14 +1,14 @@
 -- What holds of every answer over a table holds of every answer of the whole, and so of every reply that the answering call leaves.
+use Rattle.std.proofs.Common.{Ok, Err}
 use mathlib.Core.Path.{◌≡◌, refl, sym, ap, ◌∙◌, subst}
 use mathlib.Core.List.{List}
 use Prim.Native.Nat.{ℕ}
-use native.Mathlib.Omega.{arith}
 use lib.ListN.{length, take}
 use Rattle.answers.specs.declared.Form.{Form}
-use Rattle.answers.specs.Try.{Try, refused, good}
-use Rattle.answers.proofs.Laws.Try.{good_then}
+use Rattle.answers.specs.Try.{Try}
+use Rattle.answers.proofs.Laws.Try.{good-same, good_then, refused_not_good}
 use Rattle.filter_read.specs.Value.{Ping}
-use Rattle.locator.specs.declared.Answer.TheVariants as answer
+use Rattle.locator.specs.declared.Answered.{Answered}
 use Rattle.locator.specs.Answer.{Outcome, answer_over, answer_by, answer_as, octets_written}
 use Rattle.choose.specs.Judge.{context_in}
 use Rattle.octets.specs.Buffer.{over}
@@ -19,7 +19,7 @@ use Rattle.table.specs.Table.{Table}
 use Rattle.table_whole.specs.Judgement.{table_in}
 use Rattle.demands.specs.Derivation.{Derivation, said, ReplyIs, EveryAnswerOver, Parts, EveryAnswer, EveryReply}
 
-pub derived : (t : Table) (caller : Caller) (p : Ping) (room : ℕ) (a : Outcome) → answer_over t caller p room ≡ good a → Derivation t caller p room a
+pub derived : (t : Table) (caller : Caller) (p : Ping) (room : ℕ) (a : Outcome) → answer_over t caller p room ≡ Ok a → Derivation t caller p room a
 unfolding answer_over
 derived t caller p room a e =
     let c = good_then (context_in t p) _ a e in
@@ -42,6 +42,9 @@ every_reply P Q every weaken way pings image caller octets before after a len co
     whole : Outcome
     whole = record { context = context; form = form; octets = take len after }
 
+    given : Answered
+    given = record { length = len; context = context; form = form }
+
     Due : Type 0
     Due = (parts : Parts way image octets) × (d : Derivation parts.table caller parts.ping (length before) whole) × Q form parts.ping.version (said d) (take len after) len
 
@@ -50,16 +53,14 @@ every_reply P Q every weaken way pings image caller octets before after a len co
     weakened l parts d p = let v : ℕ = parts.ping.version in (parts, d, subst (Q form v (said d) (take len after)) l (weaken form v (said d) (take len after) p))
 
     by : (o : Try Outcome) → answer_by way image caller octets (length before) ≡ o → Due
-    by (refused x) e =
-        let f : answer.Refused x ≡ answer.Answered len context form = sym (ap answer_as e) ∙ sym promise.returned.same ∙ answered in
-        let z : ◌≡◌ {A = ℕ} 0 1 = cc in
-        absurd (omega arith)
-    by (good o) e =
-        let f : answer.Answered (length o.octets) o.context o.form ≡ answer.Answered len context form = sym (ap answer_as e) ∙ sym promise.returned.same ∙ answered in
-        let l : length o.octets ≡ len = cc in
-        let c : o.context ≡ context = cc in
-        let g : o.form ≡ form = cc in
+    by (Err x) e =
+        absurd (refused_not_good x given (sym (ap answer_as e) ∙ sym promise.returned.same ∙ answered))
+    by (Ok o) e =
+        let f = good-same (sym (ap answer_as e) ∙ sym promise.returned.same ∙ answered) in
+        let l : length o.octets ≡ len = ap (λ (x : Answered). x.length) f in
+        let c : o.context ≡ context = ap (λ (x : Answered). x.context) f in
+        let g : o.form ≡ form = ap (λ (x : Answered). x.form) f in
         let s : o.octets ≡ take len after = sym (ap (take len) (promise.left ∙ ap (λ (x : Try Outcome). over (octets_written x) before) e) ∙ over_front o.octets before len l) in
         let same : o ≡ whole = λ i. record { context = c i; form = g i; octets = s i } in
-        let x = every way pings image caller octets (length before) whole (e ∙ ap good same) in
+        let x = every way pings image caller octets (length before) whole (e ∙ ap Ok same) in
         weakened (sym (ap length s) ∙ l) x.0 x.1.0 x.1.1

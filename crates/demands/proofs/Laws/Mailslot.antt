@@ -1,8 +1,8 @@
 -- What holds of the answers to mailslot messages: from the ping that a message is, and the law of every reply.
+use Rattle.std.proofs.Common.{Ok, Option, None, Some, option_map, unwrap_or}
 use mathlib.Core.Path.{◌≡◌, refl, sym, ap, ◌∙◌, subst}
 use mathlib.Core.Bool.{Bool, true, false, not, ◌&&◌}
 use mathlib.Core.List.{List, [], ◌∷◌, flat_map}
-use mathlib.Core.Option.{Option, none, some, map, get_or}
 use Prim.Native.Nat.{ℕ, ◌+◌, ◌<◌}
 use native.Mathlib.Nat.{zero-add}
 use native.Mathlib.Omega.{arith}
@@ -10,7 +10,7 @@ use lib.Dec.{eqb, ltb}
 use lib.ListN.{length, drop}
 use Rattle.answers.specs.declared.Form.{Form}
 use Rattle.answers.specs.declared.Form.TheVariants.{Nt40, Response, Ex}
-use Rattle.answers.specs.Try.{Try, good, ◌>>=◌}
+use Rattle.answers.specs.Try.{Try, ◌>>=◌}
 use Rattle.answers.specs.Wire.{netlogon_nt_version_1, ds_pdc_flag, ds_ds_flag, ds_ndnc_flag}
 use Rattle.answers.proofs.Laws.Try.{good-same, good_then}
 use Rattle.choose.specs.Choose.{flag, response_flags, flags_of, reply_for}
@@ -20,7 +20,7 @@ use Rattle.filter.specs.declared.request.ClauseName.TheVariants.{User, Aac, Doma
 use Rattle.filter.specs.Request.{clause, octets_of}
 use Rattle.filter_read.specs.Value.{Ping, is_number, wrong_value_lem, version_asked, ping_of, ping_in}
 use Rattle.filter_read.proofs.Laws.Value.{ping-user}
-use Rattle.locator.specs.Answer.{Outcome, answer_over, answer_by}
+use Rattle.locator.specs.Answer.{answer_over, answer_by}
 use Rattle.mailslot.specs.declared.message.Message.{Message}
 use Rattle.mailslot.specs.Message.{message_in}
 use Rattle.mailslot_answer.specs.Ping.{unless_empty, message_ping, mailslot_ping}
@@ -29,9 +29,9 @@ use Rattle.octets.specs.Number.{little, little_octets, has}
 use Rattle.octets.specs.Lists.{cut, all, holds}
 use Rattle.octets.proofs.Laws.Lists.{all-parts, both_left, both_right}
 use Rattle.octets.proofs.Laws.Number.{length-little, little-back}
-use Rattle.reader.specs.{Field.stretch_of, Reader.read_in}
+use Rattle.octets.specs.Stretch.{stretch_of}
+use Rattle.reader.specs.Reader.{read_in}
 use Rattle.reply.specs.Reply.{Reply}
-use Rattle.table.specs.declared.Caller.{Caller}
 use Rattle.table.specs.{Site.Site, Table.Table}
 use Rattle.table_lookup.specs.Lookup.{client_site_lem}
 use Rattle.table_whole.specs.Judgement.{table_in}
@@ -47,7 +47,7 @@ use Rattle.demands.proofs.Laws.Derivation.{derived}
 use Rattle.demands.proofs.Laws.ReplyLaw.{reply_law}
 
 -- the ping of a message is what it asks
-message_asks : (message : List ℕ) (p : Ping) → mailslot_ping message ≡ good p → (m : Message) × (message_in message ≡ good m) × (message_ping message m ≡ p)
+message_asks : (message : List ℕ) (p : Ping) → mailslot_ping message ≡ Ok p → (m : Message) × (message_in message ≡ Ok m) × (message_ping message m ≡ p)
 unfolding mailslot_ping
 message_asks message p e = let f = good_then (message_in message) _ p e in (f.0, f.1, good-same f.2)
 
@@ -79,7 +79,7 @@ no_application-flag image caller message room a e =
     (record { table = t.0; ping = p.0; judged = t.1; pinged = p.1 }, (d, flags))
 
 -- what a text that may be empty says
-said-whole : (t : List ℕ) → get_or (unless_empty t) [] ≡ t
+said-whole : (t : List ℕ) → unwrap_or (unless_empty t) [] ≡ t
 said-whole [] = refl
 said-whole (x ∷ xs) = refl
 
@@ -104,7 +104,7 @@ unfolding utf16 points_from flat_map
 empty_units = refl
 
 -- the user's text, by the units that were sent
-module _ (s : List ℕ) (m : Message) (o : are_octets s ≡ true) (e : message_in s ≡ good m) where
+module _ (s : List ℕ) (m : Message) (o : are_octets s ≡ true) (e : message_in s ≡ Ok m) where
   text_says : Says (stretch_of s m.user) (user_text_lem s m e)
   text_says =
       let t = to_8 (stretch_of s m.user) (user_text_lem s m e) (octets_stretch s m.user.start m.user.len o) (user-told s m e) in
@@ -116,7 +116,7 @@ user_as_sent image caller message room a m o em e =
     let law = reply_law mailslot_ping message_pings image caller message room a e in
     let parts = law.0 in
     let asked : message_ping message m ≡ parts.ping = good-same (sym (pinged message m em) ∙ parts.pinged) in
-    let text : get_or parts.ping.user [] ≡ user_text_lem message m em = sym (ap (λ (p : Ping). get_or p.user []) asked) ∙ said-whole (user_text_lem message m em) in
+    let text : unwrap_or parts.ping.user [] ≡ user_text_lem message m em = sym (ap (λ (p : Ping). unwrap_or p.user []) asked) ∙ said-whole (user_text_lem message m em) in
     let said : Says (stretch_of message m.user) (user_text_lem message m em) = text_says message m o em in (
       user-back a.form _ a.octets (stretch_of message m.user) _ (ap utf16 text ∙ said.same) law.1.1.0,
       (parts, (law.1.0, subst (Says (stretch_of message m.user)) (sym text) said)),
@@ -124,21 +124,21 @@ user_as_sent image caller message room a m o em e =
 
 -- ---- a message as a filter
 
-number-said : (n : ℕ) (c : Option (List ℕ)) → n < 0x100000000 → c ≡ some (little_octets 4 n) → (d : ℕ) → get_or (map little c) d ≡ n
-number-said n c h e d = ap (λ (x : Option (List ℕ)). get_or (map little x) d) e ∙ little-back 4 n h
+number-said : (n : ℕ) (c : Option (List ℕ)) → n < 0x100000000 → c ≡ Some (little_octets 4 n) → (d : ℕ) → unwrap_or (option_map little c) d ≡ n
+number-said n c h e d = ap (λ (x : Option (List ℕ)). unwrap_or (option_map little x) d) e ∙ little-back 4 n h
 
-four_octets : (n : ℕ) (c : Option (List ℕ)) → c ≡ some (little_octets 4 n) → holds (λ x. not (is_number x)) c ≡ false
+four_octets : (n : ℕ) (c : Option (List ℕ)) → c ≡ Some (little_octets 4 n) → holds (λ x. not (is_number x)) c ≡ false
 four_octets n c e = ap (λ (x : Option (List ℕ)). holds (λ y. not (is_number y)) x) e ∙ ap (λ (k : ℕ). not (eqb k 4)) (length-little 4 n)
 
 -- the clause that says a text is the one that the ping has
 same-clause : (P : List ℕ → List ℕ → Type 0) (sent text : List ℕ) (c : Option (List ℕ)) → SaidBy P sent c → (sent ≡ [] → text ≡ []) → (text ≡ [] → sent ≡ [])
     → ((t : List ℕ) → P sent t → t ≡ text) → c ≡ unless_empty text
 same-clause P [] text c h f g same = h ∙ ap unless_empty (sym (f refl))
-same-clause P (x ∷ xs) text none h f g same = absurd h
-same-clause P (x ∷ xs) [] (some t) h f g same = absurd (omega (arith, ap length (g refl)))
-same-clause P (x ∷ xs) (y ∷ ys) (some t) h f g same = ap some (same t h)
+same-clause P (x ∷ xs) text None h f g same = absurd h
+same-clause P (x ∷ xs) [] (Some t) h f g same = absurd (omega (arith, ap length (g refl)))
+same-clause P (x ∷ xs) (y ∷ ys) (Some t) h f g same = ap Some (same t h)
 
-module _ (s : List ℕ) (m : Message) (g : List ℕ) (r : Request) (o : are_octets s ≡ true) (e : message_in s ≡ good m) (alike : AsksAlike s m g r) where
+module _ (s : List ℕ) (m : Message) (g : List ℕ) (r : Request) (o : are_octets s ≡ true) (e : message_in s ≡ Ok m) (alike : AsksAlike s m g r) where
   abbrev units : List ℕ
   units = stretch_of s m.user
 
@@ -167,7 +167,7 @@ module _ (s : List ℕ) (m : Message) (g : List ℕ) (r : Request) (o : are_octe
 
   asked_alike : mailslot_ping s ≡ ping_in g r
   unfolding ping_in
-  asked_alike = pinged s m e ∙ sym (rw right_values (ap good same-ping))
+  asked_alike = pinged s m e ∙ sym (rw right_values (ap Ok same-ping))
 
 pub as_filter : AsFilter
 unfolding answer_by

@@ -1,15 +1,15 @@
 -- What judgements in a row come to: they are refused for these reasons only, and what they give is so.
-use mathlib.Core.Path.{◌≡◌, sym, ap, ◌∙◌, subst}
+use Rattle.std.proofs.Common.{Ok, Err}
+use mathlib.Core.Path.{◌≡◌, sym, ◌∙◌, subst}
 use mathlib.Core.Bool.{Bool, true, false}
-use Prim.Native.Nat.{ℕ}
-use native.Mathlib.Omega.{arith}
 use Rattle.answers.specs.declared.Refusal.{Refusal}
-use Rattle.answers.specs.Try.{Try, refused, good, refused_if, ◌>>=◌}
+use Rattle.answers.specs.Try.{Try, refused_if, ◌>>=◌}
+use Rattle.answers.proofs.Laws.Try.{refused_not_good}
 
 -- a reason that it may be refused for, or something so
 abbrev pub Only : {A : Type 0} → (Refusal → Type 0) → (A → Type 0) → Try A → Type 0
-Only P Q (refused r) = P r
-Only P Q (good a) = Q a
+Only P Q (Err r) = P r
+Only P Q (Ok a) = Q a
 
 -- where nothing is said of what is given
 abbrev pub Any : {A : Type 0} → A → Type 0
@@ -21,14 +21,17 @@ module _ (P : Refusal → Type 0) where
   only_if Q false r rest p o = o
 
   pub only_then : {A B : Type 0} (Q : B → Type 0) (t : Try A) (f : A → Try B) → Only P Any t → ((a : A) → Only P Q (f a)) → Only P Q (t >>= f)
-  only_then Q (refused r) f o next = o
-  only_then Q (good a) f o next = next a
+  only_then Q (Err r) f o next = o
+  only_then Q (Ok a) f o next = next a
 
-pub only-good : {A : Type 0} (P : Refusal → Type 0) (Q : A → Type 0) (t : Try A) (a : A) → Only P Q t → t ≡ good a → Q a
+pub only-good : {A : Type 0} (P : Refusal → Type 0) (Q : A → Type 0) (t : Try A) (a : A) → Only P Q t → t ≡ Ok a → Q a
 only-good P Q t a o e = subst (Only P Q) e o
 
--- what a call returns, by an enum with a refusal: it refuses for such a reason, and where the definition does
-module _ {A X : Type 0} (returns : Try A → X) (refusal : Refusal → X) (same : (q r : Refusal) → returns (refused q) ≡ refusal r → q ≡ r) (never : (a : A) (r : Refusal) → returns (good a) ≡ refusal r → ◌≡◌ {A = ℕ} 0 1) where
-  pub only-returned : (P : Refusal → Type 0) (Q : A → Type 0) (t : Try A) → Only P Q t → (x : X) (r : Refusal) → x ≡ returns t → x ≡ refusal r → P r × (t ≡ refused r)
-  only-returned P Q (refused q) o x r p e = let z : q ≡ r = same q r (sym p ∙ e) in (subst P z o, ap refused z)
-  only-returned P Q (good a) o x r p e = let z : ◌≡◌ {A = ℕ} 0 1 = never a r (sym p ∙ e) in absurd (omega arith)
+-- what a call returns, where it hands a refusal on and gives something for an answer: it refuses for such a reason, and where the definition does
+module _ {A B : Type 0} (returns : Try A → Try B) (refuses : (q : Refusal) → returns (Err q) ≡ Err q) (gives : (a : A) → (b : B) × (returns (Ok a) ≡ Ok b)) where
+  pub only-returned : (P : Refusal → Type 0) (Q : A → Type 0) (t : Try A) → Only P Q t → (x : Try B) (r : Refusal) → x ≡ returns t → x ≡ Err r → P r × (t ≡ Err r)
+  only-returned P Q (Err q) o x r p e = let z = sym (refuses q) ∙ sym p ∙ e in (subst (Only {A = B} P Any) z o, same z)
+    where
+      same : ◌≡◌ {A = Try B} (Err q) (Err r) → ◌≡◌ {A = Try A} (Err q) (Err r)
+      same z = cc
+  only-returned P Q (Ok a) o x r p e = let g = gives a in absurd (refused_not_good r g.0 (sym e ∙ p ∙ g.1))

@@ -1,4 +1,5 @@
 -- The places that the layout and the walk give: a field ends where the walk leaves it, a text where the reader does, and names in a row start one after the other.
+use Rattle.std.proofs.Common.{Ok}
 use mathlib.Core.Path.{◌≡◌, refl, sym, ap, ◌∙◌, subst}
 use mathlib.Core.Bool.{Bool, true, false, cond, not}
 use mathlib.Core.List.{List}
@@ -8,7 +9,7 @@ use lib.Dec.{eqb, ltb}
 use lib.ListN.{length, get_or}
 use Rattle.answers.specs.declared.Form.{Form}
 use Rattle.answers.specs.declared.Refusal.TheVariants.{ReplyCut, ReplyOpcode, ReplyText}
-use Rattle.answers.specs.Try.{Try, good, ◌>>=◌}
+use Rattle.answers.specs.Try.{Try, ◌>>=◌}
 use Rattle.answers.specs.Wire.{older_opcodes, is_one_of}
 use Rattle.answers.proofs.Laws.Try.{refused_not_good, refused_if-good, good_then}
 use Rattle.names.specs.WalkRelation.{Walks, ends, reads, points}
@@ -17,13 +18,14 @@ use Rattle.names.proofs.Laws.Walk.{walk_inside}
 use Rattle.octets.specs.Lists.{cut}
 use Rattle.octets.specs.Number.{little, u16_at}
 use Rattle.unicode_text.specs.Utf16.{is_high, is_low}
-use Rattle.reader.specs.declared.field.Stretch.{Stretch}
-use Rattle.reader.specs.Field.{Read, read_octets}
+use Rattle.octets.specs.declared.part.Stretch.{Stretch}
+use Rattle.reader.specs.declared.field.Read.{Read}
+use Rattle.reader.specs.Field.{read_octets}
 use Rattle.reader.specs.declared.text.Unit16.TheVariants.{Ends, Plain, High, Low}
 use Rattle.reader.specs.Text.{unit_of, turn, on_turn, read_text_from, read_text}
 use Rattle.reader.specs.Reader.{Opening, read_opcode, read_opening}
 use Rattle.reader.proofs.Laws.Reader.{NamesRow}
-use Rattle.demands.specs.Places.{field_end_from, field_end, text_end_from, text_end, names_start, name_start_lem}
+use Rattle.demands.specs.Places.{field_end_from, field_end, text_end_from, text_end, names_start, name_start}
 
 -- ---- names
 
@@ -53,22 +55,22 @@ module _ {s : List ℕ} where
 
 -- names of a reply that stand in a row from where those of its form start
 module _ (form : Form) {s : List ℕ} {at : ℕ} {texts : List (List ℕ)} {octets : List ℕ} (row : NamesRow s at texts octets) (first : names_start form s ≡ at) where
-  pub name-placed : (i : ℕ) → i < length texts → name_start_lem form s i ≡ get_or row.starts i 0
-  unfolding name_start_lem
-  name-placed = row-places row.row (name_start_lem form s) first (λ i. refl)
+  pub name-placed : (i : ℕ) → i < length texts → name_start form s i ≡ get_or row.starts i 0
+  unfolding name_start
+  name-placed = row-places row.row (name_start form s) first (λ i. refl)
 
-  pub names-end : name_start_lem form s (length texts) ≡ at + length octets
-  unfolding name_start_lem
-  names-end = row-end row.row (name_start_lem form s) first (λ i. refl)
+  pub names-end : name_start form s (length texts) ≡ at + length octets
+  unfolding name_start
+  names-end = row-end row.row (name_start form s) first (λ i. refl)
 
 -- ---- texts
 
 -- octets that are all there
-octets-read : (s : List ℕ) (at n : ℕ) (f : Read (List ℕ)) → read_octets s at n ≡ good f → record { value = cut s at n; next = at + n } ≡ f
+octets-read : (s : List ℕ) (at n : ℕ) (f : Read (List ℕ)) → read_octets s at n ≡ Ok f → record { value = cut s at n; next = at + n } ≡ f
 unfolding read_octets
 octets-read s at n f e = let g = (refused_if-good (ltb (length s) (at + n)) ReplyCut _ f e).1 in cc
 
-text-from : (k : ℕ) (s : List ℕ) (start at : ℕ) (after_high_lem : Bool) (f : Read Stretch) → read_text_from k s start at after_high_lem ≡ good f → text_end_from k s at ≡ f.next
+text-from : (k : ℕ) (s : List ℕ) (start at : ℕ) (after_high_lem : Bool) (f : Read Stretch) → read_text_from k s start at after_high_lem ≡ Ok f → text_end_from k s at ≡ f.next
 unfolding read_text_from text_end_from unit_of
 text-from zero s start at after_high_lem f e = absurd (refused_not_good ReplyCut f e)
 text-from (suc k) s start at after_high_lem f e =
@@ -78,12 +80,12 @@ text-from (suc k) s start at after_high_lem f e =
   where
     After : Read (List ℕ) → Type 0
     After x =
-        on_turn (turn after_high_lem (unit_of (little x.value))) (good (record { value = record { start = start; len = at - start }; next = x.next })) (λ h. read_text_from k s start x.next h)
-        ≡ good f
+        on_turn (turn after_high_lem (unit_of (little x.value))) (Ok (record { value = record { start = start; len = at - start }; next = x.next })) (λ h. read_text_from k s start x.next h)
+        ≡ Ok f
 
     by : (h end p q : Bool)
-        → on_turn (turn h (cond end Ends (cond p High (cond q Low Plain)))) (good (record { value = record { start = start; len = at - start }; next = at + 2 })) (λ g. read_text_from k s start (at + 2) g) ≡ good f
-        → ((g : Bool) → read_text_from k s start (at + 2) g ≡ good f → text_end_from k s (at + 2) ≡ f.next)
+        → on_turn (turn h (cond end Ends (cond p High (cond q Low Plain)))) (Ok (record { value = record { start = start; len = at - start }; next = at + 2 })) (λ g. read_text_from k s start (at + 2) g) ≡ Ok f
+        → ((g : Bool) → read_text_from k s start (at + 2) g ≡ Ok f → text_end_from k s (at + 2) ≡ f.next)
         → elim end as (λ b. ℕ) [ true ↦ at + 2 | false ↦ text_end_from k s (at + 2) ] ≡ f.next
     by false true p q e deeper = cc
     by true true p q e deeper = absurd (refused_not_good ReplyText f e)
@@ -94,12 +96,12 @@ text-from (suc k) s start at after_high_lem f e =
     by false false false false e deeper = deeper false e
     by true false false false e deeper = absurd (refused_not_good ReplyText f e)
 
-text-ends : (s : List ℕ) (at : ℕ) (f : Read Stretch) → read_text s at ≡ good f → text_end s at ≡ f.next
+text-ends : (s : List ℕ) (at : ℕ) (f : Read Stretch) → read_text s at ≡ Ok f → text_end s at ≡ f.next
 unfolding read_text text_end
 text-ends s at f e = text-from (suc (length s)) s at at false f e
 
 -- the opcode and the three texts of the older forms
-opcode-next : (s : List ℕ) (f : Read ℕ) → read_opcode older_opcodes s ≡ good f → 2 ≡ f.next
+opcode-next : (s : List ℕ) (f : Read ℕ) → read_opcode older_opcodes s ≡ Ok f → 2 ≡ f.next
 unfolding read_opcode
 opcode-next s f e =
     let o = good_then (read_octets s 0 2) _ f e in
@@ -107,11 +109,11 @@ opcode-next s f e =
     cc (octets-read s 0 2 o.0 o.1)
 
 -- a field, and then what follows it
-then_read : {A B C : Type 0} (t : Try (Read A)) (end : ℕ) → ((f : Read A) → t ≡ good f → end ≡ f.next) → (rest : Read A → Try B) (b : B) → (t >>= rest) ≡ good b
-    → ((f : Read A) → end ≡ f.next → rest f ≡ good b → C) → C
+then_read : {A B C : Type 0} (t : Try (Read A)) (end : ℕ) → ((f : Read A) → t ≡ Ok f → end ≡ f.next) → (rest : Read A → Try B) (b : B) → (t >>= rest) ≡ Ok b
+    → ((f : Read A) → end ≡ f.next → rest f ≡ Ok b → C) → C
 then_read t end left rest b e goal = let f = good_then t rest b e in goal f.0 (left f.0 f.1) f.2
 
-pub opening-ends : (s : List ℕ) (o : Read Opening) → read_opening s ≡ good o → text_end s (text_end s (text_end s 2)) ≡ o.next
+pub opening-ends : (s : List ℕ) (o : Read Opening) → read_opening s ≡ Ok o → text_end s (text_end s (text_end s 2)) ≡ o.next
 unfolding read_opening
 opening-ends s o e =
     then_read (read_opcode older_opcodes s) 2 (opcode-next s) _ o e (λ code c e.

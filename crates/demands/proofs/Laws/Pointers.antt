@@ -1,8 +1,8 @@
 -- It is proved that pointers fit: a reply is short enough, and a tail that an earlier name holds is never written again.
+use Rattle.std.proofs.Common.{Some}
 use mathlib.Core.Path.{◌≡◌, refl}
 use mathlib.Core.Bool.{Bool, true, false, not, ◌||◌}
 use mathlib.Core.List.{List, []}
-use mathlib.Core.Option.{some}
 use Prim.Native.Nat.{ℕ, ◌+◌, ◌≤◌}
 use native.Mathlib.Omega.{arith}
 use lib.Dec.{leb, ltb}
@@ -38,7 +38,7 @@ fit tails low once = record { low = all_every (λ t. ltb t.offset 0x4000) tails 
         go true q = le-leb t.offset u.offset (h q)
         go false q = refl
 
-    lowest : (text : List ℕ) (t : Tail) → first (λ u. same u.text text) tails ≡ some t → all (λ u. not (same u.text text) || leb t.offset u.offset) tails ≡ true
+    lowest : (text : List ℕ) (t : Tail) → first (λ u. same u.text text) tails ≡ Some t → all (λ u. not (same u.text text) || leb t.offset u.offset) tails ≡ true
     lowest text t e =
         all_every (λ u. not (same u.text text) || leb t.offset u.offset) tails
         (every_weaken (λ u. same u.text text ≡ true → t.offset ≤ u.offset) (λ u. not (same u.text text) || leb t.offset u.offset ≡ true) (tested text t) tails (first-lowest tails text t once e))

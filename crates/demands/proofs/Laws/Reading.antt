@@ -12,8 +12,9 @@ use Rattle.answers.specs.Try.{Try}
 use Rattle.answers.specs.Wire.{Opcodes}
 use Rattle.names.specs.Walk.{Look, end, label, pointer, missing, reserved, on_look}
 use Rattle.octets.proofs.Laws.Lists.{cond_has}
-use Rattle.reader.specs.declared.field.Stretch.{Stretch}
-use Rattle.reader.specs.Field.{Read, read_octets, read_stretch, read_fixed}
+use Rattle.octets.specs.declared.part.Stretch.{Stretch}
+use Rattle.reader.specs.declared.field.Read.{Read}
+use Rattle.reader.specs.Field.{read_octets, read_stretch, read_fixed}
 use Rattle.reader.specs.Name.{cut_after, read_name_from, read_name}
 use Rattle.reader.specs.declared.text.Turn.{Turn}
 use Rattle.reader.specs.declared.text.Turn.TheVariants.{Stop, Go, Wrong}

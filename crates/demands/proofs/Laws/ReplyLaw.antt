@@ -1,8 +1,8 @@
 -- The reply law is proved: each form's octets stand in the order of the reader's fields.
+use Rattle.std.proofs.Common.{Option, None, Some, option_map}
 use mathlib.Core.Path.{◌≡◌, refl, sym, ap, ◌∙◌}
 use mathlib.Core.Bool.{Bool, true, false}
 use mathlib.Core.List.{List, [], ◌∷◌, ◌++◌, append_assoc}
-use mathlib.Core.Option.{Option, none, some, map}
 use Prim.Native.Nat.{ℕ, ◌+◌}
 use lib.ListN.{length}
 use Rattle.answers.specs.declared.Form.{Form}
@@ -20,10 +20,10 @@ use Rattle.unicode_text.specs.Utf16.{utf16}
 use Rattle.unicode_text.proofs.Laws.OneText.{one-text}
 use Rattle.unicode_text.proofs.Laws.Utf16.{Spoken}
 use Rattle.demands.specs.Derivation.{ReplyIs}
-use Rattle.reader.specs.Field.{stretch_of}
+use Rattle.octets.specs.Stretch.{stretch_of}
 use Rattle.demands.specs.ReplyLaw.{TextBack, GivenBack, ReadBack, ReplyLawOver, ReplyLaw, address_written, text_of, version_written}
 use Rattle.demands.proofs.Laws.Derivation.{every_answer}
-use Rattle.demands.proofs.Laws.Forms.Ex.{ex-row, ex_rest_lem, ex-guid, ex-read, last_there}
+use Rattle.demands.proofs.Laws.Forms.Ex.{ex-row, ex_rest_left, ex-guid, ex-read, last_there}
 use Rattle.demands.proofs.Laws.Forms.{stretch_is}
 use Rattle.demands.proofs.Laws.Forms.Nt40.{nt40_opened}
 use Rattle.demands.proofs.Laws.Forms.Response.{response_opened, response-row, response-read, response-guid, response-ipv4}
@@ -68,21 +68,21 @@ response-back v r k =
 
 -- the address and name 8 are given back where they were written
 address-back : {s : List ℕ} {at : ℕ} (r : Reply) (b : Bool) (rest : List ℕ) → length r.ipv4 ≡ ipv4_size → Left s at (reading.address b r.ipv4 ++ rest)
-    → map (stretch_of s) (address_given b at) ≡ address_written r b
+    → option_map (stretch_of s) (address_given b at) ≡ address_written r b
 address-back {s} {at} r true rest i l =
     let after : List ℕ = r.ipv4 ++ (sin_zero ++ rest) in
     let sized : Left s at ((DcSockAddrSize ∷ []) ++ (little_octets 4 sin_family ++ after)) = simp append_assoc at l in
     let family : Left s (at + 1) (little_octets 4 sin_family ++ after) = left-next (DcSockAddrSize ∷ []) (little_octets 4 sin_family ++ after) 1 refl sized in
-    ap some (stretch_is r.ipv4 (sin_zero ++ rest) ipv4_size i (left-next (little_octets 4 sin_family) after 4 (length-little 4 sin_family) family))
+    ap Some (stretch_is r.ipv4 (sin_zero ++ rest) ipv4_size i (left-next (little_octets 4 sin_family) after 4 (length-little 4 sin_family) family))
 address-back r false rest i l = refl
 
-last-back : (site : Option (List ℕ)) (at count : ℕ) → map text_of (last_given site at count).next_site_lem ≡ site
-last-back none at count = refl
-last-back (some text) at count = refl
+last-back : (site : Option (List ℕ)) (at count : ℕ) → option_map text_of (last_given site at count).next_site_lem ≡ site
+last-back None at count = refl
+last-back (Some text) at count = refl
 
 version-back : (site : Option (List ℕ)) (at count : ℕ) → (last_given site at count).version ≡ version_written site
-version-back none at count = refl
-version-back (some text) at count = refl
+version-back None at count = refl
+version-back (Some text) at count = refl
 
 ex-back : (v : ℕ) (r : Reply) → Sound Ex v r → GivenBack Ex r (ex_octets r) (read_in Ex v (ex_octets r))
 ex-back v r k =
@@ -95,7 +95,7 @@ ex-back v r k =
         flags = refl;
         guid = ex-guid v r k;
         names = texts-given row.row;
-        ipv4 = address-back r (has v netlogon_nt_version_5ex_with_ip) _ k.ipv4 (ex_rest_lem v r k) ∙ ap (address_written r) (sym k.address);
+        ipv4 = address-back r (has v netlogon_nt_version_5ex_with_ip) _ k.ipv4 (ex_rest_left v r k) ∙ ap (address_written r) (sym k.address);
         next_site_lem = last-back r.next_site_lem _ count;
         version = version-back r.next_site_lem _ count;
       },

@@ -1,13 +1,13 @@
 -- Without NtVer the ping is that of the same clauses with version 1, and every server answers version 1 in the form NT40.
+use Rattle.std.proofs.Common.{Ok, Option, None, Some, option_map, unwrap_or}
 use mathlib.Core.Path.{◌≡◌, refl, sym, ap, ◌∙◌}
 use mathlib.Core.Bool.{Bool, true, false, cond, not, ◌&&◌, ◌||◌}
 use mathlib.Core.List.{List}
-use mathlib.Core.Option.{Option, none, some, map, get_or}
 use Prim.Native.Nat.{ℕ}
 use native.Mathlib.Omega.{arith}
 use Rattle.answers.specs.declared.Form.TheVariants.{Nt40}
 use Rattle.answers.specs.declared.Refusal.TheVariants.{ClauseValue}
-use Rattle.answers.specs.Try.{Try, good, refused_if, ◌>>=◌}
+use Rattle.answers.specs.Try.{Try, refused_if, ◌>>=◌}
 use Rattle.answers.proofs.Laws.Try.{good-same, refused_if-good, good_then}
 use Rattle.answers.specs.Wire.{netlogon_nt_version_1, netlogon_nt_version_avoid_nt4emul}
 use Rattle.choose.specs.Choose.{form_of}
@@ -17,7 +17,7 @@ use Rattle.filter.specs.declared.request.Request.{Request}
 use Rattle.filter.specs.Request.{clause, octets_of}
 use Rattle.filter_read.specs.Taken.{request_in}
 use Rattle.filter_read.specs.Value.{Ping, is_number, wrong_value_lem, version_asked, ping_of, ping_in, ping_from}
-use Rattle.locator.specs.Answer.{answer_over, answer_by, answer_to}
+use Rattle.locator.specs.Answer.{answer_over, answer_by}
 use Rattle.octets.specs.Lists.{holds}
 use Rattle.octets.specs.Number.{has, little}
 use Rattle.table.specs.Bits.{role_nt4_wanted}
@@ -32,14 +32,14 @@ use Rattle.demands.proofs.Laws.Sound.{replied}
 abbrev ping_by : Option (List ℕ) → Option (List ℕ) → Option (List ℕ) → Option (List ℕ) → Option (List ℕ) → Option (List ℕ) → Try Ping
 ping_by version dns user aac sid guid =
     refused_if (holds (λ x. not (is_number x)) version || holds (λ x. not (is_number x)) aac || holds (λ x. not (is_user_name x)) user) ClauseValue
-    (good
+    (Ok
     (record {
       dns_domain_lem = dns;
       user = user;
-      aac = get_or (map little aac) 0;
+      aac = unwrap_or (option_map little aac) 0;
       domain_sid_lem = sid;
       domain_guid_lem = guid;
-      version = get_or (map little version) netlogon_nt_version_1;
+      version = unwrap_or (option_map little version) netlogon_nt_version_1;
     }))
 
 by_octets : (s : List ℕ) (r : Request)
@@ -48,7 +48,7 @@ unfolding ping_in wrong_value_lem version_asked
 by_octets s r = refl
 
 -- an absent NtVer is 1
-absent_is_one : (dns user aac sid guid : Option (List ℕ)) → ping_by none dns user aac sid guid ≡ ping_by (some version_one) dns user aac sid guid
+absent_is_one : (dns user aac sid guid : Option (List ℕ)) → ping_by None dns user aac sid guid ≡ ping_by (Some version_one) dns user aac sid guid
 unfolding little
 absent_is_one dns user aac sid guid = refl
 
@@ -74,10 +74,10 @@ without-version f g q r taken absent one others =
         ∙ ap (λ (version : Option (List ℕ)). ping_by version (other DnsDomain) (other User) (other Aac) (other DomainSid) (other DomainGuid)) (sym one)
         ∙ sym (by_octets g r)
 
-absent-asks : (filter : List ℕ) (r : Request) (p : Ping) → octets_of filter (clause r NtVer) ≡ none → ping_in filter r ≡ good p → p.version ≡ netlogon_nt_version_1
+absent-asks : (filter : List ℕ) (r : Request) (p : Ping) → octets_of filter (clause r NtVer) ≡ None → ping_in filter r ≡ Ok p → p.version ≡ netlogon_nt_version_1
 unfolding ping_in version_asked
 absent-asks filter r p absent e =
-    let a = refused_if-good (wrong_value_lem filter r) ClauseValue (good (ping_of filter r (version_asked filter r))) p e in
+    let a = refused_if-good (wrong_value_lem filter r) ClauseValue (Ok (ping_of filter r (version_asked filter r))) p e in
     let same : ping_of filter r (version_asked filter r) ≡ p = good-same a.1 in
     sym (ap (λ (x : Ping). x.version) same) ∙ rw absent refl
 

@@ -1,22 +1,21 @@
 -- Laws of the clause names: each has its number, no two are spelled alike, and a request has a clause for each.
+use Rattle.std.proofs.Common.{Some}
 use mathlib.Core.Path.{◌≡◌, refl, sym, ap, fun_ext, ◌∙◌}
 use mathlib.Core.Bool.{Bool, true, false}
-use mathlib.Core.Option.{some}
 use Prim.Native.Nat.{ℕ, ◌<◌}
 use native.Mathlib.Omega.{arith}
-use lib.ListN.{length}
+use lib.ListN.{length, get_or}
 use Rattle.octets.specs.Lists.{any, first}
 use Rattle.octets.proofs.Laws.Lists.{any_false, first_holds}
 use Rattle.octets.specs.Text.{same, lower}
 use Rattle.octets.proofs.Laws.Text.{folded_left}
-use Rattle.filter.specs.declared.request.Clause.{Clause}
 use Rattle.filter.specs.declared.request.ClauseName.{ClauseName}
 use Rattle.filter.specs.declared.request.ClauseName.TheVariants.{DnsDomain, Host, DnsHostName, User, Aac, DomainSid, DomainGuid, NtVer}
-use Rattle.filter.specs.Request.{clause_names, spelling, clause, request_by}
-use Rattle.filter.specs.Internal.ClauseNames.{clause_name_at, is_same_name}
+use Rattle.filter.specs.Request.{Clause, clause_names, spelling, clause, request_by}
+use Rattle.filter.specs.Internal.ClauseNames.{is_same_name}
 
 -- the number of a name
-numbered : (n : ClauseName) → (i : ℕ) × (i < length clause_names) × (clause_name_at i ≡ n)
+numbered : (n : ClauseName) → (i : ℕ) × (i < length clause_names) × (get_or clause_names i NtVer ≡ n)
 numbered DnsDomain = (0, omega arith, refl)
 numbered Host = (1, omega arith, refl)
 numbered DnsHostName = (2, omega arith, refl)
@@ -44,7 +43,7 @@ names-any p n e = by (any p clause_names) refl
         absurd (omega arith)
 
 -- a name is the first, and so the only one, that is spelled like itself
-spelled : (n : ClauseName) → first (is_same_name n) clause_names ≡ some n
+spelled : (n : ClauseName) → first (is_same_name n) clause_names ≡ Some n
 unfolding first same lower
 spelled DnsDomain = refl
 spelled Host = refl
@@ -61,7 +60,7 @@ same_self n = first_holds (is_same_name n) clause_names n (spelled n)
 pub same-name : (m n : ClauseName) → is_same_name m n ≡ true → m ≡ n
 same-name m n e =
     let alike : is_same_name m ≡ is_same_name n = fun_ext (λ k. folded_left (spelling m) (spelling n) (spelling k) e) in
-    let q : some m ≡ some n = sym (spelled m) ∙ ap (λ (p : ClauseName → Bool). first p clause_names) alike ∙ spelled n in
+    let q : Some m ≡ Some n = sym (spelled m) ∙ ap (λ (p : ClauseName → Bool). first p clause_names) alike ∙ spelled n in
     cc
 
 pub clause_by : (f : ClauseName → Clause) (n : ClauseName) → clause (request_by f) n ≡ f n

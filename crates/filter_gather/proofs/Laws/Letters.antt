@@ -1,14 +1,15 @@
 -- Laws of names told by their length, and then letter by letter.
+use Rattle.std.proofs.Common.{Option, None}
 use mathlib.Core.Path.{◌≡◌, refl, sym, ap, ap₂, fun_ext, ◌∙◌}
-use mathlib.Core.Bool.{Bool, true, false, cond, ◌&&◌, and_assoc}
-use mathlib.Core.List.{List, [], ◌∷◌, ◌++◌, map}
-use mathlib.Core.Option.{Option, none}
+use mathlib.Core.Bool.{Bool, true, false, cond, ◌&&◌}
+use mathlib.Core.List.{List, [], ◌∷◌, map}
 use Prim.Native.Nat.{ℕ, ◌+◌, ◌≤◌, ◌<◌}
 use native.Mathlib.Omega.{arith}
 use borrow.Author.Tests.{eqb-false, ne_eqb}
 use lib.Dec.{eqb}
-use lib.ListN.{length, get_or, length-map}
-use lib.Seq.{take_all}
+use lib.ListN.{length, get_or, length-map, drop, drop_of_length-le}
+use lib.Seq.{take_all, drop-cons}
+use native.Mathlib.Numerals.{add-one}
 use Rattle.octets.specs.Lists.{first, first_or, cut}
 use Rattle.octets.proofs.Laws.Lists.{cut-cons, cut-length}
 use Rattle.octets.specs.Text.{same, lower, same_folded}
@@ -20,7 +21,7 @@ use Rattle.filter_gather.specs.Internal.Gather.{name_spelled}
 use Rattle.filter_gather.specs.Internal.Letters.{letters_at, small_letters}
 use Rattle.filter_gather.specs.Internal.Seen.{place_of, place_as}
 
--- letters of a stretch, and letters after letters
+-- letters of a stretch, and letter after letter
 pub letters-cut : (s w : List ℕ) (at : ℕ) → at + length w ≤ length s → same (map lower (cut s at (length w))) w ≡ letters_at s at w
 unfolding same letters_at
 letters-cut s [] at h = refl
@@ -28,18 +29,17 @@ letters-cut s (x ∷ w) at h =
     let l : at < length s = omega arith in
     rw (cut-cons s at (length w) 0 l) (ap (λ (b : Bool). eqb (lower (get_or s at 0)) x && b) (letters-cut s w (at + 1) (omega arith)))
 
-pub letters-append : (s : List ℕ) (xs ys : List ℕ) (at : ℕ) → letters_at s at (xs ++ ys) ≡ (letters_at s at xs && letters_at s (at + length xs) ys)
+pub letters_next : (s w : List ℕ) (at i : ℕ) → i < length w
+    → letters_at s (at + i) (drop i w) ≡ (eqb (lower (get_or s (at + i) 0)) (get_or w i 0) && letters_at s (at + (i + 1)) (drop (i + 1) w))
 unfolding letters_at
-letters-append s [] ys at =
-    let e : at ≡ at + 0 = omega arith in
-    ap (λ (k : ℕ). letters_at s k ys) e
-letters-append s (x ∷ xs) ys at =
-    let e : at + 1 + length xs ≡ at + length (x ∷ xs) = omega arith in
-    ap (λ (b : Bool). eqb (lower (get_or s at 0)) x && b) (letters-append s xs ys (at + 1) ∙ ap (λ (k : ℕ). letters_at s (at + 1) xs && letters_at s k ys) e)
-    ∙ sym (and_assoc (eqb (lower (get_or s at 0)) x) (letters_at s (at + 1) xs) (letters_at s (at + length (x ∷ xs)) ys))
+letters_next s w at i h =
+    let e : at + i + 1 ≡ at + (i + 1) = omega arith in
+    let d : drop i w ≡ get_or w i 0 ∷ drop (i + 1) w = rw (add-one) (drop-cons w i 0 h) in
+    ap (letters_at s (at + i)) d ∙ ap (λ (k : ℕ). eqb (lower (get_or s (at + i) 0)) (get_or w i 0) && letters_at s k (drop (i + 1) w)) e
 
-pub letters_three : (s xs ys zs : List ℕ) (at : ℕ) → letters_at s at ((xs ++ ys) ++ zs) ≡ ((letters_at s at xs && letters_at s (at + length xs) ys) && letters_at s (at + length (xs ++ ys)) zs)
-letters_three s xs ys zs at = letters-append s (xs ++ ys) zs at ∙ ap (λ (b : Bool). b && letters_at s (at + length (xs ++ ys)) zs) (letters-append s xs ys at)
+pub letters_done : (s w : List ℕ) (at i : ℕ) → length w ≤ i → letters_at s (at + i) (drop i w) ≡ true
+unfolding letters_at
+letters_done s w at i h = ap (letters_at s (at + i)) (drop_of_length-le w h)
 
 -- the octets of a whole slice
 pub spelled_whole : (s : List ℕ) → place_as (name_spelled (cut s 0 (length s))) ≡ place_as (name_spelled s)
@@ -72,18 +72,18 @@ module _ (s : List ℕ) (at len : ℕ) (h : at + len ≤ length s) where
   spells name = letters_at s at (small_letters name)
 
   -- one name of its length, or two
-  only : (name : ClauseName) → len ≡ length (small_letters name) → name_spelled (cut s at len) ≡ first_or (same_folded (cut s at (length (small_letters name))) (spelling name)) name none → placed ≡ cond (spells name) (place_of name) 8
+  only : (name : ClauseName) → len ≡ length (small_letters name) → name_spelled (cut s at len) ≡ first_or (same_folded (cut s at (length (small_letters name))) (spelling name)) name None → placed ≡ cond (spells name) (place_of name) 8
   only name e q =
-      ap place_as (q ∙ ap (λ (b : Bool). first_or b name none) (letters-cut s (small_letters name) at (omega arith)))
-      ∙ place_first (spells name) name none
+      ap place_as (q ∙ ap (λ (b : Bool). first_or b name None) (letters-cut s (small_letters name) at (omega arith)))
+      ∙ place_first (spells name) name None
 
   either : (m n : ClauseName) → len ≡ length (small_letters m) → len ≡ length (small_letters n)
-      → name_spelled (cut s at len) ≡ first_or (same_folded (cut s at (length (small_letters m))) (spelling m)) m (first_or (same_folded (cut s at (length (small_letters n))) (spelling n)) n none)
+      → name_spelled (cut s at len) ≡ first_or (same_folded (cut s at (length (small_letters m))) (spelling m)) m (first_or (same_folded (cut s at (length (small_letters n))) (spelling n)) n None)
       → placed ≡ cond (spells m) (place_of m) (cond (spells n) (place_of n) 8)
   either m n e l q =
-      ap place_as (q ∙ ap₂ (λ (a b : Bool). first_or a m (first_or b n none)) (letters-cut s (small_letters m) at (omega arith)) (letters-cut s (small_letters n) at (omega arith)))
-      ∙ place_first (spells m) m (first_or (spells n) n none)
-      ∙ ap (cond (spells m) (place_of m)) (place_first (spells n) n none)
+      ap place_as (q ∙ ap₂ (λ (a b : Bool). first_or a m (first_or b n None)) (letters-cut s (small_letters m) at (omega arith)) (letters-cut s (small_letters n) at (omega arith)))
+      ∙ place_first (spells m) m (first_or (spells n) n None)
+      ∙ ap (cond (spells m) (place_of m)) (place_first (spells n) n None)
 
   pub placed_3 : len ≡ 3 → placed ≡ cond (spells Aac) 4 8
   unfolding first

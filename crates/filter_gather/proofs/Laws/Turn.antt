@@ -1,66 +1,61 @@
 -- The reader's turn at one filter of an AND, with what was gathered before it.
+use Rattle.std.proofs.Common.{Option, None, Some, option_map}
 use mathlib.Core.Path.{◌≡◌, refl, sym, ap, ◌∙◌}
 use mathlib.Core.Bool.{true, false}
 use mathlib.Core.List.{List, ◌++◌}
-use mathlib.Core.Option.{Option, none, some, map, bind}
 use Prim.Native.Nat.{ℕ, zero, suc, ◌-◌, ◌<◌}
 use native.Mathlib.Nat.{not-suc-le-zero}
 use native.Mathlib.Omega.{arith}
 use borrow.Author.Tests.{eq-eqb, ne_eqb}
 use lib.Dec.{eqb}
-use Rattle.filter_position.specs.declared.position.Filter.{Filter}
 use Rattle.filter_position.specs.declared.position.FilterRead.{FilterRead}
-use Rattle.filter_position.specs.declared.position.FilterRead.TheVariants as read
-use Rattle.filter_position.specs.declared.position.Position.{Position}
 use Rattle.filter_position.specs.declared.position.RawClause.{RawClause}
-use Rattle.filter_position.specs.Filter.{siblings, and_of}
+use Rattle.filter_position.specs.Filter.{◌>>=◌, siblings, and_of}
 use Rattle.filter_position.specs.Internal.Position.{filter_at, clauses_in}
-use Rattle.filter_position.proofs.Laws.Position.{on_read, then, siblings-read}
+use Rattle.filter_position.proofs.Laws.Position.{then, siblings-read}
 use Rattle.filter_gather.specs.Internal.Gather.{Gathered, Wrong, Good, gathered_from, all_added}
 use Rattle.filter_gather.proofs.Laws.Gather.{added-append}
 
 module _ (d : ℕ) (s : List ℕ) (end : ℕ) (g : Gathered) where
-  pub turn_wrong : (k at : ℕ) → filter_at s at end ≡ read.Wrong → gathered_from s g (siblings (and_of d) k s at end) ≡ Wrong
+  pub turn_wrong : (k at : ℕ) → filter_at s at end ≡ None → gathered_from s g (siblings (and_of d) k s at end) ≡ Wrong
   unfolding siblings
   turn_wrong zero at e = refl
-  turn_wrong (suc k) at e = ap (gathered_from s g) (siblings-read d s end k at ∙ ap (λ (x : FilterRead). on_read x (then d s end k)) e)
+  turn_wrong (suc k) at e = ap (gathered_from s g) (siblings-read d s end k at ∙ ap (λ (x : Option FilterRead). x >>= then d s end k) e)
 
-  module _ (at : ℕ) (f : Filter) (rest : Position) (e : filter_at s at end ≡ read.Good f rest) where
-    turned : (k : ℕ) → gathered_from s g (siblings (and_of d) (suc k) s at end) ≡ gathered_from s g (then d s end k f rest)
-    turned k = ap (gathered_from s g) (siblings-read d s end k at ∙ ap (λ (x : FilterRead). on_read x (then d s end k)) e)
+  module _ (at : ℕ) (r : FilterRead) (e : filter_at s at end ≡ Some r) where
+    turned : (k : ℕ) → gathered_from s g (siblings (and_of d) (suc k) s at end) ≡ gathered_from s g (then d s end k r)
+    turned k = ap (gathered_from s g) (siblings-read d s end k at ∙ ap (λ (x : Option FilterRead). x >>= then d s end k) e)
 
-    pub turn-bad : (k : ℕ) → gathered_from s g (clauses_in d s f) ≡ Wrong → gathered_from s g (siblings (and_of d) k s at end) ≡ Wrong
-    unfolding siblings bind
+    pub turn-bad : (k : ℕ) → gathered_from s g (clauses_in d s r.filter) ≡ Wrong → gathered_from s g (siblings (and_of d) k s at end) ≡ Wrong
+    unfolding siblings
     turn-bad zero h = refl
-    turn-bad (suc k) h = turned k ∙ by (clauses_in d s f) h
+    turn-bad (suc k) h = turned k ∙ by (clauses_in d s r.filter) h
       where
         by : (o : Option (List RawClause)) → gathered_from s g o ≡ Wrong
-            → gathered_from s g (bind o (λ xs. elim (eqb rest.at end) [ true ↦ some xs | false ↦ map (λ ys. xs ++ ys) (siblings (and_of d) k s rest.at end) ])) ≡ Wrong
-        by none q = refl
-        by (some xs) q = let z : ◌≡◌ {A = ℕ} 0 1 = cc in absurd (omega arith)
+            → gathered_from s g (o >>= λ xs. elim (eqb r.rest.at end) [ true ↦ Some xs | false ↦ option_map (λ ys. xs ++ ys) (siblings (and_of d) k s r.rest.at end) ]) ≡ Wrong
+        by None q = refl
+        by (Some xs) q = let z : ◌≡◌ {A = ℕ} 0 1 = cc in absurd (omega arith)
 
-    module _ (b : Gathered) (h : gathered_from s g (clauses_in d s f) ≡ Good b) where
-      pub turn_last : (k : ℕ) → 0 < k → rest.at ≡ end → gathered_from s g (siblings (and_of d) k s at end) ≡ Good b
-      unfolding bind
+    module _ (b : Gathered) (h : gathered_from s g (clauses_in d s r.filter) ≡ Good b) where
+      pub turn_last : (k : ℕ) → 0 < k → r.rest.at ≡ end → gathered_from s g (siblings (and_of d) k s at end) ≡ Good b
       turn_last zero l q = absurd (not-suc-le-zero l)
-      turn_last (suc k) l q = turned k ∙ rw (eq-eqb rest.at end q) (by (clauses_in d s f) h)
+      turn_last (suc k) l q = turned k ∙ rw (eq-eqb r.rest.at end q) (by (clauses_in d s r.filter) h)
         where
-          by : (o : Option (List RawClause)) → gathered_from s g o ≡ Good b → gathered_from s g (bind o (λ xs. some xs)) ≡ Good b
-          by none p = p
-          by (some xs) p = p
+          by : (o : Option (List RawClause)) → gathered_from s g o ≡ Good b → gathered_from s g (o >>= λ xs. Some xs) ≡ Good b
+          by None p = p
+          by (Some xs) p = p
 
-      pub turn-next : (k : ℕ) → 0 < k → (rest.at ≡ end → ⊥) → gathered_from s b (siblings (and_of d) (k - 1) s rest.at end) ≡ gathered_from s g (siblings (and_of d) k s at end)
-      unfolding bind
+      pub turn-next : (k : ℕ) → 0 < k → (r.rest.at ≡ end → ⊥) → gathered_from s b (siblings (and_of d) (k - 1) s r.rest.at end) ≡ gathered_from s g (siblings (and_of d) k s at end)
       turn-next zero l q = absurd (not-suc-le-zero l)
       turn-next (suc k) l q =
           let m : suc k - 1 ≡ k = omega arith in
-          sym (turned k ∙ rw (ne_eqb rest.at end q) (by (clauses_in d s f) h) ∙ ap (λ (j : ℕ). gathered_from s b (siblings (and_of d) j s rest.at end)) (sym m))
+          sym (turned k ∙ rw (ne_eqb r.rest.at end q) (by (clauses_in d s r.filter) h) ∙ ap (λ (j : ℕ). gathered_from s b (siblings (and_of d) j s r.rest.at end)) (sym m))
         where
-          join : (xs : List RawClause) (o : Option (List RawClause)) → all_added s g xs ≡ b → gathered_from s g (map (λ ys. xs ++ ys) o) ≡ gathered_from s b o
-          join xs none p = refl
-          join xs (some ys) p = ap Good (added-append s g xs ys ∙ ap (λ (x : Gathered). all_added s x ys) p)
+          join : (xs : List RawClause) (o : Option (List RawClause)) → all_added s g xs ≡ b → gathered_from s g (option_map (λ ys. xs ++ ys) o) ≡ gathered_from s b o
+          join xs None p = refl
+          join xs (Some ys) p = ap Good (added-append s g xs ys ∙ ap (λ (x : Gathered). all_added s x ys) p)
 
           by : (o : Option (List RawClause)) → gathered_from s g o ≡ Good b
-              → gathered_from s g (bind o (λ xs. map (λ ys. xs ++ ys) (siblings (and_of d) k s rest.at end))) ≡ gathered_from s b (siblings (and_of d) k s rest.at end)
-          by none p = let z : ◌≡◌ {A = ℕ} 0 1 = cc in absurd (omega arith)
-          by (some xs) p = join xs (siblings (and_of d) k s rest.at end) (cc)
+              → gathered_from s g (o >>= λ xs. option_map (λ ys. xs ++ ys) (siblings (and_of d) k s r.rest.at end)) ≡ gathered_from s b (siblings (and_of d) k s r.rest.at end)
+          by None p = let z : ◌≡◌ {A = ℕ} 0 1 = cc in absurd (omega arith)
+          by (Some xs) p = join xs (siblings (and_of d) k s r.rest.at end) (cc)

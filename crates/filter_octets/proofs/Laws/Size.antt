@@ -1,23 +1,33 @@
 -- Laws of how long the parts of a written filter are.
+use Rattle.std.proofs.Common.{Some}
 use mathlib.Core.Path.{◌≡◌, sym, ap, ◌∙◌}
 use mathlib.Core.List.{List, ◌∷◌, ◌++◌, flat_map, append_assoc, append-nil}
-use mathlib.Core.Option.{some}
 use Prim.Native.Nat.{ℕ, suc, ◌+◌, ◌≤◌, ◌<◌}
 use native.Mathlib.Decide.{dec_lt}
 use native.Mathlib.Numerals.{add-one}
 use native.Mathlib.Omega.{arith}
 use borrow.Author.Tests.{lt-ltb, le-ltb}
-use lib.ListN.{length, length-append, drop, drop_of_length-le}
+use lib.ListN.{length, length-append, get_or, drop, drop_of_length-le}
 use lib.Seq.{drop-cons}
 use Rattle.filter.specs.declared.request.ClauseName.{ClauseName}
-use Rattle.filter.specs.declared.request.ClauseName.TheVariants.{NtVer}
-use Rattle.filter.specs.Internal.ClauseNames.{clause_name_at}
+use Rattle.filter.specs.declared.request.ClauseName.TheVariants.{DnsDomain, Host, DnsHostName, User, Aac, DomainSid, DomainGuid, NtVer}
 use Rattle.filter.specs.declared.request.Request.{Request}
 use Rattle.filter_position.specs.Filter.{and_tag, equality_tag, string_tag}
 use Rattle.filter.specs.Request.{clause_names, spelling, clause, octets_of}
 use Rattle.filter_octets.specs.Octets.{length_octets, element, equality_for, filter_octets}
 use Rattle.filter_octets.proofs.Laws.Octets.{octets-one, octets-two, octets_three}
 use Rattle.filter_octets.specs.Internal.Size.{head_size, element_size, contents}
+
+-- a name is short
+pub name_bound : (n : ClauseName) → length (spelling n) ≤ 11
+name_bound DnsDomain = omega arith
+name_bound Host = omega arith
+name_bound DnsHostName = omega arith
+name_bound User = omega arith
+name_bound Aac = omega arith
+name_bound DomainSid = omega arith
+name_bound DomainGuid = omega arith
+name_bound NtVer = omega arith
 
 pub head_two : (n : ℕ) → n < 0x80 → head_size n ≡ 2
 head_two n h = rw (lt-ltb n 0x80 h)
@@ -60,7 +70,7 @@ pub element-length : (tag : ℕ) (xs : List ℕ) → length (element tag xs) ≡
 unfolding element
 element-length tag xs = length-append (tag ∷ length_octets (length xs)) xs ∙ ap (λ (k : ℕ). k + length xs) (head_length tag (length xs))
 
-pub equality-length : (name : ClauseName) (value : List ℕ) → length (equality_for name (some value)) ≡ element_size (element_size (length (spelling name)) + element_size (length value))
+pub equality-length : (name : ClauseName) (value : List ℕ) → length (equality_for name (Some value)) ≡ element_size (element_size (length (spelling name)) + element_size (length value))
 equality-length name value =
     element-length equality_tag (element string_tag (spelling name) ++ element string_tag value)
     ∙ ap element_size (length-append (element string_tag (spelling name)) (element string_tag value) ∙ λ i. element-length string_tag (spelling name) i + element-length string_tag value i)
@@ -68,12 +78,12 @@ equality-length name value =
 -- contents by their first name
 module _ (source : List ℕ) (r : Request) where
   -- the equality of the i-th name
-  abbrev equality_at : ℕ → List ℕ
-  equality_at i = equality_for (clause_name_at i) (octets_of source (clause r (clause_name_at i)))
+  abbrev pub equality_at : ℕ → List ℕ
+  equality_at i = equality_for (get_or clause_names i DnsDomain) (octets_of source (clause r (get_or clause_names i DnsDomain)))
 
   pub contents-next : (i : ℕ) → i < 8 → contents source r (drop i clause_names) ≡ equality_at i ++ contents source r (drop (i + 1) clause_names)
   unfolding flat_map
-  contents-next i h = rw (add-one) (ap (contents source r) (drop-cons clause_names i NtVer h))
+  contents-next i h = rw (add-one) (ap (contents source r) (drop-cons clause_names i DnsDomain h))
 
   pub contents-size-next : (i : ℕ) → i < 8
       → length (contents source r (drop i clause_names)) ≡ length (equality_at i) + length (contents source r (drop (i + 1) clause_names))

@@ -1,8 +1,8 @@
 -- Laws of what lies at a position: lengths, elements, and the filters of an AND.
+use Rattle.std.proofs.Common.{Option, None, Some, option_map}
 use mathlib.Core.Path.{◌≡◌, refl, ap, ◌∙◌}
 use mathlib.Core.Bool.{Bool, true, false, cond}
 use mathlib.Core.List.{List, [], ◌∷◌, ◌++◌}
-use mathlib.Core.Option.{Option, none, some, map, Option-elim, bind}
 use Prim.Native.Nat.{ℕ, zero, suc, ◌+◌, ◌-◌, ◌≤◌, ◌<◌}
 use native.Mathlib.Omega.{arith}
 use borrow.Author.Tests.{lt-ltb, le-ltb, le-leb, lt-leb, eq-eqb, ne_eqb}
@@ -10,49 +10,45 @@ use lib.Dec.{eqb, ltb}
 use lib.ListN.{length, get_or}
 use Rattle.octets.specs.Lists.{cut}
 use Rattle.octets.specs.Number.{big}
-use Rattle.filter_position.specs.declared.position.ElementLength.TheVariants as element_length
-use Rattle.filter_position.specs.declared.position.Equality.TheVariants as equality
+use Rattle.octets.specs.declared.part.Stretch.{Stretch}
+use Rattle.filter_position.specs.declared.position.Element.{Element}
 use Rattle.filter_position.specs.declared.position.Filter.{Filter}
 use Rattle.filter_position.specs.declared.position.Filter.TheVariants as filter
 use Rattle.filter_position.specs.declared.position.FilterRead.{FilterRead}
-use Rattle.filter_position.specs.declared.position.FilterRead.TheVariants as read
-use Rattle.filter_position.specs.declared.position.Position.{Position}
 use Rattle.filter_position.specs.declared.position.RawClause.{RawClause}
-use Rattle.filter_position.specs.declared.position.Tagged.TheVariants as tagged
-use Rattle.filter_position.specs.Filter.{Element, element_at, element_of, length_width, length_value, and_tag, equality_tag, one, siblings, and_of, clauses_of}
-use Rattle.filter_position.specs.Filter as believed
-use Rattle.filter_position.specs.Internal.Position.{length_at, tagged_as, equality_as, filter_in, read_to, filter_at, clauses_in, FilterInside}
+use Rattle.filter_position.specs.Filter.{◌>>=◌, element_at, element_of, equality, length_width, length_value, and_tag, equality_tag, one, siblings, and_of, clauses_of}
+use Rattle.filter_position.specs.Internal.Position.{contents_at, filter_in, read_to, filter_at, clauses_in, FilterInside}
 
 -- how many octets follow a length's first one
-pub width_one : {x : ℕ} → x ≡ 0x81 → length_width x ≡ some 1
+pub width_one : {x : ℕ} → x ≡ 0x81 → length_width x ≡ Some 1
 width_one e = ap length_width e
 
-pub width_two : {x : ℕ} → x ≡ 0x82 → length_width x ≡ some 2
+pub width_two : {x : ℕ} → x ≡ 0x82 → length_width x ≡ Some 2
 width_two e = ap length_width e
 
-pub width_none : {x : ℕ} → 0x80 ≤ x → (x ≡ 0x81 → ⊥) → (x ≡ 0x82 → ⊥) → length_width x ≡ none
+pub width_none : {x : ℕ} → 0x80 ≤ x → (x ≡ 0x81 → ⊥) → (x ≡ 0x82 → ⊥) → length_width x ≡ None
 width_none {x} h a b = rw (le-ltb x 0x80 h, ne_eqb x 0x81 a, ne_eqb x 0x82 b)
 
 -- an element ends within what it stands in
-pub ends-past : (tag start n end : ℕ) → end < start + n → element_of tag start n end ≡ none
+pub ends-past : (tag start n end : ℕ) → end < start + n → element_of tag start n end ≡ None
 ends-past tag start n end h = rw (lt-leb (start + n) end h)
 
-pub ends-within : (tag start n end : ℕ) → start + n ≤ end → element_of tag start n end ≡ some (record { tag = tag; start = start; next = start + n })
+pub ends-within : (tag start n end : ℕ) → start + n ≤ end → element_of tag start n end ≡ Some (record { tag = tag; start = start; next = start + n })
 ends-within tag start n end h = rw (le-leb (start + n) end h)
 
 module _ (s : List ℕ) (at end : ℕ) where
-  -- a length by its first octet: how many more it takes, where the contents start, and how many there are
-  pub length_of_lem : (w start len : ℕ) → length_width (get_or s (at + 1) 0) ≡ some w → at + 2 + w ≡ start → length_value s (at + 1) w ≡ len → start ≤ end → length_at s at end ≡ element_length.Of start len
-  unfolding length_at Option-elim
-  length_of_lem w start len e q v h = rw (length_at, e, q, v, le-ltb end start h)
+  -- contents by the first octet of the length: how many more it takes, where the contents start, and how many there are
+  pub contents_are : (w start len : ℕ) → length_width (get_or s (at + 1) 0) ≡ Some w → at + 2 + w ≡ start → length_value s (at + 1) w ≡ len → start ≤ end → contents_at s at end ≡ Some (record { start = start; len = len })
+  unfolding contents_at
+  contents_are w start len e q v h = rw (contents_at, e, q, v, le-ltb end start h)
 
-  pub length_cut : (w : ℕ) → length_width (get_or s (at + 1) 0) ≡ some w → end < at + 2 + w → length_at s at end ≡ element_length.Wrong
-  unfolding length_at Option-elim
-  length_cut w e h = rw (length_at, e, lt-ltb end (at + 2 + w) h)
+  pub contents_cut : (w : ℕ) → length_width (get_or s (at + 1) 0) ≡ Some w → end < at + 2 + w → contents_at s at end ≡ None
+  unfolding contents_at
+  contents_cut w e h = rw (contents_at, e, lt-ltb end (at + 2 + w) h)
 
-  pub length_none : length_width (get_or s (at + 1) 0) ≡ none → length_at s at end ≡ element_length.Wrong
-  unfolding length_at Option-elim
-  length_none e = rw (length_at, e)
+  pub contents_none : length_width (get_or s (at + 1) 0) ≡ None → contents_at s at end ≡ None
+  unfolding contents_at
+  contents_none e = rw (contents_at, e)
 
   -- the octets of a longer length stand past its first one
   pub value-at : (w : ℕ) → length_value s (at + 1) (suc w) ≡ big (cut s (at + 2) (suc w))
@@ -60,143 +56,68 @@ module _ (s : List ℕ) (at end : ℕ) where
       let q : at + 1 + 1 ≡ at + 2 = omega arith in
       ap (λ (k : ℕ). big (cut s k (suc w))) q
 
-  -- no element without two octets; else the element with this length
-  pub element-short : end < at + 2 → element_at s at end ≡ none
+  -- no element without two octets; else the element with these contents
+  pub element-short : end < at + 2 → element_at s at end ≡ None
   unfolding element_at
   element-short h = rw (element_at, lt-ltb end (at + 2) h)
 
-  pub element_known : (start len : ℕ) → at + 2 ≤ end → length_at s at end ≡ element_length.Of start len → element_at s at end ≡ element_of (get_or s at 0) start len end
-  unfolding element_at length_at Option-elim bind
-  element_known start len h e = rw (element_at, le-ltb end (at + 2) h) (by (length_width (get_or s (at + 1) 0)) e)
+  pub element_by : at + 2 ≤ end → element_at s at end ≡ (contents_at s at end >>= λ p. element_of (get_or s at 0) p.start p.len end)
+  unfolding element_at contents_at
+  element_by h = rw (element_at, le-ltb end (at + 2) h) (by (length_width (get_or s (at + 1) 0)))
     where
-      within : (w : ℕ) (t : Bool) → cond t element_length.Wrong (element_length.Of (at + 2 + w) (length_value s (at + 1) w)) ≡ element_length.Of start len
-          → cond t none (element_of (get_or s at 0) (at + 2 + w) (length_value s (at + 1) w) end) ≡ element_of (get_or s at 0) start len end
-      within w true q = let z : ◌≡◌ {A = ℕ} 0 1 = cc in absurd (omega arith)
-      within w false q =
-          let a : at + 2 + w ≡ start = cc in
-          let n : length_value s (at + 1) w ≡ len = cc in
-          rw (a, n)
+      of : Stretch → Option Element
+      of p = element_of (get_or s at 0) p.start p.len end
 
-      by : (o : Option ℕ) → Option-elim o element_length.Wrong (λ w. cond (ltb end (at + 2 + w)) element_length.Wrong (element_length.Of (at + 2 + w) (length_value s (at + 1) w))) ≡ element_length.Of start len
-          → bind o (λ w. cond (ltb end (at + 2 + w)) none (element_of (get_or s at 0) (at + 2 + w) (length_value s (at + 1) w) end)) ≡ element_of (get_or s at 0) start len end
-      by none q = let z : ◌≡◌ {A = ℕ} 0 1 = cc in absurd (omega arith)
-      by (some w) q = within w (ltb end (at + 2 + w)) q
+      contents : ℕ → Stretch
+      contents w = record { start = at + 2 + w; len = length_value s (at + 1) w }
 
-  pub element-unknown : at + 2 ≤ end → length_at s at end ≡ element_length.Wrong → element_at s at end ≡ none
-  unfolding element_at length_at Option-elim bind
-  element-unknown h e = rw (element_at, le-ltb end (at + 2) h) (by (length_width (get_or s (at + 1) 0)) e)
-    where
-      within : (w : ℕ) (t : Bool) → cond t element_length.Wrong (element_length.Of (at + 2 + w) (length_value s (at + 1) w)) ≡ element_length.Wrong
-          → cond t none (element_of (get_or s at 0) (at + 2 + w) (length_value s (at + 1) w) end) ≡ none
-      within w true q = refl
-      within w false q = let z : ◌≡◌ {A = ℕ} 0 1 = cc in absurd (omega arith)
+      within : (w : ℕ) (t : Bool) → cond t None (of (contents w)) ≡ (cond t None (Some (contents w)) >>= of)
+      within w true = refl
+      within w false = refl
 
-      by : (o : Option ℕ) → Option-elim o element_length.Wrong (λ w. cond (ltb end (at + 2 + w)) element_length.Wrong (element_length.Of (at + 2 + w) (length_value s (at + 1) w))) ≡ element_length.Wrong
-          → bind o (λ w. cond (ltb end (at + 2 + w)) none (element_of (get_or s at 0) (at + 2 + w) (length_value s (at + 1) w) end)) ≡ none
-      by none q = refl
-      by (some w) q = within w (ltb end (at + 2 + w)) q
+      by : (o : Option ℕ) → (o >>= λ w. cond (ltb end (at + 2 + w)) None (of (contents w))) ≡ ((o >>= λ w. cond (ltb end (at + 2 + w)) None (Some (contents w))) >>= of)
+      by None = refl
+      by (Some w) = within w (ltb end (at + 2 + w))
 
--- what an element seen as positions says of the element
-pub tagged_none : (end : ℕ) (o : Option Element) → tagged_as end o ≡ tagged.Wrong → o ≡ none
-tagged_none end none e = refl
-tagged_none end (some x) e = let z : ◌≡◌ {A = ℕ} 0 1 = cc in absurd (omega arith)
+  pub element_known : (start len : ℕ) → at + 2 ≤ end → contents_at s at end ≡ Some (record { start = start; len = len }) → element_at s at end ≡ element_of (get_or s at 0) start len end
+  element_known start len h e = element_by h ∙ ap (λ (o : Option Stretch). o >>= λ p. element_of (get_or s at 0) p.start p.len end) e
 
-pub tagged_some : (end : ℕ) (o : Option Element) (tag : ℕ) (inside rest : Position) → tagged_as end o ≡ tagged.Element tag inside rest → o ≡ some (record { tag = tag; start = inside.at; next = inside.end })
-tagged_some end none tag inside rest e = let z : ◌≡◌ {A = ℕ} 0 1 = cc in absurd (omega arith)
-tagged_some end (some x) tag inside rest e =
-    let t : x.tag ≡ tag = cc in
-    let p : (record { at = x.start; end = x.next }) ≡ inside = cc in
-    λ i. some (record { tag = t i; start = (p i).at; next = (p i).end })
-
-pub tagged_rest : (end : ℕ) (o : Option Element) (tag : ℕ) (inside rest : Position) → tagged_as end o ≡ tagged.Element tag inside rest → record { at = inside.end; end = end } ≡ rest
-tagged_rest end none tag inside rest e = let z : ◌≡◌ {A = ℕ} 0 1 = cc in absurd (omega arith)
-tagged_rest end (some x) tag inside rest e =
-    let p : inside ≡ (record { at = x.start; end = x.next }) = cc in
-    let r : (record { at = x.next; end = end }) ≡ rest = cc in
-    (λ i. record { at = (p i).end; end = end }) ∙ r
-
--- a clause, or none
-pub equality_none : (o : Option RawClause) → equality_as o ≡ equality.Wrong → o ≡ none
-equality_none none e = refl
-equality_none (some f) e = let z : ◌≡◌ {A = ℕ} 0 1 = cc in absurd (omega arith)
-
-pub equality-some : (o : Option RawClause) (f : RawClause) → equality_as o ≡ equality.Clause f → o ≡ some f
-equality-some none f e = let z : ◌≡◌ {A = ℕ} 0 1 = cc in absurd (omega arith)
-equality-some (some g) f e = cc
-
--- a filter by the element that stands there
-module _ (s : List ℕ) (at end : ℕ) where
-  pub filter_none : tagged_as end (element_at s at end) ≡ tagged.Wrong → filter_at s at end ≡ read.Wrong
-  unfolding filter_at Option-elim
-  filter_none e = rw (filter_at, tagged_none end (element_at s at end) e)
-
-  module _ (tag : ℕ) (inside rest : Position) (e : tagged_as end (element_at s at end) ≡ tagged.Element tag inside rest) where
-    filter-to : filter_at s at end ≡ read_to rest (filter_in s (record { tag = tag; start = inside.at; next = inside.end }))
-    unfolding filter_at Option-elim
-    filter-to =
-        let o = tagged_some end (element_at s at end) tag inside rest e in
-        let r = tagged_rest end (element_at s at end) tag inside rest e in
-        ap (λ (x : Option Element). Option-elim x read.Wrong (λ y. read_to (record { at = y.next; end = end }) (filter_in s y))) o
-        ∙ ap (λ (p : Position). read_to p (filter_in s (record { tag = tag; start = inside.at; next = inside.end }))) r
-
-    by_tag : (t : ℕ) → tag ≡ t → filter_in s (record { tag = tag; start = inside.at; next = inside.end }) ≡ filter_in s (record { tag = t; start = inside.at; next = inside.end })
-    by_tag t q = ap (λ (x : ℕ). filter_in s (record { tag = x; start = inside.at; next = inside.end })) q
-
-    pub filter_wrong : tag ≡ equality_tag → equality_as (believed.equality s inside.at inside.end) ≡ equality.Wrong → filter_at s at end ≡ read.Wrong
-    unfolding filter_in
-    filter_wrong q f = filter-to ∙ ap (read_to rest) (by_tag equality_tag q ∙ ap (map filter.Clause) (equality_none (believed.equality s inside.at inside.end) f))
-
-    pub filter-clause : (clause : RawClause) → tag ≡ equality_tag → equality_as (believed.equality s inside.at inside.end) ≡ equality.Clause clause → filter_at s at end ≡ read.Good (filter.Clause clause) rest
-    unfolding filter_in
-    filter-clause clause q f = filter-to ∙ ap (read_to rest) (by_tag equality_tag q ∙ ap (map filter.Clause) (equality-some (believed.equality s inside.at inside.end) clause f))
-
-    pub filter_and : tag ≡ and_tag → filter_at s at end ≡ read.Good (filter.And inside) rest
-    unfolding filter_in
-    filter_and q = filter-to ∙ ap (read_to rest) (by_tag and_tag q)
-
-    pub filter_other : (tag ≡ equality_tag → ⊥) → (tag ≡ and_tag → ⊥) → filter_at s at end ≡ read.Wrong
-    unfolding filter_in
-    filter_other p q =
-        let n : filter_in s (record { tag = tag; start = inside.at; next = inside.end }) ≡ none = rw (filter_in, ne_eqb tag equality_tag p, ne_eqb tag and_tag q) in
-        filter-to ∙ ap (read_to rest) n
-
--- what follows from a filter that was read: nothing where it is wrong
-abbrev pub on_read : FilterRead → (Filter → Position → Option (List RawClause)) → Option (List RawClause)
-on_read read.Wrong f = none
-on_read (read.Good x rest) f = f x rest
+  pub element_unknown : at + 2 ≤ end → contents_at s at end ≡ None → element_at s at end ≡ None
+  element_unknown h e = element_by h ∙ ap (λ (o : Option Stretch). o >>= λ p. element_of (get_or s at 0) p.start p.len end) e
 
 -- an element read by the definition of a filter is the filter that is found there
-one-filter : (d : ℕ) (s : List ℕ) (e : Element) → one (and_of d) s e ≡ bind (filter_in s e) (clauses_in d s)
-unfolding one filter_in bind
-one-filter d s e = by_tag (eqb e.tag equality_tag) (eqb e.tag and_tag) (believed.equality s e.start e.next)
+one-filter : (d : ℕ) (s : List ℕ) (e : Element) → one (and_of d) s e ≡ (filter_in s e >>= clauses_in d s)
+unfolding one filter_in
+one-filter d s e = by_tag (eqb e.tag equality_tag) (eqb e.tag and_tag) (equality s e.start e.next)
   where
     by_tag : (a b : Bool) (o : Option RawClause)
-        → (elim a as (λ x. Option (List RawClause)) [ true ↦ map (λ f. f ∷ []) o | false ↦ cond b (and_of d s e.start e.next) none ])
-        ≡ bind (elim a as (λ x. Option Filter) [ true ↦ map filter.Clause o | false ↦ cond b (some (filter.And (record { at = e.start; end = e.next }))) none ]) (clauses_in d s)
-    by_tag true b none = refl
-    by_tag true b (some f) = refl
+        → (elim a as (λ x. Option (List RawClause)) [ true ↦ option_map (λ f. f ∷ []) o | false ↦ cond b (and_of d s e.start e.next) None ])
+        ≡ ((elim a as (λ x. Option Filter) [ true ↦ option_map filter.Clause o | false ↦ cond b (Some (filter.And (record { at = e.start; end = e.next }))) None ]) >>= clauses_in d s)
+    by_tag true b None = refl
+    by_tag true b (Some f) = refl
     by_tag false true o = refl
     by_tag false false o = refl
 
 module _ (d : ℕ) (s : List ℕ) (end : ℕ) where
-  abbrev pub then : ℕ → Filter → Position → Option (List RawClause)
-  then k f rest = bind (clauses_in d s f) (λ xs. elim (eqb rest.at end) [ true ↦ some xs | false ↦ map (λ ys. xs ++ ys) (siblings (and_of d) k s rest.at end) ])
+  -- what follows from a filter that was read
+  abbrev pub then : ℕ → FilterRead → Option (List RawClause)
+  then k r = clauses_in d s r.filter >>= λ xs. elim (eqb r.rest.at end) [ true ↦ Some xs | false ↦ option_map (λ ys. xs ++ ys) (siblings (and_of d) k s r.rest.at end) ]
 
-  pub siblings-read : (k at : ℕ) → siblings (and_of d) (suc k) s at end ≡ on_read (filter_at s at end) (then k)
-  unfolding siblings filter_at Option-elim bind
+  pub siblings-read : (k at : ℕ) → siblings (and_of d) (suc k) s at end ≡ (filter_at s at end >>= then k)
+  unfolding siblings filter_at
   siblings-read k at = by_element (element_at s at end)
     where
       by_filter : (e : Element) (q : Option Filter)
-          → bind (bind q (clauses_in d s)) (λ xs. elim (eqb e.next end) [ true ↦ some xs | false ↦ map (λ ys. xs ++ ys) (siblings (and_of d) k s e.next end) ])
-          ≡ on_read (read_to (record { at = e.next; end = end }) q) (then k)
-      by_filter e none = refl
-      by_filter e (some f) = refl
+          → ((q >>= clauses_in d s) >>= λ xs. elim (eqb e.next end) [ true ↦ Some xs | false ↦ option_map (λ ys. xs ++ ys) (siblings (and_of d) k s e.next end) ])
+          ≡ (option_map (read_to (record { at = e.next; end = end })) q >>= then k)
+      by_filter e None = refl
+      by_filter e (Some f) = refl
 
       by_element : (o : Option Element)
-          → bind o (λ e. bind (one (and_of d) s e) (λ xs. elim (eqb e.next end) [ true ↦ some xs | false ↦ map (λ ys. xs ++ ys) (siblings (and_of d) k s e.next end) ]))
-          ≡ on_read (Option-elim o read.Wrong (λ e. read_to (record { at = e.next; end = end }) (filter_in s e))) (then k)
-      by_element none = refl
-      by_element (some e) = rw (one-filter d s e) (by_filter e (filter_in s e))
+          → (o >>= λ e. one (and_of d) s e >>= λ xs. elim (eqb e.next end) [ true ↦ Some xs | false ↦ option_map (λ ys. xs ++ ys) (siblings (and_of d) k s e.next end) ])
+          ≡ ((o >>= λ e. option_map (read_to (record { at = e.next; end = end })) (filter_in s e)) >>= then k)
+      by_element None = refl
+      by_element (Some e) = rw (one-filter d s e) (by_filter e (filter_in s e))
 
 -- the contents of an AND, with its own depth taken off
 pub and_deeper : (d : ℕ) (s : List ℕ) (at end : ℕ) → (d ≡ 0 → ⊥) → siblings (and_of (d - 1)) (end - at) s at end ≡ and_of d s at end
@@ -206,42 +127,46 @@ and_deeper (suc d) s at end h =
     let e : suc d - 1 ≡ d = omega arith in
     ap (λ (k : ℕ). siblings (and_of k) (end - at) s at end) e
 
--- a whole filter by its one element
-pub whole-read : (s : List ℕ) → clauses_of s ≡ on_read (filter_at s 0 (length s)) (λ f rest. cond (eqb rest.at (length s)) (clauses_in 4 s f) none)
-unfolding clauses_of filter_at Option-elim bind
-whole-read s = by_element (element_at s 0 (length s))
-  where
-    by_filter : (e : Element) (q : Option Filter)
-        → cond (eqb e.next (length s)) (bind q (clauses_in 4 s)) none
-        ≡ on_read (read_to (record { at = e.next; end = length s }) q) (λ f rest. cond (eqb rest.at (length s)) (clauses_in 4 s f) none)
-    by_filter e none = nothing_left (eqb e.next (length s))
-      where
-        nothing_left : (b : Bool) → cond {A = Option (List RawClause)} b none none ≡ none
-        nothing_left true = refl
-        nothing_left false = refl
-    by_filter e (some f) = refl
-
-    by_element : (o : Option Element)
-        → bind o (λ e. cond (eqb e.next (length s)) (one (and_of 4) s e) none)
-        ≡ on_read (Option-elim o read.Wrong (λ e. read_to (record { at = e.next; end = length s }) (filter_in s e))) (λ f rest. cond (eqb rest.at (length s)) (clauses_in 4 s f) none)
-    by_element none = refl
-    by_element (some e) = rw (one-filter 4 s e) (by_filter e (filter_in s e))
-
 -- what lies within a stretch lies within the octets around it
 pub filter-within : (n end : ℕ) (f : Filter) → end ≤ n → FilterInside end f → FilterInside n f
 filter-within n end (filter.Clause f) h w = (w.0, omega arith, omega arith)
 filter-within n end (filter.And p) h w = (w.0, omega arith)
 
 module _ (s : List ℕ) where
-  pub whole_wrong : filter_at s 0 (length s) ≡ read.Wrong → clauses_of s ≡ none
-  whole_wrong e = whole-read s ∙ ap (λ (x : FilterRead). on_read x (λ f rest. cond (eqb rest.at (length s)) (clauses_in 4 s f) none)) e
+  -- the clauses of a whole filter that was read
+  abbrev filled : FilterRead → Option (List RawClause)
+  filled r = cond (eqb r.rest.at (length s)) (clauses_in 4 s r.filter) None
 
-  module _ (f : Filter) (rest : Position) (e : filter_at s 0 (length s) ≡ read.Good f rest) where
-    by_end : clauses_of s ≡ cond (eqb rest.at (length s)) (clauses_in 4 s f) none
-    by_end = whole-read s ∙ ap (λ (x : FilterRead). on_read x (λ f rest. cond (eqb rest.at (length s)) (clauses_in 4 s f) none)) e
+  -- a whole filter by its one element
+  whole-read : clauses_of s ≡ (filter_at s 0 (length s) >>= filled)
+  unfolding clauses_of filter_at
+  whole-read = by_element (element_at s 0 (length s))
+    where
+      by_filter : (e : Element) (q : Option Filter)
+          → cond (eqb e.next (length s)) (q >>= clauses_in 4 s) None
+          ≡ (option_map (read_to (record { at = e.next; end = length s })) q >>= filled)
+      by_filter e None = nothing_left (eqb e.next (length s))
+        where
+          nothing_left : (b : Bool) → cond {A = Option (List RawClause)} b None None ≡ None
+          nothing_left true = refl
+          nothing_left false = refl
+      by_filter e (Some f) = refl
 
-    pub whole-short : (rest.at ≡ length s → ⊥) → clauses_of s ≡ none
-    whole-short h = by_end ∙ ap (λ (b : Bool). cond b (clauses_in 4 s f) none) (ne_eqb rest.at (length s) h)
+      by_element : (o : Option Element)
+          → (o >>= λ e. cond (eqb e.next (length s)) (one (and_of 4) s e) None)
+          ≡ ((o >>= λ e. option_map (read_to (record { at = e.next; end = length s })) (filter_in s e)) >>= filled)
+      by_element None = refl
+      by_element (Some e) = rw (one-filter 4 s e) (by_filter e (filter_in s e))
 
-    pub whole-filled : rest.at ≡ length s → clauses_of s ≡ clauses_in 4 s f
-    whole-filled h = by_end ∙ ap (λ (b : Bool). cond b (clauses_in 4 s f) none) (eq-eqb rest.at (length s) h)
+  pub whole_wrong : filter_at s 0 (length s) ≡ None → clauses_of s ≡ None
+  whole_wrong e = whole-read ∙ ap (λ (x : Option FilterRead). x >>= filled) e
+
+  module _ (r : FilterRead) (e : filter_at s 0 (length s) ≡ Some r) where
+    by_end : clauses_of s ≡ filled r
+    by_end = whole-read ∙ ap (λ (x : Option FilterRead). x >>= filled) e
+
+    pub whole-short : (r.rest.at ≡ length s → ⊥) → clauses_of s ≡ None
+    whole-short h = by_end ∙ ap (λ (b : Bool). cond b (clauses_in 4 s r.filter) None) (ne_eqb r.rest.at (length s) h)
+
+    pub whole-filled : r.rest.at ≡ length s → clauses_of s ≡ clauses_in 4 s r.filter
+    whole-filled h = by_end ∙ ap (λ (b : Bool). cond b (clauses_in 4 s r.filter) None) (eq-eqb r.rest.at (length s) h)

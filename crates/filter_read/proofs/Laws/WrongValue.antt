@@ -4,7 +4,7 @@ use mathlib.Core.Bool.{false, ◌||◌}
 use mathlib.Core.List.{List}
 use Prim.Native.Nat.{ℕ}
 use Rattle.octets.proofs.Laws.Lists.{neither_left, neither_right}
-use Rattle.filter.specs.declared.request.Clause.{Clause}
+use Rattle.filter.specs.Request.{Clause}
 use Rattle.filter_read.specs.Internal.WrongValue.{wrong_number, wrong_user}
 
 module _ (s : List ℕ) (v aac user : Clause) (h : (wrong_number s v || wrong_number s aac || wrong_user s user) ≡ false) where

@@ -1,10 +1,8 @@
 -- The request of a filter that was gathered, or its refusal.
-use Rattle.answers.specs.Try.{Try, refused, good}
+use Rattle.std.specs.Prelude.{Ok}
+use Rattle.answers.specs.Try.{Try, ◌>>=◌}
 use Rattle.filter.specs.declared.request.Request.{Request}
 use Rattle.filter_gather.specs.Internal.Gather.{Gathered}
-use Rattle.filter_read.specs.declared.clauses.ClausesRead.{ClausesRead}
-use Rattle.filter_read.specs.declared.clauses.ClausesRead.TheVariants as clauses
 
-abbrev pub request_read : ClausesRead → Gathered → Try Request
-request_read clauses.Gathered g = good g.request
-request_read (clauses.Refused r) g = refused r
+abbrev pub request_read : {A : Type 0} → Try A → Gathered → Try Request
+request_read read g = read >>= λ done. Ok g.request

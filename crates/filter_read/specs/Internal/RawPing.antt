@@ -1,9 +1,7 @@
 -- A ping whose clauses are stretches of a source, and what reading a filter gives.
-use Rattle.std.specs.Prelude.{List, ℕ}
-use Rattle.answers.specs.Try.{Try, refused, good}
+use Rattle.std.specs.Prelude.{List, ℕ, Ok}
+use Rattle.answers.specs.Try.{Try, ◌>>=◌}
 use Rattle.filter.specs.Request.{octets_of}
-use Rattle.filter_read.specs.declared.ping.PingRead.{PingRead}
-use Rattle.filter_read.specs.declared.ping.PingRead.TheVariants as read
 use Rattle.filter_read.specs.declared.ping.RawPing.{RawPing}
 use Rattle.filter_read.specs.Value.{Ping}
 
@@ -18,6 +16,5 @@ ping_at source p =
       version = p.«version»;
     }
 
-abbrev pub tried_ping : List ℕ → PingRead → Try Ping
-tried_ping s (read.Ping p) = good (ping_at s p)
-tried_ping s (read.Refused r) = refused r
+abbrev pub tried_ping : List ℕ → Try RawPing → Try Ping
+tried_ping s read = read >>= λ p. Ok (ping_at s p)

@@ -2,8 +2,7 @@
 use Rattle.std.specs.Prelude.{Bool, not, List, ℕ}
 use Rattle.octets.specs.Lists.{holds}
 use Rattle.unicode_text.specs.UserName.{is_user_name}
-use Rattle.filter.specs.declared.request.Clause.{Clause}
-use Rattle.filter.specs.Request.{octets_of}
+use Rattle.filter.specs.Request.{Clause, octets_of}
 use Rattle.filter_read.specs.Value.{is_number}
 
 abbrev pub wrong_number : List ℕ → Clause → Bool

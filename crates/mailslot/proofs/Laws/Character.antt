@@ -1,8 +1,8 @@
 -- What a unit, or a pair of them, does to what is left of a user.
+use Rattle.std.proofs.Common.{Option, None, Some, option_map}
 use mathlib.Core.Path.{◌≡◌, refl, sym, ap, subst, ◌∙◌}
 use mathlib.Core.Bool.{Bool, true, false, ◌&&◌, and-false}
 use mathlib.Core.List.{List, [], ◌∷◌, ◌++◌, flat_map}
-use mathlib.Core.Option.{Option, none, some, map}
 use Prim.Native.Nat.{ℕ, zero, suc, ◌+◌, ◌*◌, ◌-◌, ◌%◌, ◌≤◌, ◌<◌}
 use native.Mathlib.Omega.{arith}
 use lib.Dec.{leb, ltb}
@@ -24,25 +24,25 @@ use Rattle.mailslot.specs.Internal.Runs.{user_left, Stops, Character, CharacterS
 abbrev left : ℕ → Option (List ℕ) → Bool
 left size o = holds (λ cs. leb (size + length (flat_map utf8_of cs)) user_name_most && without 0 cs) o
 
-left-point : (size c w : ℕ) (o : Option (List ℕ)) → 1 ≤ c → length (utf8_of c) ≡ w → left size (map (λ cs. c ∷ cs) o) ≡ left (size + w) o
+left-point : (size c w : ℕ) (o : Option (List ℕ)) → 1 ≤ c → length (utf8_of c) ≡ w → left size (option_map (λ cs. c ∷ cs) o) ≡ left (size + w) o
 unfolding flat_map all
-left-point size c w none h e = refl
-left-point size c w (some cs) h e =
+left-point size c w None h e = refl
+left-point size c w (Some cs) h e =
     let n : size + length (utf8_of c ++ flat_map utf8_of cs) ≡ size + w + length (flat_map utf8_of cs) = simp length-append (omega arith) in
     rw (ne_eqb c 0 (λ z. omega arith), n)
 
-left-zero : (size : ℕ) (o : Option (List ℕ)) → left size (map (λ cs. 0 ∷ cs) o) ≡ false
+left-zero : (size : ℕ) (o : Option (List ℕ)) → left size (option_map (λ cs. 0 ∷ cs) o) ≡ false
 unfolding all
-left-zero size none = refl
-left-zero size (some cs) = and-false (leb (size + length (flat_map utf8_of (0 ∷ cs))) user_name_most)
+left-zero size None = refl
+left-zero size (Some cs) = and-false (leb (size + length (flat_map utf8_of (0 ∷ cs))) user_name_most)
 
 -- too many octets are too many, whatever follows
 pub left_over : (size : ℕ) (l : List ℕ) → user_name_most < size → user_left size l ≡ false
 left_over size l h = go (points_of16 l)
   where
     go : (o : Option (List ℕ)) → left size o ≡ false
-    go none = refl
-    go (some cs) = rw (lt-leb (size + length (flat_map utf8_of cs)) user_name_most (omega arith))
+    go None = refl
+    go (Some cs) = rw (lt-leb (size + length (flat_map utf8_of cs)) user_name_most (omega arith))
 
 some-octets : (c : ℕ) → length (utf8_of c) ≡ 0 → ⊥
 unfolding utf8_of
@@ -72,7 +72,7 @@ octet_alone c h = rw (lt-ltb c 0x80 h)
 
 -- ---- by the octets that are left
 
-alone : (i : Partial) (l : List ℕ) → length l < 2 → points_from16 (partway i) l ≡ none
+alone : (i : Partial) (l : List ℕ) → length l < 2 → points_from16 (partway i) l ≡ None
 unfolding points_from16
 alone i [] k = refl
 alone i (x ∷ []) k = refl

@@ -1,8 +1,8 @@
 -- Where a text that was read ends: at a zero unit, or at a zero octet.
+use Rattle.std.proofs.Common.{Ok, Option, None, Some, option_map}
 use mathlib.Core.Path.{◌≡◌, refl, sym, ap, ap₂, ◌∙◌, subst}
 use mathlib.Core.Bool.{Bool, true, false, cond}
 use mathlib.Core.List.{List, [], ◌∷◌, ◌++◌}
-use mathlib.Core.Option.{Option, none, some, map}
 use Prim.Native.Nat.{ℕ, zero, suc, ◌+◌, ◌*◌, ◌-◌, ◌%◌, ◌≤◌, ◌<◌}
 use native.Mathlib.Omega.{arith}
 use lib.Dec.{eqb, leb}
@@ -10,7 +10,6 @@ use lib.ListN.{length, get_or, drop, length-drop, take-append-drop}
 use lib.Seq.{drop-drop, drop-cons, get_or-drop}
 use borrow.Author.Tests.{eqb-true, eqb-false, ne_eqb}
 use Rattle.answers.specs.declared.Refusal.TheVariants.{ReplyCut, ReplyText}
-use Rattle.answers.specs.Try.{good}
 use Rattle.answers.proofs.Laws.Try.{good_then, refused_not_good, good-same}
 use Rattle.octets.specs.{Lists.all, Lists.cut, Lists.holds, NameRule.without}
 use Rattle.octets.specs.Number.{little, u16_at}
@@ -19,8 +18,10 @@ use Rattle.octets.proofs.Laws.Text.{within_low}
 use Rattle.unicode_text.specs.Utf8.{Decoder, between, partway, on_decoded}
 use Rattle.unicode_text.specs.Utf16.{is_high, is_low, lead16, follow16, decode16, points_from16}
 use Rattle.unicode_text.proofs.Laws.OneText.{after_high_lem}
-use Rattle.reader.specs.Field.{Read, stretch_of, read_octets, read_stretch}
-use Rattle.reader.specs.declared.field.Stretch.{Stretch}
+use Rattle.octets.specs.{declared.part.Stretch.Stretch, Stretch.stretch_of}
+use Rattle.reader.specs.declared.field.Read.{Read}
+use Rattle.reader.specs.Field.{read_octets, read_stretch}
+use Rattle.octets.specs.declared.part.Stretch.{Stretch}
 use Rattle.reader.specs.declared.text.Unit16.TheVariants.{Ends, Plain, High, Low}
 use Rattle.reader.specs.Text.{unit_of, turn, on_turn, read_text_from, read_text}
 use Rattle.mailslot.specs.Message.{is_text16, is_mailslot_name, before_zero, read_zero_ended}
@@ -49,10 +50,10 @@ Stands false (partway i) = ⊥
 Stands true between = ⊥
 Stands true (partway i) = (i.low ≡ 0xDC00) × (i.high ≡ 0xDFFF) × (1 ≤ i.bits)
 
-some-point : (c : ℕ) (o : Option (List ℕ)) → 1 ≤ c → holds (without 0) (map (λ cs. c ∷ cs) o) ≡ holds (without 0) o
+some-point : (c : ℕ) (o : Option (List ℕ)) → 1 ≤ c → holds (without 0) (option_map (λ cs. c ∷ cs) o) ≡ holds (without 0) o
 unfolding all
-some-point c none h = refl
-some-point c (some cs) h = rw (ne_eqb c 0 (λ z. omega arith))
+some-point c None h = refl
+some-point c (Some cs) h = rw (ne_eqb c 0 (λ z. omega arith))
 
 module _ (s : List ℕ) (start : ℕ) (f : Read Stretch) where
   abbrev Got : ℕ → Decoder → Type 0
@@ -78,7 +79,7 @@ module _ (s : List ℕ) (start : ℕ) (f : Read Stretch) where
         g.1,
       )
 
-  text-from : (k at : ℕ) (h : Bool) (d : Decoder) → Stands h d → read_text_from k s start at h ≡ good f → Got at d
+  text-from : (k at : ℕ) (h : Bool) (d : Decoder) → Stands h d → read_text_from k s start at h ≡ Ok f → Got at d
   unfolding read_text_from unit_of points_from16 all lead16 follow16
   text-from zero at h d w e = absurd (refused_not_good ReplyCut f e)
   text-from (suc k) at h d w e =
@@ -92,17 +93,17 @@ module _ (s : List ℕ) (start : ℕ) (f : Read Stretch) where
 
       After : Read (List ℕ) → Type 0
       After x =
-          on_turn (turn h (unit_of (little x.value))) (good (record { value = record { start = start; len = at - start }; next = x.next })) (λ g. read_text_from k s start x.next g)
-          ≡ good f
+          on_turn (turn h (unit_of (little x.value))) (Ok (record { value = record { start = start; len = at - start }; next = x.next })) (λ g. read_text_from k s start x.next g)
+          ≡ Ok f
 
       by : (h : Bool) (d : Decoder) (end p q : Bool) → Stands h d → eqb u 0 ≡ end → is_high u ≡ p → is_low u ≡ q
-          → on_turn (turn h (cond end Ends (cond p High (cond q Low Plain)))) (good (text_field start at)) (λ g. read_text_from k s start (at + 2) g) ≡ good f
-          → ((g : Bool) (n : Decoder) → Stands g n → read_text_from k s start (at + 2) g ≡ good f → Got (at + 2) n)
+          → on_turn (turn h (cond end Ends (cond p High (cond q Low Plain)))) (Ok (text_field start at)) (λ g. read_text_from k s start (at + 2) g) ≡ Ok f
+          → ((g : Bool) (n : Decoder) → Stands g n → read_text_from k s start (at + 2) g ≡ Ok f → Got (at + 2) n)
           → at + 2 ≤ length s
           → Got at d
       by false between true p q w z hi lo e deeper l =
-          let none : at - at ≡ 0 = omega arith in
-          (record { end = at; from = omega arith; to = l; zero = eqb-true u 0 z; points = ap (λ (i : ℕ). holds (without 0) (points_from16 between (cut s at i))) none }, sym (good-same e))
+          let None : at - at ≡ 0 = omega arith in
+          (record { end = at; from = omega arith; to = l; zero = eqb-true u 0 z; points = ap (λ (i : ℕ). holds (without 0) (points_from16 between (cut s at i))) None }, sym (good-same e))
       by false between false true q w z hi lo e deeper l =
           unit_further at between (partway (after_high_lem u)) l (λ o. rw hi) (deeper true (partway (after_high_lem u)) (refl, refl, omega arith) e)
       by false between false false true w z hi lo e deeper l = absurd (refused_not_good ReplyText f e)
@@ -117,12 +118,12 @@ module _ (s : List ℕ) (start : ℕ) (f : Read Stretch) where
       by false (partway i) end p q w z hi lo e deeper l = absurd w
       by true between end p q w z hi lo e deeper l = absurd w
 
-  pub text-got : read_text s start ≡ good f → Got start between
+  pub text-got : read_text s start ≡ Ok f → Got start between
   unfolding read_text
   text-got e = text-from (suc (length s)) start false between tt e
 
   -- where a text is read its octets have code points, and none is zero
-  pub text_is_text : read_text s start ≡ good f → is_text16 (stretch_of s f.value) ≡ true
+  pub text_is_text : read_text s start ≡ Ok f → is_text16 (stretch_of s f.value) ≡ true
   text_is_text e = let g = text-got e in subst (λ (x : Read Stretch). is_text16 (stretch_of s x.value) ≡ true) (sym g.1) g.0.points
 
 -- ---- a text that a zero octet ends
@@ -146,7 +147,7 @@ zero_there (x ∷ l) h = go (eqb x 0) refl h (zero_there l)
     go true e h d = eqb-true x 0 e
     go false e h d = d (omega arith)
 
-pub name-got : (s : List ℕ) (start : ℕ) (f : Read Stretch) → read_zero_ended s start ≡ good f → (z : ZeroOctet s start) × (f ≡ name_field start z.end)
+pub name-got : (s : List ℕ) (start : ℕ) (f : Read Stretch) → read_zero_ended s start ≡ Ok f → (z : ZeroOctet s start) × (f ≡ name_field start z.end)
 unfolding read_zero_ended
 name-got s start f e =
     let n : ℕ = length (before_zero (drop start s)) in
@@ -171,7 +172,7 @@ name-before (c ∷ x) rest e =
     let a : 1 ≤ c = within_low 1 0x7F c (both_left (of_name c) (all of_name x) e) in
     rw (ne_eqb c 0 (λ z. omega arith), name-before x rest (both_right (of_name c) (all of_name x) e))
 
-pub name-read : (s : List ℕ) (start end : ℕ) → EndsName s start end → read_zero_ended s start ≡ good (name_field start end)
+pub name-read : (s : List ℕ) (start end : ℕ) → EndsName s start end → read_zero_ended s start ≡ Ok (name_field start end)
 unfolding read_zero_ended is_mailslot_name
 name-read s start end n =
     let k : ℕ = end - start in

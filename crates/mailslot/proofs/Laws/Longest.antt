@@ -1,8 +1,8 @@
 -- The longest message: limit by limit, in the order of its fields.
+use Rattle.std.proofs.Common.{Option, None, Some}
 use mathlib.Core.Path.{◌≡◌, refl, sym}
 use mathlib.Core.Bool.{Bool, true, false, cond, ◌&&◌, ◌||◌}
 use mathlib.Core.List.{List, [], ◌∷◌}
-use mathlib.Core.Option.{Option, none, some}
 use Prim.Native.Nat.{ℕ, ◌+◌, ◌*◌, ◌-◌, ◌≤◌}
 use native.Mathlib.Omega.{arith}
 use lib.Dec.{eqb, leb}
@@ -12,7 +12,7 @@ use Rattle.octets.specs.{Lists.all, Lists.cut, Lists.holds, NameRule.without, Te
 use Rattle.octets.specs.Number.{u32_at, little_octets}
 use Rattle.octets.proofs.Laws.Lists.{both_left, cut-length, true_not_false}
 use Rattle.octets.proofs.Laws.Text.{within-high}
-use Rattle.reader.specs.Field.{stretch_of}
+use Rattle.octets.specs.Stretch.{stretch_of}
 use Rattle.reply.specs.Reply.{ending}
 use Rattle.unicode_text.specs.{UserName.is_user_name, Utf8.is_utf8, Utf16.utf8_from16}
 use Rattle.transcode.proofs.Laws.Length.{one_a_unit}
@@ -34,8 +34,8 @@ module _ (x : List ℕ) where
   user-most e = go (utf8_from16 x) refl e
     where
       go : (o : Option (List ℕ)) → utf8_from16 x ≡ o → holds is_user_name o ≡ true → length x ≤ 126
-      go none q e = absurd (true_not_false (sym e))
-      go (some t) q e =
+      go None q e = absurd (true_not_false (sym e))
+      go (Some t) q e =
           let h : length t ≤ 63 = leb-true (length t) 63 (both_left (leb (length t) 63) (is_utf8 t) (both_left (leb (length t) 63 && is_utf8 t) (without 0 t) e)) in
           omega (arith, one_a_unit x t q)
 

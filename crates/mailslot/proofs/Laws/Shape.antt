@@ -1,4 +1,5 @@
 -- A message that reads has its shape, and one of the shape reads: its tests, in the order in which the code makes them.
+use Rattle.std.proofs.Common.{Ok, Err}
 use mathlib.Core.Path.{◌≡◌, refl, sym, ap, ◌∙◌, subst}
 use mathlib.Core.Bool.{Bool, true, false, not, ◌&&◌, and-true}
 use mathlib.Core.List.{List}
@@ -8,14 +9,15 @@ use lib.Dec.{eqb, ltb}
 use lib.ListN.{length}
 use borrow.Author.Tests.{lt-ltb, ltb-true, not-false}
 use Rattle.answers.specs.declared.Refusal.TheVariants.{MailslotShape}
-use Rattle.answers.specs.Try.{Try, refused, good, refused_if, ◌>>=◌}
+use Rattle.answers.specs.Try.{Try, refused_if, ◌>>=◌}
 use Rattle.answers.specs.Wire.{logon_sam_logon_request, LmNtToken, Lm20Token}
 use Rattle.answers.proofs.Laws.Try.{good_then, refused_if-good, refused_not_good}
 use Rattle.octets.specs.Lists.{cut}
 use Rattle.octets.specs.Number.{little_octets, u16_at, u32_at}
 use Rattle.octets.proofs.Laws.Lists.{both_left, both_right, every_at}
 use Rattle.octets.proofs.Laws.Number.{u16-octets, u32_halves}
-use Rattle.reader.specs.Field.{stretch_of, read_octets}
+use Rattle.octets.specs.Stretch.{stretch_of}
+use Rattle.reader.specs.Field.{read_octets}
 use Rattle.reader.specs.Reader.{read_constant, read_number}
 use Rattle.reader.specs.Text.{read_text}
 use Rattle.mailslot.specs.declared.message.Message.{Message}
@@ -94,11 +96,11 @@ module _ (s : List ℕ) (m : Message) where
 
 -- ---- what reads has the shape
 
-shape_good : {A : Type 0} (t : Try A) (a : A) → as_shape t ≡ good a → t ≡ good a
-shape_good (refused r) a e = absurd (refused_not_good MailslotShape a e)
-shape_good (good b) a e = e
+shape_good : {A : Type 0} (t : Try A) (a : A) → as_shape t ≡ Ok a → t ≡ Ok a
+shape_good (Err r) a e = absurd (refused_not_good MailslotShape a e)
+shape_good (Ok b) a e = e
 
-fields_shape : (s : List ℕ) (m : Message) → read_fields s ≡ good m → good_message s m ≡ true → Shape s
+fields_shape : (s : List ℕ) (m : Message) → read_fields s ≡ Ok m → good_message s m ≡ true → Shape s
 unfolding read_fields
 fields_shape s m e g =
     then_known (λ x. record { value = little_octets 2 logon_sam_logon_request; next = 2 }) (read_constant 2 logon_sam_logon_request s 0) _ m (λ f. constant_read s 0 logon_sam_logon_request f (omega arith)) e (λ o e.
@@ -137,36 +139,36 @@ fields_shape s m e g =
       };
     })))))))))
 
-pub message_shape : (s : List ℕ) (m : Message) → message_in s ≡ good m → Shape s
+pub message_shape : (s : List ℕ) (m : Message) → message_in s ≡ Ok m → Shape s
 unfolding message_in
 message_shape s m e =
     let f = good_then (as_shape (read_fields s)) _ m e in
-    let r = refused_if-good (not (good_message s f.0)) MailslotShape (good f.0) m f.2 in
+    let r = refused_if-good (not (good_message s f.0)) MailslotShape (Ok f.0) m f.2 in
     fields_shape s f.0 (shape_good (read_fields s) f.0 f.1) (not-false (good_message s f.0) r.0)
 
 -- whatever is refused, it is 41
 abbrev Refusals : Try Message → Type 0
-Refusals (refused r) = r ≡ MailslotShape
-Refusals (good m) = Unit {0}
+Refusals (Err r) = r ≡ MailslotShape
+Refusals (Ok m) = Unit {0}
 
 only_shape : (s : List ℕ) → Refusals (message_in s)
 unfolding message_in
 only_shape s = go (read_fields s)
   where
-    judged : (b : Bool) (m : Message) → Refusals (refused_if b MailslotShape (good m))
+    judged : (b : Bool) (m : Message) → Refusals (refused_if b MailslotShape (Ok m))
     judged true m = refl
     judged false m = tt
 
-    go : (t : Try Message) → Refusals (as_shape t >>= λ m. refused_if (not (good_message s m)) MailslotShape (good m))
-    go (refused r) = refl
-    go (good m) = judged (not (good_message s m)) m
+    go : (t : Try Message) → Refusals (as_shape t >>= λ m. refused_if (not (good_message s m)) MailslotShape (Ok m))
+    go (Err r) = refl
+    go (Ok m) = judged (not (good_message s m)) m
 
-pub shape_refused : (s : List ℕ) → (Shape s → ⊥) → message_in s ≡ refused MailslotShape
+pub shape_refused : (s : List ℕ) → (Shape s → ⊥) → message_in s ≡ Err MailslotShape
 shape_refused s none = go (message_in s) refl (only_shape s)
   where
-    go : (t : Try Message) → message_in s ≡ t → Refusals t → t ≡ refused MailslotShape
-    go (refused r) e o = ap refused o
-    go (good m) e o = absurd (none (message_shape s m e))
+    go : (t : Try Message) → message_in s ≡ t → Refusals t → t ≡ Err MailslotShape
+    go (Err r) e o = ap Err o
+    go (Ok m) e o = absurd (none (message_shape s m e))
 
 -- ---- and what has the shape reads
 
@@ -192,7 +194,7 @@ module _ (s : List ℕ) (computer user mailslot sid : ℕ) (o : Octets s) (t : T
       let eight : bits + 4 + 4 ≡ bits + 8 = omega arith in
       ap (λ (i : ℕ). i + sid_padding size i) eight ∙ sym n.sid_starts
 
-  fields_there : read_fields s ≡ good (message_at s computer user mailslot sid)
+  fields_there : read_fields s ≡ Ok (message_at s computer user mailslot sid)
   unfolding read_fields
   fields_there =
       let k : behind ≡ sid = behind-sid in
@@ -200,7 +202,7 @@ module _ (s : List ℕ) (computer user mailslot sid : ℕ) (o : Octets s) (t : T
       let first : u16_at s (behind + size + 4) ≡ LmNtToken = ap (λ (i : ℕ). u16_at s (i + size + 4)) k ∙ n.first in
       let second : u16_at s (behind + size + 4 + 2) ≡ Lm20Token = ap (λ (i : ℕ). u16_at s (i + size + 4 + 2)) k ∙ n.second in
       let l : 4 ≤ length s = omega (arith, t.computer_ends.from, t.computer_ends.to) in
-      subst (λ (i : ℕ). read_fields s ≡ good (message_at s computer user mailslot i)) k
+      subst (λ (i : ℕ). read_fields s ≡ Ok (message_at s computer user mailslot i)) k
       (rw (
         constant_there s 0 logon_sam_logon_request o (omega arith) t.opcode,
         octets_there s 2 2 (omega arith),
@@ -222,6 +224,6 @@ module _ (s : List ℕ) (computer user mailslot sid : ℕ) (o : Octets s) (t : T
       sym (good_by_parts s (message_at s computer user mailslot sid) (u16_fits s 2 o (omega arith)) (u32_fits s bits o (omega arith)) (u32_fits s (sid + size) o (omega arith)))
       ∙ rw (t.computer_ends.text, t.user_ends.text, t.mailslot_ends.name, told)
 
-  pub shape_read : message_in s ≡ good (message_at s computer user mailslot sid)
+  pub shape_read : message_in s ≡ Ok (message_at s computer user mailslot sid)
   unfolding message_in
   shape_read = rw (fields_there, fields_good)

@@ -1,4 +1,5 @@
 -- The SID of a message: its size, its padding, and how it is read.
+use Rattle.std.proofs.Common.{Ok}
 use mathlib.Core.Path.{◌≡◌, refl, ap, ◌∙◌}
 use mathlib.Core.Bool.{Bool, true, false, cond}
 use mathlib.Core.List.{List}
@@ -9,12 +10,12 @@ use lib.Dec.{eqb, ltb}
 use lib.ListN.{length, get_or, drop}
 use lib.Seq.{get_or-take, get_or-drop}
 use borrow.Author.Tests.{ne_eqb, eqb-true, ltb-true, ltb-false}
-use Rattle.answers.specs.Try.{good}
 use Rattle.octets.specs.Lists.{cut}
 use Rattle.octets.proofs.Laws.Lists.{cut-length}
 use Rattle.octets.proofs.Laws.Text.{without_range}
-use Rattle.reader.specs.Field.{Read, read_octets}
-use Rattle.reader.specs.declared.field.Stretch.{Stretch}
+use Rattle.reader.specs.declared.field.Read.{Read}
+use Rattle.reader.specs.Field.{read_octets}
+use Rattle.octets.specs.declared.part.Stretch.{Stretch}
 use Rattle.mailslot.specs.Message.{is_message_sid, padding, read_sid}
 use Rattle.mailslot.specs.Internal.Shape.{sid_padding, is_sid_size}
 use Rattle.mailslot.proofs.Laws.Field.{then_known, octets_there, octets-read, stretch_there, stretch_read}
@@ -37,20 +38,20 @@ abbrev pub sid_field : ℕ → ℕ → Read Stretch
 sid_field size at = record { value = record { start = at + sid_padding size at; len = size }; next = at + sid_padding size at + size }
 
 module _ (s : List ℕ) (at : ℕ) where
-  pub sid_there : (size : ℕ) → at + sid_padding size at + size ≤ length s → read_sid (eqb size 0) size s at ≡ good (sid_field size at)
+  pub sid_there : (size : ℕ) → at + sid_padding size at + size ≤ length s → read_sid (eqb size 0) size s at ≡ Ok (sid_field size at)
   sid_there size h = go (eqb size 0) refl h
     where
       go : (b : Bool) → eqb size 0 ≡ b → at + cond b 0 (padding at) + size ≤ length s
-          → read_sid b size s at ≡ good (record { value = record { start = at + cond b 0 (padding at); len = size }; next = at + cond b 0 (padding at) + size })
+          → read_sid b size s at ≡ Ok (record { value = record { start = at + cond b 0 (padding at); len = size }; next = at + cond b 0 (padding at) + size })
       go true e h =
           let z : size ≡ 0 = eqb-true size 0 e in
           rw (z, add-zero at) (stretch_there s at 0 (omega arith))
       go false e h = rw (octets_there s at (padding at) (omega arith)) (stretch_there s (at + padding at) size h)
 
-  pub sid-read : (size : ℕ) (f : Read Stretch) → read_sid (eqb size 0) size s at ≡ good f → (at + sid_padding size at + size ≤ length s) × (f ≡ sid_field size at)
+  pub sid-read : (size : ℕ) (f : Read Stretch) → read_sid (eqb size 0) size s at ≡ Ok f → (at + sid_padding size at + size ≤ length s) × (f ≡ sid_field size at)
   sid-read size f e = go (eqb size 0) refl e
     where
-      go : (b : Bool) → eqb size 0 ≡ b → read_sid b size s at ≡ good f
+      go : (b : Bool) → eqb size 0 ≡ b → read_sid b size s at ≡ Ok f
           → (at + cond b 0 (padding at) + size ≤ length s) × (f ≡ record { value = record { start = at + cond b 0 (padding at); len = size }; next = at + cond b 0 (padding at) + size })
       go true q e =
           let z : size ≡ 0 = eqb-true size 0 q in

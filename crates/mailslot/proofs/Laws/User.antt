@@ -1,8 +1,8 @@
 -- A text of UTF-16LE: a user by its octets of UTF-8, a computer by its units; and one that its zero unit ends is read as its stretch.
+use Rattle.std.proofs.Common.{Ok, Option, None, Some, option_map}
 use mathlib.Core.Path.{◌≡◌, refl, sym, ap, ap₂, ◌∙◌}
 use mathlib.Core.Bool.{true, not, ◌&&◌, and-true}
 use mathlib.Core.List.{List, [], ◌∷◌, ◌++◌, flat_map}
-use mathlib.Core.Option.{Option, none, some, map}
 use Prim.Native.Nat.{ℕ, zero, suc, ◌+◌, ◌*◌, ◌-◌, ◌≤◌, ◌<◌}
 use native.Mathlib.Nat.{zero-add}
 use native.Mathlib.Omega.{arith}
@@ -10,7 +10,6 @@ use lib.Dec.{eqb, leb, ltb}
 use lib.ListN.{length, take, drop, take-append-drop}
 use lib.Seq.{drop-drop, length-take-le}
 use borrow.Author.Tests.{leb-true, le-leb, ltb-true, eqb-false, not-true}
-use Rattle.answers.specs.Try.{good}
 use Rattle.octets.specs.{Lists.all, Lists.cut, Lists.holds, NameRule.without, NameRule.user_name_most}
 use Rattle.octets.specs.Number.{little_octets, u16_at}
 use Rattle.octets.proofs.Laws.Lists.{Every, every_all, every_take, cut-length, both_left, both_right, true_not_false}
@@ -52,19 +51,19 @@ module _ (x : List ℕ) where
   unfolding is_message_user is_user_name is_utf8 utf8_from16
   user-left o = go (points_of16 x) refl
     where
-      go : (p : Option (List ℕ)) → points_of16 x ≡ p → holds is_user_name (map (flat_map utf8_of) p) ≡ holds (λ cs. leb (0 + length (flat_map utf8_of cs)) user_name_most && without 0 cs) p
-      go none e = refl
-      go (some cs) e =
-          let back : points (flat_map utf8_of cs) ≡ some cs = points-back cs (points16_comes x cs o e).0 in
+      go : (p : Option (List ℕ)) → points_of16 x ≡ p → holds is_user_name (option_map (flat_map utf8_of) p) ≡ holds (λ cs. leb (0 + length (flat_map utf8_of cs)) user_name_most && without 0 cs) p
+      go None e = refl
+      go (Some cs) e =
+          let back : points (flat_map utf8_of cs) ≡ Some cs = points-back cs (points16_comes x cs o e).0 in
           rw (back, zeros_kept cs, zero-add (length (flat_map utf8_of cs)), and-true (leb (length (flat_map utf8_of cs)) user_name_most))
 
   pub user-text : is_message_user x ≡ true → is_text16 x ≡ true
   unfolding is_message_user is_user_name utf8_from16
   user-text e = go (points_of16 x) e
     where
-      go : (p : Option (List ℕ)) → holds is_user_name (map (flat_map utf8_of) p) ≡ true → holds (without 0) p ≡ true
-      go none e = e
-      go (some cs) e = sym (zeros_kept cs) ∙ both_right (leb (length (flat_map utf8_of cs)) user_name_most && is_utf8 (flat_map utf8_of cs)) (without 0 (flat_map utf8_of cs)) e
+      go : (p : Option (List ℕ)) → holds is_user_name (option_map (flat_map utf8_of) p) ≡ true → holds (without 0) p ≡ true
+      go None e = e
+      go (Some cs) e = sym (zeros_kept cs) ∙ both_right (leb (length (flat_map utf8_of cs)) user_name_most && is_utf8 (flat_map utf8_of cs)) (without 0 (flat_map utf8_of cs)) e
 
   pub computer-text : is_computer_name x ≡ true → is_text16 x ≡ true
   unfolding is_computer_name
@@ -80,8 +79,8 @@ module _ (x : List ℕ) where
   computer-user o h = rw (le-leb (length x) (2 * 15) h, and-true (is_text16 x)) (go (points_of16 x) refl ∙ sym (user-left o))
     where
       go : (p : Option (List ℕ)) → points_of16 x ≡ p → holds (without 0) p ≡ holds (λ cs. leb (0 + length (flat_map utf8_of cs)) user_name_most && without 0 cs) p
-      go none e = refl
-      go (some cs) e =
+      go None e = refl
+      go (Some cs) e =
           let n : length (points_octets cs) ≡ length x = ap length (points16_comes x cs o e).1 in
           let k : 0 + length (flat_map utf8_of cs) ≤ user_name_most = omega (arith, three_each cs) in
           rw (le-leb (0 + length (flat_map utf8_of cs)) user_name_most k)
@@ -100,8 +99,8 @@ text-points : (x : List ℕ) → Octets x → is_text16 x ≡ true → (cs : Lis
 text-points x o e = go (points_of16 x) refl e
   where
     go : (p : Option (List ℕ)) → points_of16 x ≡ p → holds (without 0) p ≡ true → (cs : List ℕ) × Every Scalar cs × (points_octets cs ≡ x)
-    go none q e = absurd (true_not_false (sym e))
-    go (some cs) q e = let c = points16_comes x cs o q in (cs, scalars cs c.0 e, c.1)
+    go None q e = absurd (true_not_false (sym e))
+    go (Some cs) q e = let c = points16_comes x cs o q in (cs, scalars cs c.0 e, c.1)
 
 module _ (s : List ℕ) (start end : ℕ) (o : Octets s) (from : start ≤ end) (to : end + 2 ≤ length s) (zero : u16_at s end ≡ 0) where
   -- what stands from its start on
@@ -118,7 +117,7 @@ module _ (s : List ℕ) (start end : ℕ) (o : Octets s) (from : start ≤ end) 
         offset = length-take-le start s (omega arith);
       }
 
-  text-read : is_text16 (cut s start (end - start)) ≡ true → read_text s start ≡ good (text_field start end)
+  text-read : is_text16 (cut s start (end - start)) ≡ true → read_text s start ≡ Ok (text_field start end)
   text-read e =
       let n : ℕ = end - start in
       let p = text-points (cut s start n) (octets-cut s start n o) e in
@@ -128,10 +127,10 @@ module _ (s : List ℕ) (start end : ℕ) (o : Octets s) (from : start ≤ end) 
       text_here p.0 (drop (end + 2) s) p.1 l ∙ rw (m, k)
 
 module _ (s : List ℕ) (start end : ℕ) (o : Octets s) where
-  pub computer-read : EndsText is_computer_name s start end → read_text s start ≡ good (text_field start end)
+  pub computer-read : EndsText is_computer_name s start end → read_text s start ≡ Ok (text_field start end)
   computer-read e = text-read s start end o e.from e.to e.zero (computer-text (cut s start (end - start)) e.text)
 
-  pub user-read : EndsText is_message_user s start end → read_text s start ≡ good (text_field start end)
+  pub user-read : EndsText is_message_user s start end → read_text s start ≡ Ok (text_field start end)
   user-read e = text-read s start end o e.from e.to e.zero (user-text (cut s start (end - start)) e.text)
 
   -- a computer's name is a user's

@@ -1,4 +1,5 @@
 -- A message is refused where no message has its shape: by its texts, or, where these are good, by what stands behind them.
+use Rattle.std.proofs.Common.{Ok, Err}
 use mathlib.Core.Path.{◌≡◌, refl, sym, ap, ap₂, ◌∙◌, subst}
 use mathlib.Core.Bool.{Bool, true, ◌&&◌}
 use mathlib.Core.List.{List}
@@ -8,37 +9,27 @@ use lib.Dec.{eqb}
 use lib.ListN.{length, get_or}
 use borrow.Author.Tests.{eq-eqb, eqb-true}
 use Rattle.answers.specs.declared.Refusal.TheVariants.{MailslotShape}
-use Rattle.answers.specs.Try.{Try, refused, good, number_of, value_of}
+use Rattle.answers.specs.Try.{Try, number_of, value_of}
 use Rattle.answers.specs.Wire.{logon_sam_logon_request, LmNtToken, Lm20Token}
 use Rattle.answers.proofs.Laws.Try.{good-same}
 use Rattle.octets.specs.Number.{u16_at, u32_at}
 use Rattle.octets.proofs.Laws.Lists.{both_left, both_right}
-use Rattle.reader.specs.Field.{Read}
-use Rattle.reader.specs.declared.field.Stretch.{Stretch}
+use Rattle.reader.specs.declared.field.Read.{Read}
+use Rattle.octets.specs.declared.part.Stretch.{Stretch}
 use Rattle.mailslot.specs.declared.message.Message.{Message}
-use Rattle.mailslot.specs.declared.message.MessageRead.{MessageRead}
-use Rattle.mailslot.specs.declared.message.MessageRead.TheVariants as read
 use Rattle.mailslot.specs.Message.{is_message_user, message_in}
-use Rattle.mailslot.specs.Read.{message_as, message_number, message_given, ReadMessagePromise}
+use Rattle.mailslot.specs.Read.{ReadMessagePromise}
 use Rattle.mailslot.specs.Internal.Shape.{EndsText, EndsName, OneEnd, Texts, Numbers, sid_padding, is_sid_size}
 use Rattle.mailslot.proofs.Laws.Ends.{text_field, name_field, name-read}
 use Rattle.mailslot.proofs.Laws.Field.{Octets}
 use Rattle.mailslot.proofs.Laws.Shape.{Shape, shape_refused, shape_read}
 use Rattle.mailslot.proofs.Laws.User.{computer-read, user-read, computer_as_user, user_as_computer}
 
-pub promised : (s : List ℕ) (r : MessageRead) → r ≡ message_as (message_in s) → ReadMessagePromise s r
-promised s r e = record { same = e; numbered = ap message_number e ∙ numbers (message_in s); given = ap message_given e ∙ gives (message_in s) }
-  where
-    numbers : (t : Try Message) → message_number (message_as t) ≡ number_of t
-    numbers (refused r) = refl
-    numbers (good m) = refl
+pub promised : (s : List ℕ) (r : Try Message) → r ≡ message_in s → ReadMessagePromise s r
+promised s r e = record { same = e; numbered = ap number_of e; given = ap value_of e }
 
-    gives : (t : Try Message) → message_given (message_as t) ≡ value_of t
-    gives (refused r) = refl
-    gives (good m) = refl
-
-pub shapeless : (s : List ℕ) → (Shape s → ⊥) → read.Refused MailslotShape ≡ message_as (message_in s)
-shapeless s none = sym (ap message_as (shape_refused s none))
+pub shapeless : (s : List ℕ) → (Shape s → ⊥) → Err MailslotShape ≡ message_in s
+shapeless s none = sym ((shape_refused s none))
 
 -- a text that ends nowhere
 pub endless : (Ends : ℕ → Type 0) (length : ℕ) → ((end : ℕ) → Ends end → ⊥) → OneEnd Ends length length
@@ -71,10 +62,10 @@ texts-found s computer user mailslot o t =
       mailslot_end_lem = record { to = omega (arith, t.mailslot_ends.to); found = λ h. t.mailslot_ends; only = λ e q. same_octet (sym (name-read s (user + 2) e q) ∙ name-read s (user + 2) mailslot t.mailslot_ends) };
     }
   where
-    same_end : {start e f : ℕ} → good (text_field start e) ≡ good (text_field start f) → e ≡ f
+    same_end : {start e f : ℕ} → ◌≡◌ {A = Try (Read Stretch)} (Ok (text_field start e)) (Ok (text_field start f)) → e ≡ f
     same_end {start} {e} {f} q = let n : e + 2 ≡ f + 2 = ap (λ (x : Read Stretch). x.next) (good-same q) in omega arith
 
-    same_octet : {start e f : ℕ} → good (name_field start e) ≡ good (name_field start f) → e ≡ f
+    same_octet : {start e f : ℕ} → ◌≡◌ {A = Try (Read Stretch)} (Ok (name_field start e)) (Ok (name_field start f)) → e ≡ f
     same_octet {start} {e} {f} q = let n : e + 1 ≡ f + 1 = ap (λ (x : Read Stretch). x.next) (good-same q) in omega arith
 
 -- found within the message, they are good
@@ -100,7 +91,7 @@ message_said computer user mailslot sid size repeat bits version =
     }
 
 pub numberless : (s : List ℕ) (computer user mailslot : ℕ) → Octets s → Texts s computer user mailslot → ((sid : ℕ) → Numbers s (mailslot + 1) sid → ⊥)
-    → read.Refused MailslotShape ≡ message_as (message_in s)
+    → Err MailslotShape ≡ message_in s
 numberless s computer user mailslot o t none =
     shapeless s (λ p.
     let e : p.mailslot ≡ mailslot = mailslot-same s computer user mailslot (texts-found s computer user mailslot o t) p in
@@ -128,7 +119,7 @@ module _ (s : List ℕ) (computer user mailslot : ℕ) (o : Octets s) (t : Texts
         tokens = rw (eq-eqb (u16_at s (sid + size + 4)) LmNtToken first, eq-eqb (u16_at s (sid + size + 4 + 2)) Lm20Token second);
       }
 
-  pub tailless : (Tail s sid size → ⊥) → read.Refused MailslotShape ≡ message_as (message_in s)
+  pub tailless : (Tail s sid size → ⊥) → Err MailslotShape ≡ message_in s
   tailless none = numberless s computer user mailslot o t (λ d n. none (tail_of d n))
 
   numbers_of : Tail s sid size → Numbers s (mailslot + 1) sid
@@ -145,6 +136,6 @@ module _ (s : List ℕ) (computer user mailslot : ℕ) (o : Octets s) (t : Texts
 
   -- what the code puts together is what the message says
   pub tail_read : Tail s sid size → (repeat bits version : ℕ) → repeat ≡ u16_at s 2 → bits ≡ u32_at s (mailslot + 1) → version ≡ u32_at s (sid + size)
-      → read.Read (message_said computer user mailslot sid size repeat bits version) ≡ message_as (message_in s)
+      → Ok (message_said computer user mailslot sid size repeat bits version) ≡ message_in s
   tail_read x repeat bits version a b v =
-      rw (a, b, v, z) (sym (ap message_as (shape_read s computer user mailslot sid o t (numbers_of x))))
+      rw (a, b, v, z) (sym ((shape_read s computer user mailslot sid o t (numbers_of x))))

@@ -1,5 +1,6 @@
 -- The round trip, proved of the definitions and then of the two calls.
 pub mod Fields
+use Rattle.std.proofs.Common.{Ok, Err}
 use mathlib.Core.Path.{◌≡◌, refl, sym, ap, subst, ◌∙◌}
 use mathlib.Core.Bool.{Bool, true, false, not}
 use mathlib.Core.List.{List, [], ◌∷◌, ◌++◌, append_assoc}
@@ -9,22 +10,19 @@ use native.Mathlib.Omega.{arith}
 use lib.Dec.{eqb, ltb}
 use lib.ListN.{length, take}
 use Rattle.answers.specs.declared.Refusal.TheVariants.{MailslotShape, NoRoom}
-use Rattle.answers.specs.declared.written.Written.TheVariants as written
-use Rattle.answers.specs.Try.{Try, refused, good, refused_if}
+use Rattle.answers.specs.Try.{Try, refused_if}
 use Rattle.answers.specs.Wire.{logon_sam_logon_request}
 use Rattle.answers.specs.Written.{written_as, written_octets}
 use Rattle.octets.specs.Buffer.{over}
 use Rattle.octets.proofs.Laws.Buffer.{over_front}
 use Rattle.octets.proofs.Laws.Number.{length-little, little-back}
-use Rattle.reader.specs.Field.{stretch_of}
+use Rattle.octets.specs.Stretch.{stretch_of}
 use Rattle.reader.specs.Text.{read_text}
 use Rattle.reader.proofs.Laws.Field.{Left, left-start, left_after, left-same, octets_here}
 use Rattle.reader.proofs.Laws.Reader.{tokens, constant_here, number_here, number-after, tokens_here}
 use Rattle.reply.specs.Reply.{u16, u32, ending}
 use Rattle.mailslot.specs.declared.message.Message.{Message}
-use Rattle.mailslot.specs.declared.message.MessageRead.TheVariants as read
 use Rattle.mailslot.specs.Message.{good_message, read_zero_ended, read_sid, read_fields, message_in, message_head, padded_sid, message_octets, message_for}
-use Rattle.mailslot.specs.Read.{message_as}
 use Rattle.mailslot.proofs.Laws.Longest.{longest_message}
 use Rattle.mailslot.proofs.Laws.Shape.{GoodParts, good-parts, good_numbers}
 use Rattle.mailslot.proofs.Laws.User.{computer-text, user-text}
@@ -135,7 +133,7 @@ module _ (source : List ℕ) (m : Message) where
           version = m.version;
         }
 
-    fields_back : read_fields s ≡ good given
+    fields_back : read_fields s ≡ Ok given
     unfolding read_fields given at-sid
     fields_back =
         let fit = good_numbers source m g in
@@ -170,12 +168,12 @@ module _ (source : List ℕ) (m : Message) where
           version = refl;
         }
 
-    message_back : message_in s ≡ good given
+    message_back : message_in s ≡ Ok given
     unfolding message_in
     message_back = rw (message_in, fields_back, good-same s given source m same_message, g)
 
 -- an answer that refuses nothing: the message is good, and the octets are those written
-answered : (a b : Bool) (o octets : List ℕ) → refused_if (not a) MailslotShape (refused_if b NoRoom (good o)) ≡ good octets → (a ≡ true) × (o ≡ octets)
+answered : (a b : Bool) (o octets : List ℕ) → refused_if (not a) MailslotShape (refused_if b NoRoom (Ok o)) ≡ Ok octets → (a ≡ true) × (o ≡ octets)
 answered false b o octets e = let z : ◌≡◌ {A = ℕ} 0 1 = cc in absurd (omega arith)
 answered true true o octets e = let z : ◌≡◌ {A = ℕ} 0 1 = cc in absurd (omega arith)
 answered true false o octets e = (refl, cc)
@@ -184,20 +182,20 @@ pub round_trip : RoundTrip
 unfolding message_for
 round_trip source m room octets e =
     let a = answered (good_message source m) (ltb room (length (message_octets source m))) (message_octets source m) octets e in
-    subst (λ (x : List ℕ). (q : Message) × (message_in x ≡ good q) × SameMessage x q source m) a.1
+    subst (λ (x : List ℕ). (q : Message) × (message_in x ≡ Ok q) × SameMessage x q source m) a.1
     (given source m a.0, message_back source m a.0, same_message source m a.0)
 
 pub calls_round_trip : CallsRoundTrip
 calls_round_trip source m before after w n r wrote laid answer took = by (message_for source m (length before)) refl
   where
-    by : (o : Try (List ℕ)) → message_for source m (length before) ≡ o → (q : Message) × (r ≡ read.Read q) × SameMessage (take n after) q source m
-    by (refused x) e =
-        let f : written.Refused x ≡ written.Length n = sym (ap written_as e) ∙ sym wrote.same ∙ answer in
+    by : (o : Try (List ℕ)) → message_for source m (length before) ≡ o → (q : Message) × (r ≡ Ok q) × SameMessage (take n after) q source m
+    by (Err x) e =
+        let f : ◌≡◌ {A = Try ℕ} (Err x) (Ok n) = sym (ap written_as e) ∙ sym wrote.same ∙ answer in
         let z : ◌≡◌ {A = ℕ} 0 1 = cc in
         absurd (omega arith)
-    by (good octets) e =
-        let f : written.Length (length octets) ≡ written.Length n = sym (ap written_as e) ∙ sym wrote.same ∙ answer in
+    by (Ok octets) e =
+        let f : ◌≡◌ {A = Try ℕ} (Ok (length octets)) (Ok n) = sym (ap written_as e) ∙ sym wrote.same ∙ answer in
         let l : length octets ≡ n = cc in
         let t : take n after ≡ octets = ap (take n) (laid ∙ ap (λ (x : Try (List ℕ)). over (written_octets x) before) e) ∙ over_front octets before n l in
         let b = round_trip source m (length before) octets e in
-        (b.0, took.same ∙ ap (λ (x : List ℕ). message_as (message_in x)) t ∙ ap message_as b.1, subst (λ (x : List ℕ). SameMessage x b.0 source m) (sym t) b.2)
+        (b.0, took.same ∙ ap message_in t ∙ b.1, subst (λ (x : List ℕ). SameMessage x b.0 source m) (sym t) b.2)

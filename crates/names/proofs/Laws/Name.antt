@@ -1,8 +1,8 @@
 -- What is written as a name walks back to its labels, with pointers no more than the labels and than the names before it.
+use Rattle.std.proofs.Common.{Option, None, Some}
 use mathlib.Core.Path.{◌≡◌, refl, sym, ap, ap₂, ◌∙◌, subst}
 use mathlib.Core.Bool.{true}
 use mathlib.Core.List.{List, [], ◌∷◌, ◌++◌, append_assoc, append-nil}
-use mathlib.Core.Option.{Option, none, some}
 use Prim.Native.Nat.{ℕ, zero, suc, ◌+◌, ◌/◌, ◌%◌, ◌<◌, ◌≤◌}
 use native.Mathlib.Omega.{arith}
 use lib.ListN.{length, get_or, take, length-append}
@@ -131,11 +131,11 @@ labels-written earlier k run (l ∷ ls) p at e h room ready plain =
     go : (f : Option Tail) → first (λ t. same t.text (joined (l ∷ ls))) earlier ≡ f
         → Written k run (at + (1 + length l)) ls ((p ++ literal_label l) ++ rest.octets) rest.tails
         → Written k run at (l ∷ ls) (p ++ (pointer_or f here).octets) (pointer_or f here).tails
-    go none q w =
+    go None q w =
         subst (λ (x : ℕ). Written k run x (l ∷ ls) (p ++ (literal_label l ++ rest.octets)) (record { offset = x; text = joined (l ∷ ls) } ∷ rest.tails)) e
         (label-written k run p l ls plain rest.octets rest.tails (omega arith)
         (subst (λ (x : ℕ). Written k run (x + (1 + length l)) ls ((p ++ literal_label l) ++ rest.octets) rest.tails) (sym e) w))
-    go (some t) q w =
+    go (Some t) q w =
         let f : Ready k run p t × (same t.text (joined (l ∷ ls)) ≡ true) = found (λ t. same t.text (joined (l ∷ ls))) (Ready k run p) earlier t ready q in
         let x : labels t.text ≡ l ∷ ls = ap labels (same_equal t.text (joined (l ∷ ls)) f.1) ∙ labels-joined (l ∷ ls) plain in
         subst (λ (y : ℕ). Written k run y (l ∷ ls) (p ++ pointer_to t.offset) []) e (pointer-written k run p t (l ∷ ls) x (omega (arith, f.0.below)) f.0)
@@ -155,8 +155,8 @@ labels-short earlier at (l ∷ ls) = go (first (λ t. same t.text (joined (l ∷
     here = literally at (joined (l ∷ ls)) l rest
 
     go : (f : Option Tail) → length rest.octets ≤ size ls → length (pointer_or f here).octets ≤ size (l ∷ ls)
-    go none h = simp length-append (omega arith)
-    go (some t) h = omega (arith, size_positive ls)
+    go None h = simp length-append (omega arith)
+    go (Some t) h = omega (arith, size_positive ls)
 
 abbrev pub sizes : List (List ℕ) → ℕ
 sizes [] = 0

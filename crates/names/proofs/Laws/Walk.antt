@@ -1,8 +1,8 @@
 -- The relation is sound and complete for the function, and blind to octets appended.
+use Rattle.std.proofs.Common.{Option, None, Some, option_map}
 use mathlib.Core.Path.{◌≡◌, refl, ap, ◌∙◌, subst}
 use mathlib.Core.Bool.{Bool, true, false}
 use mathlib.Core.List.{List, [], ◌∷◌, ◌++◌}
-use mathlib.Core.Option.{Option, none, some, map}
 use Prim.Native.Nat.{ℕ, zero, suc, ◌+◌, ◌*◌, ◌-◌, ◌/◌, ◌<◌, ◌≤◌}
 use native.Mathlib.Nat.{mul-le-mul_right, suc-mul}
 use native.Mathlib.Omega.{arith}
@@ -136,32 +136,32 @@ bound_steps s at h =
     let q : suc (length s) * suc (length s) ≡ length s * suc (length s) + suc (length s) = suc-mul (length s) (suc (length s)) in
     omega arith
 
-when_true : (b : Bool) (x : Option WalkedName) → b ≡ true → elim b as (λ y. Option WalkedName) [ true ↦ x | false ↦ none ] ≡ x
+when_true : (b : Bool) (x : Option WalkedName) → b ≡ true → elim b as (λ y. Option WalkedName) [ true ↦ x | false ↦ None ] ≡ x
 when_true true x e = refl
 when_true false x e = let z : ◌≡◌ {A = ℕ} 0 1 = cc in absurd (omega arith)
 
 module _ (s : List ℕ) (run at k : ℕ) where
-  from_end : look_at s at ≡ end → walk_from (suc k) s run at ≡ some (record { labels = []; pointers = 0 })
+  from_end : look_at s at ≡ end → walk_from (suc k) s run at ≡ Some (record { labels = []; pointers = 0 })
   unfolding walk_from
   from_end e = rw e
 
-  from-label : (n : ℕ) → look_at s at ≡ label n → at + 1 + n ≤ length s → walk_from (suc k) s run at ≡ map (with_label (label_at s at n)) (walk_from k s run (at + 1 + n))
+  from-label : (n : ℕ) → look_at s at ≡ label n → at + 1 + n ≤ length s → walk_from (suc k) s run at ≡ option_map (with_label (label_at s at n)) (walk_from k s run (at + 1 + n))
   unfolding walk_from
   from-label n e h = rw e (when_true (leb (at + 1 + n) (length s)) _ (le-leb (at + 1 + n) (length s) h))
 
-  from-pointer : (t : ℕ) → look_at s at ≡ pointer t → t < run → walk_from (suc k) s run at ≡ map with_pointer (walk_from k s t t)
+  from-pointer : (t : ℕ) → look_at s at ≡ pointer t → t < run → walk_from (suc k) s run at ≡ option_map with_pointer (walk_from k s t t)
   unfolding walk_from
   from-pointer t e h = rw e (when_true (ltb t run) _ (lt-ltb t run h))
 
 pub complete : {s : List ℕ} {run at c next : ℕ} {ls : List (List ℕ)} → Walks s run at ls c next → (k : ℕ) → bound s run at < k
-    → walk_from k s run at ≡ some (record { labels = ls; pointers = c })
+    → walk_from k s run at ≡ Some (record { labels = ls; pointers = c })
 complete w zero b = absurd (omega arith)
 complete {s} {run} {at} (ends e) (suc k) b = from_end s run at k e
 complete {s} {run} {at} (reads {n = n} {c = c} {ls = ls} e h l w) (suc k) b =
-    rw (from-label s run at k n e h, complete {at = at + 1 + n} w k (bound_read s run at n k h b)) (ap (λ (x : List ℕ). some (record { labels = x ∷ ls; pointers = c })) l)
+    rw (from-label s run at k n e h, complete {at = at + 1 + n} w k (bound_read s run at n k h b)) (ap (λ (x : List ℕ). Some (record { labels = x ∷ ls; pointers = c })) l)
 complete {s} {run} {at} (points {t = t} e h w) (suc k) b = rw (from-pointer s run at k t e h, complete {run = t} {at = t} w k (bound_jump s run at t k h b))
 
-pub finds : {s : List ℕ} {at c next : ℕ} {ls : List (List ℕ)} → Walks s at at ls c next → walk s at ≡ some (record { labels = ls; pointers = c })
+pub finds : {s : List ℕ} {at c next : ℕ} {ls : List (List ℕ)} → Walks s at at ls c next → walk s at ≡ Some (record { labels = ls; pointers = c })
 unfolding walk
 finds {s} {at} w = complete w (steps s) (bound_steps s at (walk_inside w))
 
@@ -174,40 +174,40 @@ walk_finds s at c next ls w = finds w
 abbrev WalksTo : List ℕ → ℕ → ℕ → WalkedName → Type 0
 WalksTo s run at m = (next : ℕ) × Walks s run at m.labels m.pointers next
 
-pub sound : (k : ℕ) (s : List ℕ) (run at : ℕ) (m : WalkedName) → walk_from k s run at ≡ some m → WalksTo s run at m
+pub sound : (k : ℕ) (s : List ℕ) (run at : ℕ) (m : WalkedName) → walk_from k s run at ≡ Some m → WalksTo s run at m
 unfolding walk_from
 sound zero s run at m e = absurd (none_not_some m e)
 sound (suc k) s run at m e = go (look_at s at) refl e (λ r a n q. sound k s r a n q)
   where
     Deeper : Type 0
-    Deeper = (r a : ℕ) (n : WalkedName) → walk_from k s r a ≡ some n → WalksTo s r a n
+    Deeper = (r a : ℕ) (n : WalkedName) → walk_from k s r a ≡ Some n → WalksTo s r a n
 
     after-label : (n : ℕ) → look_at s at ≡ label n → (b : Bool) → leb (at + 1 + n) (length s) ≡ b → (r : Option WalkedName)
-        → elim b as (λ y. Option WalkedName) [ true ↦ map (with_label (label_at s at n)) r | false ↦ none ] ≡ some m
-        → ((y : WalkedName) → r ≡ some y → WalksTo s run (at + 1 + n) y) → WalksTo s run at m
+        → elim b as (λ y. Option WalkedName) [ true ↦ option_map (with_label (label_at s at n)) r | false ↦ None ] ≡ Some m
+        → ((y : WalkedName) → r ≡ Some y → WalksTo s run (at + 1 + n) y) → WalksTo s run at m
     after-label n v false h r q f = absurd (none_not_some m q)
-    after-label n v true h none q f = absurd (none_not_some m q)
-    after-label n v true h (some y) q f =
+    after-label n v true h None q f = absurd (none_not_some m q)
+    after-label n v true h (Some y) q f =
         let d = f y refl in
         let z : record { labels = label_at s at n ∷ y.labels; pointers = y.pointers } ≡ m = cc in
         subst (WalksTo s run at) z (d.0, reads v (leb-true (at + 1 + n) (length s) h) refl d.1)
 
     after-pointer : (t : ℕ) → look_at s at ≡ pointer t → (b : Bool) → ltb t run ≡ b → (r : Option WalkedName)
-        → elim b as (λ y. Option WalkedName) [ true ↦ map with_pointer r | false ↦ none ] ≡ some m
-        → ((y : WalkedName) → r ≡ some y → WalksTo s t t y) → WalksTo s run at m
+        → elim b as (λ y. Option WalkedName) [ true ↦ option_map with_pointer r | false ↦ None ] ≡ Some m
+        → ((y : WalkedName) → r ≡ Some y → WalksTo s t t y) → WalksTo s run at m
     after-pointer t v false h r q f = absurd (none_not_some m q)
-    after-pointer t v true h none q f = absurd (none_not_some m q)
-    after-pointer t v true h (some y) q f =
+    after-pointer t v true h None q f = absurd (none_not_some m q)
+    after-pointer t v true h (Some y) q f =
         let d = f y refl in
         let z : record { labels = y.labels; pointers = suc y.pointers } ≡ m = cc in
         subst (WalksTo s run at) z (at + 2, points v (ltb-true t run h) d.1)
 
     go : (v : Look) → look_at s at ≡ v
-        → on_look v (some (record { labels = []; pointers = 0 }))
-        (λ n. elim (leb (at + 1 + n) (length s)) as (λ y. Option WalkedName) [ true ↦ map (with_label (label_at s at n)) (walk_from k s run (at + 1 + n)) | false ↦ none ])
-        (λ t. elim (ltb t run) as (λ y. Option WalkedName) [ true ↦ map with_pointer (walk_from k s t t) | false ↦ none ])
-        none none
-        ≡ some m
+        → on_look v (Some (record { labels = []; pointers = 0 }))
+        (λ n. elim (leb (at + 1 + n) (length s)) as (λ y. Option WalkedName) [ true ↦ option_map (with_label (label_at s at n)) (walk_from k s run (at + 1 + n)) | false ↦ None ])
+        (λ t. elim (ltb t run) as (λ y. Option WalkedName) [ true ↦ option_map with_pointer (walk_from k s t t) | false ↦ None ])
+        None None
+        ≡ Some m
         → Deeper → WalksTo s run at m
     go end v q f = let z : record { labels = []; pointers = 0 } ≡ m = cc in subst (WalksTo s run at) z (at + 1, ends v)
     go (label n) v q f = after-label n v (leb (at + 1 + n) (length s)) refl (walk_from k s run (at + 1 + n)) q (λ y r. f run (at + 1 + n) y r)

@@ -1,17 +1,12 @@
 -- A name as it is planned: what it writes, what later names may point to, and the search for a tail.
-use Rattle.std.specs.Prelude.{◌≡◌, Bool, cond, ◌&&◌, ℕ, zero, suc, ◌+◌, ◌-◌, ◌*◌, ◌≤◌, ◌<◌, eqb, leb, ltb, length, get_or, take, drop}
+use Rattle.std.specs.Prelude.{◌≡◌, Bool, cond, ◌&&◌, ℕ, zero, suc, ◌+◌, ◌-◌, ◌*◌, ◌≤◌, ◌<◌, eqb, leb, ltb, length, get_or, take, drop, Option, None, Some}
 use mathlib.Core.List.{List, [], ◌∷◌, ◌++◌, flat_map, map}
-use Rattle.std.proofs.Math.Option.{Option, none, some}
 use Rattle.octets.specs.Label.{labels, joined}
 use Rattle.octets.specs.Lists.{first}
 use Rattle.octets.specs.Text.{same}
-use Rattle.lent.specs.declared.stretch.Lender.TheVariants.{Table}
 use Rattle.lent.specs.declared.stretch.Stretch.{Stretch}
-use Rattle.lent.specs.Internal.Stretch.{octets_at}
-use Rattle.names.specs.declared.plan.Ending.{Ending}
-use Rattle.names.specs.declared.plan.Ending.TheVariants.{Zero, Pointer}
+use Rattle.lent.specs.Internal.Stretch.{octets_at, empty_stretch}
 use Rattle.names.specs.declared.plan.Aim.{Aim}
-use Rattle.names.specs.declared.plan.Aim.TheVariants.{At, Nothing}
 use Rattle.names.specs.declared.plan.PlannedName.{PlannedName}
 use Rattle.names.specs.declared.plan.NamesPlan.{NamesPlan}
 use Rattle.names.specs.Name.{Tail, Writing, pointer_limit, pointer_to, literal_label, write_name, write_names}
@@ -63,46 +58,50 @@ offers_size earlier literal size common = leb size common && ltb (length earlier
 
 -- ---- the search
 
+abbrev pub aimed : ℕ → ℕ → Option Aim
+aimed before offset = Some (record { before = before; offset = offset })
+
 -- with n octets more before it
-abbrev pub shift : ℕ → Aim → Aim
-shift n (At before offset) = At (n + before) offset
-shift n Nothing = Nothing
+abbrev pub shift : ℕ → Option Aim → Option Aim
+shift n (Some a) = aimed (n + a.before) a.offset
+shift n None = None
 
 -- a tail to point to at once, or the aim further on
-abbrev pub aim_or : Option Tail → Aim → Aim
-aim_or (some t) rest = At 0 t.offset
-aim_or none rest = rest
+abbrev pub aim_or : Option Tail → Option Aim → Option Aim
+aim_or (Some t) rest = aimed 0 t.offset
+aim_or None rest = rest
 
 -- where a pointer to an earlier tail may end a name first
-unfoldable pub first_aim : List Tail → List (List ℕ) → Aim
-first_aim earlier [] = Nothing
+unfoldable pub first_aim : List Tail → List (List ℕ) → Option Aim
+first_aim earlier [] = None
 first_aim earlier (l ∷ ls) = aim_or (first (λ t. same t.text (joined (l ∷ ls))) earlier) (shift (1 + length l) (first_aim earlier ls))
 
 -- of two aims the one with fewer octets before it, the first where they agree
-abbrev pub better_aim : Aim → Aim → Aim
-better_aim Nothing b = b
-better_aim (At before offset) Nothing = At before offset
-better_aim (At before offset) (At other lower) = cond (ltb other before) (At other lower) (At before offset)
+abbrev pub better_aim : Option Aim → Option Aim → Option Aim
+better_aim None b = b
+better_aim (Some a) None = Some a
+better_aim (Some a) (Some b) = cond (ltb b.before a.before) (Some b) (Some a)
 
 -- an aim in a text of n octets, at an offset that a pointer can hold
-abbrev pub AimWithin : ℕ → Aim → Type 0
-AimWithin n (At before offset) = (before ≤ n) × (offset < pointer_limit)
-AimWithin n Nothing = Unit {0}
+abbrev pub AimWithin : ℕ → Option Aim → Type 0
+AimWithin n (Some a) = (a.before ≤ n) × (a.offset < pointer_limit)
+AimWithin n None = Unit {0}
 
 -- ---- planned names
 
-abbrev pub ending_octets : Ending → List ℕ
-ending_octets Zero = 0 ∷ []
-ending_octets (Pointer offset) = pointer_to offset
+-- a pointer, or a zero octet where there is none
+abbrev pub ending_octets : Option ℕ → List ℕ
+ending_octets None = 0 ∷ []
+ending_octets (Some offset) = pointer_to offset
 
-abbrev pub PointsLow : Ending → Type 0
-PointsLow Zero = Unit {0}
-PointsLow (Pointer offset) = offset < pointer_limit
+abbrev pub PointsLow : Option ℕ → Type 0
+PointsLow None = Unit {0}
+PointsLow (Some offset) = offset < pointer_limit
 
 -- a name of n octets, by its aim
-abbrev pub plan_by : Stretch → ℕ → ℕ → Aim → PlannedName
-plan_by text n offset (At before aimed) = record { text = text; offset = offset; literal = before; ending = Pointer aimed }
-plan_by text n offset Nothing = record { text = text; offset = offset; literal = literal_size n; ending = Zero }
+abbrev pub plan_by : Stretch → ℕ → ℕ → Option Aim → PlannedName
+plan_by text n offset (Some a) = record { text = text; offset = offset; literal = a.before; pointer = Some a.offset }
+plan_by text n offset None = record { text = text; offset = offset; literal = literal_size n; pointer = None }
 
 module _ (table request : List ℕ) where
   abbrev pub text_of : PlannedName → List ℕ
@@ -110,7 +109,7 @@ module _ (table request : List ℕ) where
 
   -- what a planned name writes, and the tails that later names may point to
   unfoldable pub name_octets : PlannedName → List ℕ
-  name_octets name = take name.«literal» (literal_octets (text_of name)) ++ ending_octets name.«ending»
+  name_octets name = take name.«literal» (literal_octets (text_of name)) ++ ending_octets name.pointer
 
   unfoldable pub name_tails : PlannedName → List Tail
   name_tails name = tails_from name.«offset» name.«literal» (labels (text_of name))
@@ -127,12 +126,11 @@ module _ (table request : List ℕ) where
   abbrev pub writings_of : List PlannedName → Writing
   writings_of names = record { octets = names_octets names; tails = names_tails names }
 
-  -- no more octets of the labels than there are, a short text, and offsets that a pointer can hold
+  -- no more octets of the labels than there are, and offsets that a pointer can hold
   pub record Fit (name : PlannedName) : Type 0 where
     pub labels : name.«literal» ≤ length (literal_octets (text_of name))
-    pub short : name.«text».«len» ≤ 255
     pub low : name.«offset» ≤ 8192
-    pub aims : PointsLow name.«ending»
+    pub aims : PointsLow name.pointer
 
   abbrev pub AllFit : List PlannedName → Type 0
   AllFit [] = Unit {0}
@@ -147,15 +145,12 @@ module _ (table request : List ℕ) where
     pub writes : write_name (names_tails names) offset (octets_at table request text) ≡ writing_of r
 
   -- the plan of names one after the other
-  pub record PlansOf (texts : List Stretch) (count : ℕ) (offset : ℕ) (r : NamesPlan) : Type 0 where
-    pub fit : AllFit (take count r.«names»)
-    pub writes : write_names [] offset (map (octets_at table request) (take count texts)) ≡ writings_of (take count r.«names»)
-    pub ends : r.«end» ≡ offset + length (names_octets (take count r.«names»))
-    pub small : r.«end» ≤ offset + 257 * count
+  pub record PlansOf (texts : List Stretch) (offset : ℕ) (r : NamesPlan) : Type 0 where
+    pub fit : AllFit (take (length texts) r.«names»)
+    pub writes : write_names [] offset (map (octets_at table request) texts) ≡ writings_of (take (length texts) r.«names»)
+    pub ends : r.«end» ≡ offset + length (names_octets (take (length texts) r.«names»))
+    pub small : r.«end» ≤ offset + 257 * length texts
 
--- what a stretch is past the end of an array
-abbrev pub empty_stretch : Stretch
-empty_stretch = record { lender = Table; start = 0; len = 0 }
-
-abbrev pub ShortTexts : List Stretch → ℕ → Type 0
-ShortTexts texts count = (k : ℕ) → k < count → (get_or texts k empty_stretch).«len» ≤ 255
+-- what stands past the end of an array of names
+abbrev pub blank_name : PlannedName
+blank_name = record { text = empty_stretch; offset = 0; literal = 0; pointer = None }

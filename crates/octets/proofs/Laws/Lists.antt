@@ -1,16 +1,16 @@
 -- Laws of tests, stretches and pieces of a list.
+use Rattle.std.proofs.Common.{Option, None, Some, option_map, is_some}
 use mathlib.Core.Path.{◌≡◌, refl, sym, ap, ◌∙◌, subst, ap₂}
 use mathlib.Core.Bool.{Bool, true, false, ◌&&◌, ◌||◌, cond, not, and-true, and-false, and_assoc}
 use mathlib.Core.List.{List, [], ◌∷◌, ◌++◌, map, flat_map}
-use mathlib.Core.Option
-use mathlib.Core.Option.{Option, none, some}
 use Prim.Native.Nat.{ℕ, zero, suc, ◌+◌, ◌-◌, ◌*◌, ◌≤◌, ◌<◌}
 use native.Mathlib.Nat.{mul-zero, mul-suc, sub-zero, zero-sub, suc-sub-suc, add_comm, not-suc-le-zero, le_of_suc-le-suc, suc-mul}
 use native.Mathlib.Omega.{arith}
 use native.Mathlib.Numerals.{add-one}
 use lib.ListN.{length, get_or, take, drop, length-take, length-drop, take-append-drop, drop_of_length-le}
 use lib.Seq.{take-suc, drop-cons, get_or-drop, take-take, drop-drop, take-nil, take_all, take-append_seam, drop-append_seam, take-append-le, drop-append-le, length-take-le}
-use Rattle.octets.specs.Lists.{all, any, first, first_or, keep, keep_if, cut, pieces, unique, is_some}
+use Rattle.std.specs.List.{list_all, list_any}
+use Rattle.octets.specs.Lists.{all, any, first, first_or, keep, keep_if, cut, pieces, unique}
 
 module _ {A : Type 0} where
   module _ (p : A → Bool) (s : List A) (i : ℕ) (d : A) (h : i < length s) where
@@ -79,8 +79,8 @@ module _ {A : Type 0} where
       go false e = e
 
   abbrev pub or_else : Option A → Option A → Option A
-  or_else none o = o
-  or_else (some x) o = some x
+  or_else None o = o
+  or_else (Some x) o = Some x
 
   pub first-append : (p : A → Bool) (s t : List A) → first p (s ++ t) ≡ or_else (first p s) (first p t)
   unfolding first
@@ -115,7 +115,7 @@ module _ {A : Type 0} where
 pub true_not_false : true ≡ false → ⊥
 true_not_false e = let z : ◌≡◌ {A = ℕ} 0 1 = cc in omega arith
 
-pub none_not_some : {A : Type 0} (x : A) → none ≡ some x → ⊥
+pub none_not_some : {A : Type 0} (x : A) → None ≡ Some x → ⊥
 none_not_some x e = let z : ◌≡◌ {A = ℕ} 0 1 = cc in omega arith
 
 -- what holds in either case of a test holds of what it picks
@@ -196,26 +196,26 @@ module _ {A : Type 0} where
       go false e r = r
 
   -- what is found is one of the list, and passed the test
-  pub found : (p : A → Bool) (P : A → Type 0) (xs : List A) (y : A) → Every P xs → first p xs ≡ some y → P y × (p y ≡ true)
+  pub found : (p : A → Bool) (P : A → Type 0) (xs : List A) (y : A) → Every P xs → first p xs ≡ Some y → P y × (p y ≡ true)
   unfolding first
   found p P [] y h e = absurd (none_not_some y e)
   found p P (x ∷ xs) y h e = go (p x) refl (λ q. found p P xs y h.1 q)
     where
-      go : (b : Bool) → p x ≡ b → (first p xs ≡ some y → P y × (p y ≡ true)) → P y × (p y ≡ true)
+      go : (b : Bool) → p x ≡ b → (first p xs ≡ Some y → P y × (p y ≡ true)) → P y × (p y ≡ true)
       go true q f =
-          let s : some x ≡ some y = rw q at e in
+          let s : Some x ≡ Some y = rw q at e in
           let k : x ≡ y = cc in
           subst (λ (z : A). P z × (p z ≡ true)) k (h.0, q)
       go false q f = f (rw q at e)
 
 -- where nothing is found, nothing passes
-pub not_found : {A : Type 0} (p : A → Bool) (xs : List A) → first p xs ≡ none → Every (λ x. p x ≡ false) xs
+pub not_found : {A : Type 0} (p : A → Bool) (xs : List A) → first p xs ≡ None → Every (λ x. p x ≡ false) xs
 unfolding first
 not_found p [] e = tt
 not_found p (x ∷ xs) e = go (p x) refl (λ q. not_found p xs q)
   where
-    go : (b : Bool) → p x ≡ b → (first p xs ≡ none → Every (λ y. p y ≡ false) xs) → Every (λ y. p y ≡ false) (x ∷ xs)
-    go true q f = let s : some x ≡ none = rw q at e in absurd (none_not_some x (sym s))
+    go : (b : Bool) → p x ≡ b → (first p xs ≡ None → Every (λ y. p y ≡ false) xs) → Every (λ y. p y ≡ false) (x ∷ xs)
+    go true q f = let s : Some x ≡ None = rw q at e in absurd (none_not_some x (sym s))
     go false q f = (q, f (rw q at e))
 
 pub none_any : {A : Type 0} (p : A → Bool) (xs : List A) → Every (λ x. p x ≡ false) xs → any p xs ≡ false
@@ -295,12 +295,12 @@ module _ {A : Type 0} where
       found false e = e
 
   -- the test holds of what is found
-  pub first_holds : (p : A → Bool) (xs : List A) (y : A) → first p xs ≡ some y → p y ≡ true
+  pub first_holds : (p : A → Bool) (xs : List A) (y : A) → first p xs ≡ Some y → p y ≡ true
   unfolding first
   first_holds p [] y e = let z : ◌≡◌ {A = ℕ} 0 1 = cc in absurd (omega arith)
   first_holds p (x ∷ xs) y e = found (p x) refl e (first_holds p xs y)
     where
-      found : (b : Bool) → p x ≡ b → first_or b x (first p xs) ≡ some y → (first p xs ≡ some y → p y ≡ true) → p y ≡ true
+      found : (b : Bool) → p x ≡ b → first_or b x (first p xs) ≡ Some y → (first p xs ≡ Some y → p y ≡ true) → p y ≡ true
       found true q f rest = let h : x ≡ y = cc in ap p (sym h) ∙ q
       found false q f rest = rest f
 
@@ -332,12 +332,12 @@ module _ {A : Type 0} where
 
 -- a search in a list made of another, and in what a test keeps of it
 module _ {A B : Type 0} (f : A → B) (p : B → Bool) where
-  pub first-map : (s : List A) → first p (map f s) ≡ Option.map f (first (λ x. p (f x)) s)
+  pub first-map : (s : List A) → first p (map f s) ≡ option_map f (first (λ x. p (f x)) s)
   unfolding first
   first-map [] = refl
   first-map (x ∷ s) = go (p (f x)) (first-map s)
     where
-      go : (b : Bool) → first p (map f s) ≡ Option.map f (first (λ y. p (f y)) s) → first_or b (f x) (first p (map f s)) ≡ Option.map f (first_or b x (first (λ y. p (f y)) s))
+      go : (b : Bool) → first p (map f s) ≡ option_map f (first (λ y. p (f y)) s) → first_or b (f x) (first p (map f s)) ≡ option_map f (first_or b x (first (λ y. p (f y)) s))
       go true e = refl
       go false e = e
 
@@ -383,14 +383,14 @@ module _ {A : Type 0} where
     first_step = rw (add-one, drop-cons s i d)
 
     -- what is left at i: the element there is the first that passes the test
-    pub first_here : p (get_or s i d) ≡ true → some (get_or s i d) ≡ first p (drop i s)
+    pub first_here : p (get_or s i d) ≡ true → Some (get_or s i d) ≡ first p (drop i s)
     first_here e = sym (first_step ∙ ap (λ b. first_or b (get_or s i d) (first p (drop (i + 1) s))) e)
 
     -- it fails, and what is left after it decides
     pub first_next : p (get_or s i d) ≡ false → first p (drop (i + 1) s) ≡ first p (drop i s)
     first_next e = sym (first_step ∙ ap (λ b. first_or b (get_or s i d) (first p (drop (i + 1) s))) e)
 
-  pub first-end : (p : A → Bool) (s : List A) (i : ℕ) → length s ≤ i → none ≡ first p (drop i s)
+  pub first-end : (p : A → Bool) (s : List A) (i : ℕ) → length s ≤ i → None ≡ first p (drop i s)
   unfolding first
   first-end p s i h = rw (drop_of_length-le s)
 
@@ -509,3 +509,18 @@ module _ {A : Type 0} (p : A → Bool) where
   unfolding all flat_map
   all_flat f [] = refl
   all_flat f (x ∷ s) = all_append (f x) (flat_map f s) ∙ ap (λ b. all p (f x) && b) (all_flat f s)
+
+-- std's tests of lists are these
+pub list_all_is : {A : Type 0} (p : A → Bool) (s : List A) → list_all p s ≡ all p s
+unfolding all
+list_all_is p [] = refl
+list_all_is p (x ∷ s) = ap (λ (b : Bool). p x && b) (list_all_is p s)
+
+pub not_list_any : {A : Type 0} (p : A → Bool) (s : List A) → not (list_any p s) ≡ all (λ x. not (p x)) s
+unfolding all
+not_list_any p [] = refl
+not_list_any p (x ∷ s) = go (p x) (not_list_any p s)
+  where
+    go : (b : Bool) → not (list_any p s) ≡ all (λ y. not (p y)) s → not (b || list_any p s) ≡ (not b && all (λ y. not (p y)) s)
+    go true e = refl
+    go false e = e

@@ -50,6 +50,13 @@ pub u32_halves : (s : List ℕ) (at : ℕ) → at + 4 ≤ length s → little (c
 unfolding little
 u32_halves s at h = rw (cut_four s at h, cut-two s at (omega arith)) (omega arith)
 
+pub u32_octets : (s : List ℕ) (at : ℕ) → at + 4 ≤ length s
+    → little (cut s at 4) ≡ get_or s at 0 + 256 * get_or s (at + 1) 0 + 65536 * get_or s (at + 2) 0 + 16777216 * get_or s (at + 3) 0
+u32_octets s at h =
+    let e : at + 2 + 1 ≡ at + 3 = omega arith in
+    let high = u16-octets s (at + 2) (omega arith) ∙ ap (λ (i : ℕ). get_or s (at + 2) 0 + 256 * get_or s i 0) e in
+    omega (arith, u32_halves s at h, u16-octets s at (omega arith), high)
+
 pub big-one : (s : List ℕ) (at : ℕ) → at < length s → big (cut s at 1) ≡ get_or s at 0
 unfolding big little
 big-one s at h = rw (cut-cons s at 0 0) (omega arith)

@@ -1,16 +1,20 @@
 -- Laws of comparing texts: over what is left at an index, for any way of folding an octet.
-use mathlib.Core.Path.{◌≡◌, refl, sym, ap, ◌∙◌}
-use mathlib.Core.Bool.{Bool, true, false, ◌&&◌}
+use mathlib.Core.Path.{◌≡◌, refl, sym, ap, ap₂, ◌∙◌}
+use mathlib.Core.Bool.{Bool, true, false, ◌&&◌, ◌||◌, and_assoc}
 use mathlib.Core.List.{List, [], ◌∷◌, map}
-use Prim.Native.Nat.{ℕ, zero, suc, ◌+◌, ◌≤◌, ◌<◌}
-use native.Mathlib.Numerals.{add-one}
-use lib.Dec.{eqb, leb}
-use lib.ListN.{length, get_or, drop, drop_of_length-le}
-use lib.Seq.{drop-cons}
-use borrow.Author.Tests.{eq-eqb, ne_eqb, eqb-true, leb-true, eqb-false, le-leb, lt-leb}
+use Prim.Native.Nat.{ℕ, zero, suc, ◌*◌, ◌≤◌, ◌<◌}
+use native.Mathlib.Omega.{arith}
+use lib.Dec.{eqb, leb, ltb}
+use lib.ListN.{length, get_or, take, replicate, drop, length-drop}
+use lib.Seq.{drop-drop}
+use borrow.Author.Tests.{eq-eqb, ne_eqb, eqb-true, leb-true, eqb-false, le-leb, lt-leb, ltb-true, ltb-false}
+use lib.Pointwise.{pointwise}
+use Rattle.std.specs.Char.{to_ascii_lowercase, eq_ignore_ascii_case}
+use Rattle.std.specs.List.{list_all, zip}
+use Rattle.std.specs.Simd.{first_chunks}
 use Rattle.octets.specs.Lists.{all}
 use Rattle.octets.specs.Text.{same, within, lower, same_folded, all_zero}
-use Rattle.octets.proofs.Laws.Lists.{both_left, both_right, true_not_false}
+use Rattle.octets.proofs.Laws.Lists.{all-parts, cut-length, both_left, both_right, true_not_false}
 
 -- texts of other lengths are not the same
 pub same_lengths : (x y : List ℕ) → (length x ≡ length y → ⊥) → same x y ≡ false
@@ -23,24 +27,6 @@ same_lengths (x ∷ xs) (y ∷ ys) h = go (eqb x y) (same_lengths xs ys (λ e. h
     go : (t : Bool) → same xs ys ≡ false → t && same xs ys ≡ false
     go true e = e
     go false e = refl
-
-module _ (f : ℕ → ℕ) where
-  module _ (a b : List ℕ) (i : ℕ) (ha : i < length a) (hb : i < length b) where
-    same_step : same (map f (drop i a)) (map f (drop i b)) ≡ (eqb (f (get_or a i 0)) (f (get_or b i 0)) && same (map f (drop (i + 1) a)) (map f (drop (i + 1) b)))
-    unfolding same
-    same_step = rw (add-one, drop-cons a i 0 ha, drop-cons b i 0 hb)
-
-    -- what is left at i: the octets there differ
-    pub same_fails : (f (get_or a i 0) ≡ f (get_or b i 0) → ⊥) → false ≡ same (map f (drop i a)) (map f (drop i b))
-    same_fails n = sym (same_step ∙ ap (λ t. t && same (map f (drop (i + 1) a)) (map f (drop (i + 1) b))) (ne_eqb (f (get_or a i 0)) (f (get_or b i 0)) n))
-
-    -- they agree, and what is left after them decides
-    pub same_next : f (get_or a i 0) ≡ f (get_or b i 0) → same (map f (drop (i + 1) a)) (map f (drop (i + 1) b)) ≡ same (map f (drop i a)) (map f (drop i b))
-    same_next e = sym (same_step ∙ ap (λ t. t && same (map f (drop (i + 1) a)) (map f (drop (i + 1) b))) (eq-eqb (f (get_or a i 0)) (f (get_or b i 0)) e))
-
-  pub same_end : (a b : List ℕ) (i : ℕ) → length a ≤ i → length b ≤ i → true ≡ same (map f (drop i a)) (map f (drop i b))
-  unfolding same
-  same_end a b i ha hb = rw (drop_of_length-le a ha, drop_of_length-le b hb)
 
 -- octets that stay as they are
 pub map_id : (s : List ℕ) → map (λ x. x) s ≡ s
@@ -106,3 +92,56 @@ unfolding all
 zero_octet [] i e = refl
 zero_octet (x ∷ s) zero e = eqb-true x 0 (both_left (eqb x 0) (all_zero s) e)
 zero_octet (x ∷ s) (suc i) e = zero_octet s i (both_right (eqb x 0) (all_zero s) e)
+
+-- std's tests of texts are these
+pub pointwise_same : (xs ys : List ℕ) → pointwise eqb xs ys ≡ same xs ys
+unfolding same
+pointwise_same [] [] = refl
+pointwise_same [] (y ∷ ys) = refl
+pointwise_same (x ∷ xs) [] = refl
+pointwise_same (x ∷ xs) (y ∷ ys) = ap (λ (b : Bool). eqb x y && b) (pointwise_same xs ys)
+
+pub lowercase : (x : ℕ) → to_ascii_lowercase x ≡ lower x
+unfolding lower
+lowercase x = go (ltb x 65) refl (ltb x 91) refl
+  where
+    go : (s : Bool) → ltb x 65 ≡ s → (t : Bool) → ltb x 91 ≡ t → to_ascii_lowercase x ≡ lower x
+    go true e t f = rw (e, lt-leb 65 x (ltb-true x 65 e))
+    go false e true f = let h : x < 91 = ltb-true x 91 f in rw (e, f, le-leb 65 x (ltb-false x 65 e), le-leb x 90 (omega arith))
+    go false e false f = let h : 91 ≤ x = ltb-false x 91 f in rw (e, f, le-leb 65 x (ltb-false x 65 e), lt-leb x 90 (omega arith))
+
+-- octets that are the same, or are with case ignored
+abbrev pub alike_octets : ℕ × ℕ → Bool
+alike_octets p = eqb p.0 p.1 || eq_ignore_ascii_case p.0 p.1
+
+octets_folded : (x y : ℕ) → alike_octets (x, y) ≡ eqb (lower x) (lower y)
+octets_folded x y = go (eqb x y) refl
+  where
+    go : (b : Bool) → eqb x y ≡ b → alike_octets (x, y) ≡ eqb (lower x) (lower y)
+    go true e = rw e (sym (eq-eqb (lower x) (lower y) (ap lower (eqb-true x y e))))
+    go false e = rw e (ap₂ eqb (lowercase x) (lowercase y))
+
+-- in pairs, where they are as long
+pub pairs_folded : (xs ys : List ℕ) → length xs ≡ length ys → list_all alike_octets (zip xs ys) ≡ same_folded xs ys
+unfolding same
+pairs_folded [] [] e = refl
+pairs_folded [] (y ∷ ys) e = absurd (omega (arith, e))
+pairs_folded (x ∷ xs) [] e = absurd (omega (arith, e))
+pairs_folded (x ∷ xs) (y ∷ ys) e = ap₂ ◌&&◌ (octets_folded x y) (pairs_folded xs ys (omega (arith, e)))
+
+-- as many zeros
+pub zeros_pointwise : (n : ℕ) (xs : List ℕ) → length xs ≡ n → pointwise eqb xs (replicate n 0) ≡ all_zero xs
+unfolding all
+zeros_pointwise zero [] e = refl
+zeros_pointwise zero (x ∷ xs) e = absurd (omega (arith, e))
+zeros_pointwise (suc n) [] e = absurd (omega (arith, e))
+zeros_pointwise (suc n) (x ∷ xs) e = ap (λ (b : Bool). eqb x 0 && b) (zeros_pointwise n xs (omega (arith, e)))
+
+-- k times eight zeros, and what is left after them
+pub eights_zero : (k : ℕ) (s : List ℕ) → k * 8 ≤ length s → (list_all (λ e. pointwise eqb e (replicate 8 0)) (first_chunks 8 k s) && all_zero (drop (k * 8) s)) ≡ all_zero s
+eights_zero zero s h = refl
+eights_zero (suc k) s h =
+    let front = zeros_pointwise 8 (take 8 s) (cut-length s 0 8 (omega (arith, h))) in
+    let rest = eights_zero k (drop 8 s) (simp length-drop (omega (arith, h))) in
+    let on : drop (suc k * 8) s ≡ drop (k * 8) (drop 8 s) = sym (drop-drop (k * 8) 8 s ∙ ap (λ (n : ℕ). drop n s) (omega arith)) in
+    rw (front, on) (and_assoc (all_zero (take 8 s)) (list_all (λ e. pointwise eqb e (replicate 8 0)) (first_chunks 8 k (drop 8 s))) (all_zero (drop (k * 8) (drop 8 s))) ∙ ap (λ (b : Bool). all_zero (take 8 s) && b) rest ∙ sym (all-parts (λ x. eqb x 0) s 0 8))

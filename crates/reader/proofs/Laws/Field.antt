@@ -1,28 +1,29 @@
 -- A field that stands where the reader is, is read whole, and what is left stands after it.
+use Rattle.std.proofs.Common.{Ok}
 use mathlib.Core.Path.{◌≡◌, refl, sym, ap, ◌∙◌, subst}
 use mathlib.Core.List.{List, [], ◌++◌, append_assoc}
-use Prim.Native.Nat.{ℕ, ◌+◌, ◌≤◌}
+use Prim.Native.Nat.{ℕ, ◌+◌, ◌/◌, ◌%◌, ◌≤◌}
 use native.Mathlib.Omega.{arith}
 use lib.ListN.{length, length-append}
 use borrow.Author.Tests.{le-ltb}
-use Rattle.answers.specs.Try.{good}
+use Rattle.std.specs.Int.{to_le_bytes, w16, w32}
 use Rattle.octets.specs.Lists.{cut}
+use Rattle.octets.specs.Number.{little_octets}
 use Rattle.octets.proofs.Laws.Lists.{cut-after}
 use Rattle.octets.proofs.Laws.Text.{same_self}
-use Rattle.reader.specs.declared.field.FieldRead.{FieldRead}
-use Rattle.reader.specs.declared.field.FieldRead.TheVariants as field
 use Rattle.reader.specs.Field.{read_octets, read_stretch, read_fixed}
-use Rattle.reader.specs.Internal.Field.{field_in}
 
--- what an enum says, once it is known which of its cases it is
-pub told : {A B : Type 0} (f : A → B) {x y : A} {t : B} → x ≡ y → f x ≡ t → t ≡ f y
-told f g e = sym e ∙ ap f g
+-- the octets of a number, as std puts them
+pub two-octets : (n : ℕ) → to_le_bytes w16 n ≡ little_octets 2 n
+unfolding little_octets
+two-octets n = refl
 
--- a stretch is read where its octets are
-pub stretch_told : (s : List ℕ) (at n : ℕ) (r : FieldRead) → field_in (cut s at n) r ≡ read_octets s at n → field_in (record { start = at; len = n }) r ≡ read_stretch s at n
-unfolding read_stretch
-stretch_told s at n (field.Next next) e = rw (← e)
-stretch_told s at n (field.Refused r) e = rw (← e)
+pub four-octets : (n : ℕ) → to_le_bytes w32 n ≡ little_octets 4 n
+unfolding little_octets
+four-octets n =
+    let b : n / 65536 % 256 ≡ n / 256 / 256 % 256 = omega arith in
+    let c : n / 16777216 % 256 ≡ n / 256 / 256 / 256 % 256 = omega arith in
+    rw (b, c)
 
 -- from `at` on, s holds these octets and no others
 pub record Left (s : List ℕ) (at : ℕ) (rest : List ℕ) : Type 0 where
@@ -46,7 +47,7 @@ module _ {s : List ℕ} {at : ℕ} where
   left_cut x rest l = rw (l.whole, ← l.offset) (cut-after l.front x rest)
 
   -- n octets that stand here
-  pub octets_here : (x rest : List ℕ) (n : ℕ) → length x ≡ n → Left s at (x ++ rest) → read_octets s at n ≡ good (record { value = x; next = at + n })
+  pub octets_here : (x rest : List ℕ) (n : ℕ) → length x ≡ n → Left s at (x ++ rest) → read_octets s at n ≡ Ok (record { value = x; next = at + n })
   unfolding read_octets
   octets_here x rest n e l =
       let h : length s ≡ at + length (x ++ rest) = left-length (x ++ rest) l in
@@ -54,11 +55,11 @@ module _ {s : List ℕ} {at : ℕ} where
       let c : cut s at n ≡ x = subst (λ (m : ℕ). cut s at m ≡ x) e (left_cut x rest l) in
       rw (le-ltb (length s) (at + n) k, c)
 
-  pub stretch_here : (x rest : List ℕ) (n : ℕ) → length x ≡ n → Left s at (x ++ rest) → read_stretch s at n ≡ good (record { value = record { start = at; len = n }; next = at + n })
+  pub stretch_here : (x rest : List ℕ) (n : ℕ) → length x ≡ n → Left s at (x ++ rest) → read_stretch s at n ≡ Ok (record { value = record { start = at; len = n }; next = at + n })
   unfolding read_stretch
   stretch_here x rest n e l = rw (octets_here x rest n e l)
 
-  pub fixed_here : (x rest : List ℕ) (n : ℕ) → length x ≡ n → Left s at (x ++ rest) → read_fixed s at x ≡ good (record { value = x; next = at + n })
+  pub fixed_here : (x rest : List ℕ) (n : ℕ) → length x ≡ n → Left s at (x ++ rest) → read_fixed s at x ≡ Ok (record { value = x; next = at + n })
   unfolding read_fixed
   fixed_here x rest n e l = rw (e, octets_here x rest n e l, same_self x)
 

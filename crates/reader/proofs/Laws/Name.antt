@@ -1,8 +1,8 @@
 -- The reader and the walk: what the reader accepts is the walk's, it accepts every walk within its two limits, and its steps are enough.
+use Rattle.std.proofs.Common.{Ok, Err, Some}
 use mathlib.Core.Path.{◌≡◌, refl, sym, ap, ◌∙◌, subst}
 use mathlib.Core.Bool.{Bool, true, false, not, ◌||◌}
 use mathlib.Core.List.{List, [], ◌∷◌, flat_map}
-use mathlib.Core.Option.{some}
 use Prim.Native.Nat.{ℕ, zero, suc, ◌+◌, ◌<◌, ◌≤◌}
 use native.Mathlib.Nat.{zero-add, add-zero, suc-mul}
 use native.Mathlib.Omega.{arith}
@@ -11,7 +11,7 @@ use lib.ListN.{length, length-append}
 use borrow.Author.Tests.{lt-ltb, le-ltb, ne_eqb, ltb-true, ltb-false, eqb-false, not-false}
 use Rattle.answers.specs.declared.Refusal.{Refusal}
 use Rattle.answers.specs.declared.Refusal.TheVariants.{ReplyText}
-use Rattle.answers.specs.Try.{Try, refused, good, refused_if, ◌>>=◌}
+use Rattle.answers.specs.Try.{Try, refused_if, ◌>>=◌}
 use Rattle.answers.proofs.Laws.Try.{refused_not_good, refused_if-good}
 use Rattle.names.specs.Name.{literal_label}
 use Rattle.names.specs.Walk.{Look, end, label, pointer, missing, reserved, look_at, on_look, label_at, WalkedName, steps}
@@ -19,34 +19,34 @@ use Rattle.names.specs.WalkRelation.{Walks, ends, reads, points}
 use Rattle.names.proofs.Laws.Walk.{walk_inside, finds, bound, bound_read, bound_jump, bound_steps}
 use Rattle.octets.proofs.Laws.Label.{size, size_positive}
 use Rattle.octets.proofs.Laws.Lists.{cut-length, neither_left, neither_right}
-use Rattle.reader.specs.Field.{Read}
+use Rattle.reader.specs.declared.field.Read.{Read}
 use Rattle.reader.specs.Name.{written_most, pointers_most, cut_after, label_before, ending_at, read_name_from, read_name}
 use Rattle.reader.specs.ReaderWalks.{ReaderWalks, written_out, ReaderLimits, ReaderAccepts, ReaderStepsEnough}
 
 -- what a look leads to, with k steps more
 abbrev looked : ℕ → List ℕ → ℕ → ℕ → ℕ → ℕ → Look → Try (Read WalkedName)
 looked k s run at spent pointers v =
-    on_look v (good (record { value = record { labels = []; pointers = pointers }; next = at + 1 }))
+    on_look v (Ok (record { value = record { labels = []; pointers = pointers }; next = at + 1 }))
     (λ n.
     refused_if (ltb written_most (spent + 1 + n + 1)) ReplyText
     (refused_if (ltb (length s) (at + 1 + n)) (cut_after pointers)
-    (read_name_from k s run (at + 1 + n) (spent + 1 + n) pointers >>= λ f. good (label_before (label_at s at n) f))))
-    (λ t. refused_if (not (ltb t run) || eqb pointers pointers_most) ReplyText (read_name_from k s t t spent (pointers + 1) >>= λ f. good (ending_at (at + 2) f)))
-    (refused (cut_after pointers)) (refused ReplyText)
+    (read_name_from k s run (at + 1 + n) (spent + 1 + n) pointers >>= λ f. Ok (label_before (label_at s at n) f))))
+    (λ t. refused_if (not (ltb t run) || eqb pointers pointers_most) ReplyText (read_name_from k s t t spent (pointers + 1) >>= λ f. Ok (ending_at (at + 2) f)))
+    (Err (cut_after pointers)) (Err ReplyText)
 
 -- ---- the reader accepts a walk within its limits
 
 module _ (s : List ℕ) (run at spent pointers k : ℕ) where
-  from_end : look_at s at ≡ end → read_name_from (suc k) s run at spent pointers ≡ good (record { value = record { labels = []; pointers = pointers }; next = at + 1 })
+  from_end : look_at s at ≡ end → read_name_from (suc k) s run at spent pointers ≡ Ok (record { value = record { labels = []; pointers = pointers }; next = at + 1 })
   unfolding read_name_from
   from_end e = rw e
 
   from-label : (n : ℕ) → look_at s at ≡ label n → at + 1 + n ≤ length s → spent + 1 + n + 1 ≤ 255
-      → read_name_from (suc k) s run at spent pointers ≡ (read_name_from k s run (at + 1 + n) (spent + 1 + n) pointers >>= λ f. good (label_before (label_at s at n) f))
+      → read_name_from (suc k) s run at spent pointers ≡ (read_name_from k s run (at + 1 + n) (spent + 1 + n) pointers >>= λ f. Ok (label_before (label_at s at n) f))
   unfolding read_name_from
   from-label n e h room = rw (e, le-ltb written_most (spent + 1 + n + 1) room, le-ltb (length s) (at + 1 + n) h)
 
-  from-pointer : (t : ℕ) → look_at s at ≡ pointer t → t < run → pointers < 16 → read_name_from (suc k) s run at spent pointers ≡ (read_name_from k s t t spent (pointers + 1) >>= λ f. good (ending_at (at + 2) f))
+  from-pointer : (t : ℕ) → look_at s at ≡ pointer t → t < run → pointers < 16 → read_name_from (suc k) s run at spent pointers ≡ (read_name_from k s t t spent (pointers + 1) >>= λ f. Ok (ending_at (at + 2) f))
   unfolding read_name_from
   from-pointer t e h room =
       let z : pointers ≡ pointers_most → ⊥ = λ q. omega arith in
@@ -54,7 +54,7 @@ module _ (s : List ℕ) (run at spent pointers k : ℕ) where
 
 -- a name of labels ls that follows c pointers more, and whose field ends at next
 abbrev Given : List (List ℕ) → ℕ → ℕ → Try (Read WalkedName)
-Given ls c next = good (record { value = record { labels = ls; pointers = c }; next = next })
+Given ls c next = Ok (record { value = record { labels = ls; pointers = c }; next = next })
 
 accepts : {s : List ℕ} {run at c next : ℕ} {ls : List (List ℕ)} → Walks s run at ls c next → (k spent pointers : ℕ) → bound s run at < k
     → spent + size ls ≤ 255 → pointers + c ≤ 16 → read_name_from k s run at spent pointers ≡ Given ls (pointers + c) next
@@ -80,7 +80,7 @@ unfolding read_name
 reader_accepts s at c next ls w room few =
     accepts w _ 0 0 (omega (arith, bound_steps s at (walk_inside w))) (omega (arith, written_out_size ls)) (omega arith) ∙ ap (λ (x : ℕ). Given ls x next) (zero-add c)
 
-pub name_here : {s : List ℕ} {at c next : ℕ} {ls : List (List ℕ)} → Walks s at at ls c next → size ls ≤ 255 → c ≤ 16 → read_name s at ≡ good (record { value = record { labels = ls; pointers = c }; next = next })
+pub name_here : {s : List ℕ} {at c next : ℕ} {ls : List (List ℕ)} → Walks s at at ls c next → size ls ≤ 255 → c ≤ 16 → read_name s at ≡ Ok (record { value = record { labels = ls; pointers = c }; next = next })
 name_here {s} {at} {c} {next} {ls} w room few = reader_accepts s at c next ls w (omega (arith, written_out_size ls)) few
 
 -- ---- steps that are enough give the same, however many they are
@@ -102,17 +102,17 @@ same-steps (suc k) (suc j) s run at spent pointers b d = go (look_at s at) (λ r
         unless_refused (ltb written_most (spent + 1 + n + 1)) ReplyText _ _ (λ e.
         unless_refused (ltb (length s) (at + 1 + n)) (cut_after pointers) _ _ (λ f.
         let h : at + 1 + n ≤ length s = ltb-false (length s) (at + 1 + n) f in
-        ap (λ (x : Try (Read WalkedName)). x >>= λ g. good (label_before (label_at s at n) g))
+        ap (λ (x : Try (Read WalkedName)). x >>= λ g. Ok (label_before (label_at s at n) g))
         (deeper run (at + 1 + n) (spent + 1 + n) pointers (bound_read s run at n k h b) (bound_read s run at n j h d))))
     go (pointer t) deeper =
         unless_refused (not (ltb t run) || eqb pointers pointers_most) ReplyText _ _ (λ e.
         let h : t < run = ltb-true t run (not-false (ltb t run) (neither_left (not (ltb t run)) (eqb pointers pointers_most) e)) in
-        ap (λ (x : Try (Read WalkedName)). x >>= λ g. good (ending_at (at + 2) g)) (deeper t t spent (pointers + 1) (bound_jump s run at t k h b) (bound_jump s run at t j h d)))
+        ap (λ (x : Try (Read WalkedName)). x >>= λ g. Ok (ending_at (at + 2) g)) (deeper t t spent (pointers + 1) (bound_jump s run at t k h b) (bound_jump s run at t j h d)))
     go missing deeper = refl
     go reserved deeper = refl
 
 -- past the end one look is enough
-past_end : (k : ℕ) (s : List ℕ) (run at spent pointers : ℕ) → 1 ≤ k → length s ≤ at → read_name_from k s run at spent pointers ≡ refused (cut_after pointers)
+past_end : (k : ℕ) (s : List ℕ) (run at spent pointers : ℕ) → 1 ≤ k → length s ≤ at → read_name_from k s run at spent pointers ≡ Err (cut_after pointers)
 unfolding read_name_from look_at
 past_end zero s run at spent pointers one h = absurd (omega arith)
 past_end (suc k) s run at spent pointers one h = rw (le-ltb at (length s) h)
@@ -140,34 +140,34 @@ ReadsTo s run at spent pointers f =
     × (spent + 1 ≤ 255 → spent + size f.value.labels ≤ 255)
     × (pointers ≤ 16 → pointers + c ≤ 16)
 
-agrees : (k : ℕ) (s : List ℕ) (run at spent pointers : ℕ) (f : Read WalkedName) → read_name_from k s run at spent pointers ≡ good f → ReadsTo s run at spent pointers f
+agrees : (k : ℕ) (s : List ℕ) (run at spent pointers : ℕ) (f : Read WalkedName) → read_name_from k s run at spent pointers ≡ Ok f → ReadsTo s run at spent pointers f
 unfolding read_name_from
 agrees zero s run at spent pointers f e = absurd (refused_not_good ReplyText f e)
 agrees (suc k) s run at spent pointers f e = go (look_at s at) refl e (λ r a u p g q. agrees k s r a u p g q)
   where
     Deeper : Type 0
-    Deeper = (r a u p : ℕ) (g : Read WalkedName) → read_name_from k s r a u p ≡ good g → ReadsTo s r a u p g
+    Deeper = (r a u p : ℕ) (g : Read WalkedName) → read_name_from k s r a u p ≡ Ok g → ReadsTo s r a u p g
 
-    after-label : (n : ℕ) → look_at s at ≡ label n → at + 1 + n ≤ length s → spent + 1 + n + 1 ≤ 255 → (r : Try (Read WalkedName)) → (r >>= λ g. good (label_before (label_at s at n) g)) ≡ good f
-        → ((g : Read WalkedName) → r ≡ good g → ReadsTo s run (at + 1 + n) (spent + 1 + n) pointers g) → ReadsTo s run at spent pointers f
-    after-label n v h room (refused r) q d = absurd (refused_not_good r f q)
-    after-label n v h room (good g) q d =
+    after-label : (n : ℕ) → look_at s at ≡ label n → at + 1 + n ≤ length s → spent + 1 + n + 1 ≤ 255 → (r : Try (Read WalkedName)) → (r >>= λ g. Ok (label_before (label_at s at n) g)) ≡ Ok f
+        → ((g : Read WalkedName) → r ≡ Ok g → ReadsTo s run (at + 1 + n) (spent + 1 + n) pointers g) → ReadsTo s run at spent pointers f
+    after-label n v h room (Err r) q d = absurd (refused_not_good r f q)
+    after-label n v h room (Ok g) q d =
         let y = d g refl in
         let z : label_before (label_at s at n) g ≡ f = cc in
         let m : length (label_at s at n) ≡ n = cut-length s (at + 1) n h in
         let u : spent + 1 + n + size g.value.labels ≤ 255 = y.3 room in
         subst (ReadsTo s run at spent pointers) z (y.0, y.1, reads v h refl y.2, (λ w. omega (arith, m, u)), y.4)
 
-    after-pointer : (t : ℕ) → look_at s at ≡ pointer t → t < run → (pointers ≡ pointers_most → ⊥) → (r : Try (Read WalkedName)) → (r >>= λ g. good (ending_at (at + 2) g)) ≡ good f
-        → ((g : Read WalkedName) → r ≡ good g → ReadsTo s t t spent (pointers + 1) g) → ReadsTo s run at spent pointers f
-    after-pointer t v h few (refused r) q d = absurd (refused_not_good r f q)
-    after-pointer t v h few (good g) q d =
+    after-pointer : (t : ℕ) → look_at s at ≡ pointer t → t < run → (pointers ≡ pointers_most → ⊥) → (r : Try (Read WalkedName)) → (r >>= λ g. Ok (ending_at (at + 2) g)) ≡ Ok f
+        → ((g : Read WalkedName) → r ≡ Ok g → ReadsTo s t t spent (pointers + 1) g) → ReadsTo s run at spent pointers f
+    after-pointer t v h few (Err r) q d = absurd (refused_not_good r f q)
+    after-pointer t v h few (Ok g) q d =
         let y = d g refl in
         let z : ending_at (at + 2) g ≡ f = cc in
         let m : g.value.pointers ≡ pointers + suc y.0 = omega (arith, y.1) in
         subst (ReadsTo s run at spent pointers) z (suc y.0, m, points v h y.2, y.3, (λ w. omega (arith, y.4 (omega (arith, w, few)))))
 
-    go : (v : Look) → look_at s at ≡ v → looked k s run at spent pointers v ≡ good f → Deeper → ReadsTo s run at spent pointers f
+    go : (v : Look) → look_at s at ≡ v → looked k s run at spent pointers v ≡ Ok f → Deeper → ReadsTo s run at spent pointers f
     go end v q d =
         let z : record { value = record { labels = []; pointers = pointers }; next = at + 1 } ≡ f = cc in
         subst (ReadsTo s run at spent pointers) z (0, sym (add-zero pointers), ends v, (λ w. w), (λ w. omega (arith, w)))
@@ -188,7 +188,7 @@ unfolding read_name
 reader_walks s at f e =
     let d = agrees _ s at at 0 0 f e in
     let z : d.0 ≡ f.value.pointers = omega (arith, d.1) in
-    finds d.2 ∙ ap (λ (c : ℕ). some (record { labels = f.value.labels; pointers = c })) z
+    finds d.2 ∙ ap (λ (c : ℕ). Some (record { labels = f.value.labels; pointers = c })) z
 
 pub reader_limits : ReaderLimits
 unfolding read_name

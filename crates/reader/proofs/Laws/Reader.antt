@@ -1,14 +1,13 @@
 -- The reader takes apart what stands in the order of its fields, for each of the three forms.
+use Rattle.std.proofs.Common.{Ok, Option, None, Some}
 use mathlib.Core.Path.{◌≡◌, refl, ap, subst}
 use mathlib.Core.Bool.{Bool, true, false}
 use mathlib.Core.List.{List, [], ◌∷◌, ◌++◌, map, append_assoc, append-nil}
-use mathlib.Core.Option.{Option, none, some}
 use Prim.Native.Nat.{ℕ, zero, suc, ◌+◌, ◌-◌, ◌^◌, ◌<◌, ◌≤◌}
 use native.Mathlib.Omega.{arith}
 use lib.Dec.{eqb}
 use lib.ListN.{length, get_or, length-append}
 use borrow.Author.Tests.{eq-eqb, le-leb}
-use Rattle.answers.specs.Try.{good}
 use Rattle.answers.specs.Wire.{netlogon_nt_version_5ex_with_ip, netlogon_nt_version_with_closest_site, nt40_version, response_version, ex_version, ex_version_with_next_site, Opcodes, older_opcodes, ex_opcodes, is_one_of, Sbz, NullGuid, LmNtToken, Lm20Token, DcSockAddrSize, sin_family, sin_zero}
 use Rattle.names.specs.WalkRelation.{Walks}
 use Rattle.names.proofs.Laws.Name.{Row, stops, goes}
@@ -23,7 +22,7 @@ use Rattle.unicode_text.proofs.Laws.Utf16.{Spoken}
 use Rattle.reader.proofs.Laws.Field.{Left, left-start, left_after, left-next, left-length, left_cut, left-same, octets_here, stretch_here, fixed_here}
 use Rattle.reader.specs.Name.{read_name}
 use Rattle.reader.proofs.Laws.Name.{name_here}
-use Rattle.reader.specs.declared.field.Stretch.{Stretch}
+use Rattle.octets.specs.declared.part.Stretch.{Stretch}
 use Rattle.reader.specs.Text.{read_text}
 use Rattle.reader.proofs.Laws.Text.{text_here, text-after}
 use Rattle.reader.specs.Reader.{NameRead, ExFields, Fields, nt40, response, ex, read_opcode, read_number, read_names, read_constant, read_tokens, read_opening, read_nt40, read_response, read_address, has_next_site, Last, read_last, read_ex}
@@ -31,13 +30,13 @@ use Rattle.reader.specs.Reader.{NameRead, ExFields, Fields, nt40, response, ex, 
 -- ---- numbers and fixed fields
 
 module _ {s : List ℕ} {at : ℕ} (rest : List ℕ) where
-  pub constant_here : (w n : ℕ) → Left s at (little_octets w n ++ rest) → read_constant w n s at ≡ good (record { value = little_octets w n; next = at + w })
+  pub constant_here : (w n : ℕ) → Left s at (little_octets w n ++ rest) → read_constant w n s at ≡ Ok (record { value = little_octets w n; next = at + w })
   constant_here w n l = fixed_here (little_octets w n) rest w (length-little w n) l
 
   pub number-after : (w n : ℕ) → Left s at (little_octets w n ++ rest) → Left s (at + w) rest
   number-after w n l = left-next (little_octets w n) rest w (length-little w n) l
 
-  pub number_here : (n : ℕ) → n < 256 ^ 4 → Left s at (little_octets 4 n ++ rest) → read_number s at ≡ good (record { value = n; next = at + 4 })
+  pub number_here : (n : ℕ) → n < 256 ^ 4 → Left s at (little_octets 4 n ++ rest) → read_number s at ≡ Ok (record { value = n; next = at + 4 })
   unfolding read_number
   number_here n h l = rw (octets_here (little_octets 4 n) rest 4 (length-little 4 n) l, little-back 4 n h)
 
@@ -46,7 +45,7 @@ pub record GoodOpcode (codes : Opcodes) (n : ℕ) : Type 0 where
   pub known : is_one_of codes n ≡ true
   pub fits : n < 256 ^ 2
 
-opcode_here : {s : List ℕ} (rest : List ℕ) (codes : Opcodes) (n : ℕ) → GoodOpcode codes n → Left s 0 (little_octets 2 n ++ rest) → read_opcode codes s ≡ good (record { value = n; next = 0 + 2 })
+opcode_here : {s : List ℕ} (rest : List ℕ) (codes : Opcodes) (n : ℕ) → GoodOpcode codes n → Left s 0 (little_octets 2 n ++ rest) → read_opcode codes s ≡ Ok (record { value = n; next = 0 + 2 })
 unfolding read_opcode
 opcode_here rest codes n g l = rw (octets_here (little_octets 2 n) rest 2 (length-little 2 n) l, little-back 2 n g.fits, g.known)
 
@@ -57,7 +56,7 @@ tokens = little_octets 2 LmNtToken ++ little_octets 2 Lm20Token
 abbrev pub ending : ℕ → List ℕ
 ending version = little_octets 4 version ++ tokens
 
-pub tokens_here : {A : Type 0} {s : List ℕ} {at : ℕ} (fields : A) → Left s at tokens → read_tokens s at fields ≡ good fields
+pub tokens_here : {A : Type 0} {s : List ℕ} {at : ℕ} (fields : A) → Left s at tokens → read_tokens s at fields ≡ Ok fields
 unfolding read_tokens
 tokens_here {s = s} {at = at} fields l =
     let token : List ℕ = little_octets 2 Lm20Token in
@@ -71,7 +70,7 @@ tokens_here {s = s} {at = at} fields l =
 
 -- a text of UTF-16 that stands here, read as its stretch
 pub record Told (s : List ℕ) (at : ℕ) (text rest : List ℕ) : Type 0 where
-  pub reads : read_text s at ≡ good (record { value = record { start = at; len = length (utf16 text) }; next = at + length (utf16 text) + 2 })
+  pub reads : read_text s at ≡ Ok (record { value = record { start = at; len = length (utf16 text) }; next = at + length (utf16 text) + 2 })
   pub stretch : cut s at (length (utf16 text)) ≡ utf16 text
   pub left : Left s (at + length (utf16 text) + 2) rest
 
@@ -95,7 +94,7 @@ pub record Opened (s : List ℕ) (opcode : ℕ) (server user domain rest : List 
   pub user_at : Stretch
   pub domain_at : Stretch
   pub next : ℕ
-  pub reads : read_opening s ≡ good (record { value = record { opcode = opcode; server = server_at; user = user_at; domain = domain_at }; next = next })
+  pub reads : read_opening s ≡ Ok (record { value = record { opcode = opcode; server = server_at; user = user_at; domain = domain_at }; next = next })
   pub left : Left s next rest
   pub server_is : cut s server_at.start server_at.len ≡ utf16 server
   pub user_is : cut s user_at.start user_at.len ≡ utf16 user
@@ -150,11 +149,11 @@ given-at (goes a b w r) other zero h = refl
 given-at (goes a b w r) other (suc i) h = given-at r other i (omega arith)
 
 name-given : {s : List ℕ} {at c next : ℕ} (text : List ℕ) → Walks s at at (labels text) c next → size (labels text) ≤ 255 → c ≤ 16
-    → read_name s at ≡ good (record { value = record { labels = labels text; pointers = c }; next = next })
+    → read_name s at ≡ Ok (record { value = record { labels = labels text; pointers = c }; next = next })
 name-given text w room few = name_here w room few
 
 names_here : {s : List ℕ} {k at end : ℕ} {ats counts : List ℕ} {texts : List (List ℕ)} → Row s k at ats texts counts end → k + length texts ≤ 17 → Every (λ text. size (labels text) ≤ 255) texts
-    → read_names (length texts) s at ≡ good (record { value = given_back_lem ats texts counts; next = end })
+    → read_names (length texts) s at ≡ Ok (record { value = given_back_lem ats texts counts; next = end })
 unfolding read_names
 names_here stops few room = refl
 names_here {s} {k} (goes {c = c} {end = end} {text = text} {cs = cs} {texts = texts} a b w r) few room =
@@ -163,7 +162,7 @@ names_here {s} {k} (goes {c = c} {end = end} {text = text} {cs = cs} {texts = te
 -- ---- the forms
 
 pub read-nt40 : (s : List ℕ) (opcode : ℕ) (server user domain : List ℕ) (o : Opened s opcode server user domain (ending nt40_version))
-    → read_nt40 s ≡ good (nt40 (record { opcode = opcode; server = o.server_at; user = o.user_at; domain = o.domain_at; version = nt40_version }))
+    → read_nt40 s ≡ Ok (nt40 (record { opcode = opcode; server = o.server_at; user = o.user_at; domain = o.domain_at; version = nt40_version }))
 unfolding read_nt40
 read-nt40 s opcode server user domain o =
     let l : Left s o.next (little_octets 4 nt40_version ++ tokens) = o.left in
@@ -177,9 +176,9 @@ pub record NamesRow (s : List ℕ) (at : ℕ) (texts : List (List ℕ)) (octets 
   pub short : Every (λ text. size (labels text) ≤ 255) texts
 
 row_here : {s : List ℕ} {at : ℕ} {texts : List (List ℕ)} {octets : List ℕ} (n : ℕ) → length texts ≡ n → n ≤ 17 → (r : NamesRow s at texts octets)
-    → read_names n s at ≡ good (record { value = given_back_lem r.starts texts r.counts; next = at + length octets })
+    → read_names n s at ≡ Ok (record { value = given_back_lem r.starts texts r.counts; next = at + length octets })
 row_here {s} {at} {texts} {octets} n e h r =
-    subst (λ (m : ℕ). read_names m s at ≡ good (record { value = given_back_lem r.starts texts r.counts; next = at + length octets })) e (names_here r.row (omega arith) r.short)
+    subst (λ (m : ℕ). read_names m s at ≡ Ok (record { value = given_back_lem r.starts texts r.counts; next = at + length octets })) e (names_here r.row (omega arith) r.short)
 
 module _ (s : List ℕ) (opcode : ℕ) (server user domain guid : List ℕ) (texts : List (List ℕ)) (octets ipv4 : List ℕ) (flags : ℕ) where
   abbrev pub after_head : List ℕ
@@ -188,7 +187,7 @@ module _ (s : List ℕ) (opcode : ℕ) (server user domain guid : List ℕ) (tex
   pub read-response : (o : Opened s opcode server user domain (guid ++ (NullGuid ++ after_head))) → length guid ≡ 16 → length ipv4 ≡ 4 → flags < 256 ^ 4 → length texts ≡ 3
       → (at : ℕ) → Left s at after_head → (r : NamesRow s at texts octets)
       → read_response s
-      ≡ good
+      ≡ Ok
       (response
       (record {
         opcode = opcode;
@@ -206,8 +205,8 @@ module _ (s : List ℕ) (opcode : ℕ) (server user domain guid : List ℕ) (tex
       let l1 : Left s (o.next + 16) (NullGuid ++ after_head) = left-next guid (NullGuid ++ after_head) 16 g o.left in
       let l2 : Left s (o.next + 16 + 16) after_head = left-next NullGuid after_head 16 refl l1 in
       let same-offset : at ≡ o.next + 16 + 16 = left-same after_head here l2 in
-      let names : read_names 3 s (o.next + 16 + 16) ≡ good (record { value = given_back_lem r.starts texts r.counts; next = at + length octets }) =
-      subst (λ (x : ℕ). read_names 3 s x ≡ good (record { value = given_back_lem r.starts texts r.counts; next = at + length octets })) same-offset (row_here 3 three (omega arith) r) in
+      let names : read_names 3 s (o.next + 16 + 16) ≡ Ok (record { value = given_back_lem r.starts texts r.counts; next = at + length octets }) =
+      subst (λ (x : ℕ). read_names 3 s x ≡ Ok (record { value = given_back_lem r.starts texts r.counts; next = at + length octets })) same-offset (row_here 3 three (omega arith) r) in
       let l3 : Left s (at + length octets) (ipv4 ++ (little_octets 4 flags ++ ending response_version)) = left_after octets (ipv4 ++ (little_octets 4 flags ++ ending response_version)) here in
       let l4 : Left s (at + length octets + 4) (little_octets 4 flags ++ ending response_version) = left-next ipv4 (little_octets 4 flags ++ ending response_version) 4 i l3 in
       let l5 : Left s (at + length octets + 4 + 4) (little_octets 4 response_version ++ tokens) = number-after (ending response_version) 4 flags l4 in
@@ -231,15 +230,15 @@ address false ipv4 = []
 
 -- its four octets, where it starts at an offset
 abbrev pub address_given : Bool → ℕ → Option Stretch
-address_given true at = some (record { start = at + 1 + 4; len = 4 })
-address_given false at = none
+address_given true at = Some (record { start = at + 1 + 4; len = 4 })
+address_given false at = None
 
 address_here : {s : List ℕ} {at : ℕ} (b : Bool) (ipv4 rest : List ℕ) → length ipv4 ≡ 4 → Left s at (address b ipv4 ++ rest)
-    → read_address b s at ≡ good (record { value = address_given b at; next = at + length (address b ipv4) })
+    → read_address b s at ≡ Ok (record { value = address_given b at; next = at + length (address b ipv4) })
 unfolding read_address
 address_here {s} {at} false ipv4 rest i l =
     let e : at ≡ at + 0 = omega arith in
-    ap (λ (x : ℕ). good (record { value = none; next = x })) e
+    ap (λ (x : ℕ). Ok (record { value = None; next = x })) e
 address_here {s} {at} true ipv4 rest i l =
     let zeros : List ℕ = sin_zero ++ rest in
     let m : Left s at ((DcSockAddrSize ∷ []) ++ (little_octets 4 sin_family ++ (ipv4 ++ zeros))) = simp append_assoc at l in
@@ -254,7 +253,7 @@ address_here {s} {at} true ipv4 rest i l =
       stretch_here ipv4 zeros 4 i l2,
       fixed_here sin_zero rest 8 refl l3,
     )
-    (ap (λ (x : ℕ). good (record { value = address_given true at; next = x })) e)
+    (ap (λ (x : ℕ). Ok (record { value = address_given true at; next = x })) e)
 
 -- whether name 8 is there shows in the version 8 octets from the end
 next-site_shown : {s : List ℕ} {at : ℕ} (version : ℕ) → version < 256 ^ 4 → Left s at (ending version) → has_next_site s ≡ eqb version ex_version_with_next_site
@@ -268,24 +267,24 @@ next-site_shown {s} {at} version h l =
 
 -- the octets of name 8, if there is one, and the version by it
 abbrev pub last : Option (List ℕ) → List ℕ → List ℕ
-last none octets = ending ex_version
-last (some text) octets = octets ++ ending ex_version_with_next_site
+last None octets = ending ex_version
+last (Some text) octets = octets ++ ending ex_version_with_next_site
 
 -- name 8 at its place, where it is there and v asks for it
 abbrev pub LastAt : List ℕ → ℕ → ℕ → Option (List ℕ) → List ℕ → ℕ → Type 0
-LastAt s v at none octets count = Unit {0}
-LastAt s v at (some text) octets count = Walks s at at (labels text) count (at + length octets) × (size (labels text) ≤ 255) × (count ≤ 16) × (has v netlogon_nt_version_with_closest_site ≡ true)
+LastAt s v at None octets count = Unit {0}
+LastAt s v at (Some text) octets count = Walks s at at (labels text) count (at + length octets) × (size (labels text) ≤ 255) × (count ≤ 16) × (has v netlogon_nt_version_with_closest_site ≡ true)
 
 abbrev pub last_given : Option (List ℕ) → ℕ → ℕ → Last
-last_given none at count = record { next_site_lem = none; version = ex_version }
-last_given (some text) at count = record { next_site_lem = some (record { start = at; text = text; pointers = count }); version = ex_version_with_next_site }
+last_given None at count = record { next_site_lem = None; version = ex_version }
+last_given (Some text) at count = record { next_site_lem = Some (record { start = at; text = text; pointers = count }); version = ex_version_with_next_site }
 
 last_here : {s : List ℕ} {at : ℕ} (v : ℕ) (site : Option (List ℕ)) (octets : List ℕ) (count : ℕ) (fields : Fields) → Left s at (last site octets) → LastAt s v at site octets count
-    → (next : ℕ) × (read_last (has_next_site s) v s at ≡ good (record { value = last_given site at count; next = next })) × (read_tokens s next fields ≡ good fields)
+    → (next : ℕ) × (read_last (has_next_site s) v s at ≡ Ok (record { value = last_given site at count; next = next })) × (read_tokens s next fields ≡ Ok fields)
 unfolding read_last
-last_here {s} {at} v none octets count fields l k =
+last_here {s} {at} v None octets count fields l k =
     (at + 4, rw (next-site_shown ex_version (omega arith) l, constant_here tokens 4 ex_version l), tokens_here fields (number-after tokens 4 ex_version l))
-last_here {s} {at} v (some text) octets count fields l k =
+last_here {s} {at} v (Some text) octets count fields l k =
     let m : Left s (at + length octets) (ending ex_version_with_next_site) = left_after octets (ending ex_version_with_next_site) l in (
       at + length octets + 4,
       rw (next-site_shown ex_version_with_next_site (omega arith) m, name-given text k.0 k.1 k.2, constant_here tokens 4 ex_version_with_next_site m, k.3, joined-labels text),
@@ -313,7 +312,7 @@ module _ (s : List ℕ) (v opcode flags : ℕ) (guid : List ℕ) (texts : List (
       → GoodOpcode ex_opcodes opcode → flags < 256 ^ 4 → length guid ≡ 16 → length ipv4 ≡ 4 → length texts ≡ 8
       → Left s at (octets ++ after_names_lem) → (r : NamesRow s at texts octets) → LastAt s v (at + length octets + length (address (has v netlogon_nt_version_5ex_with_ip) ipv4)) site last_octets last_count
       → read_ex v s
-      ≡ good
+      ≡ Ok
       (ex
       (ex_given v opcode flags (given_back_lem r.starts texts r.counts) (at + length octets)
       (last_given site (at + length octets + length (address (has v netlogon_nt_version_5ex_with_ip) ipv4)) last_count)))
@@ -325,8 +324,8 @@ module _ (s : List ℕ) (v opcode flags : ℕ) (guid : List ℕ) (texts : List (
       let l3 : Left s (0 + 2 + 2 + 4) (guid ++ (octets ++ after_names_lem)) = number-after _ 4 flags l2 in
       let l4 : Left s (0 + 2 + 2 + 4 + 16) (octets ++ after_names_lem) = left-next guid (octets ++ after_names_lem) 16 g l3 in
       let same-offset : at ≡ 0 + 2 + 2 + 4 + 16 = left-same (octets ++ after_names_lem) here l4 in
-      let names : read_names 8 s (0 + 2 + 2 + 4 + 16) ≡ good (record { value = given_back_lem r.starts texts r.counts; next = at + length octets }) =
-      subst (λ (x : ℕ). read_names 8 s x ≡ good (record { value = given_back_lem r.starts texts r.counts; next = at + length octets })) same-offset (row_here 8 eight (omega arith) r) in
+      let names : read_names 8 s (0 + 2 + 2 + 4 + 16) ≡ Ok (record { value = given_back_lem r.starts texts r.counts; next = at + length octets }) =
+      subst (λ (x : ℕ). read_names 8 s x ≡ Ok (record { value = given_back_lem r.starts texts r.counts; next = at + length octets })) same-offset (row_here 8 eight (omega arith) r) in
       let l5 : Left s (at + length octets) (address (has v netlogon_nt_version_5ex_with_ip) ipv4 ++ last site last_octets) = left_after octets after_names_lem here in
       let l6 : Left s (at + length octets + length (address (has v netlogon_nt_version_5ex_with_ip) ipv4)) (last site last_octets) = left_after (address (has v netlogon_nt_version_5ex_with_ip) ipv4) (last site last_octets) l5 in
       let fields : Fields =

@@ -1,4 +1,5 @@
 -- A text of UTF-16 units that ends in a zero unit is read as its stretch.
+use Rattle.std.proofs.Common.{Ok, Err}
 use mathlib.Core.Path.{◌≡◌, refl, sym, ap, ◌∙◌}
 use mathlib.Core.Bool.{Bool, true, false, cond}
 use mathlib.Core.List.{List, [], ◌∷◌, ◌++◌, append_assoc, flat_map}
@@ -8,22 +9,23 @@ use lib.Dec.{eqb, ltb}
 use lib.ListN.{length, length-append}
 use borrow.Author.Tests.{eq-eqb, ne_eqb, le-leb, lt-leb, ltb-true, ltb-false}
 use Rattle.answers.specs.declared.Refusal.{Refusal}
-use Rattle.answers.specs.Try.{Try, refused, good, ◌>>=◌}
+use Rattle.answers.specs.Try.{Try, ◌>>=◌}
 use Rattle.octets.proofs.Laws.Lists.{Every}
 use Rattle.octets.specs.Number.{little, little_octets}
 use Rattle.unicode_text.proofs.Laws.Utf8.{Scalar}
 use Rattle.unicode_text.specs.Utf16.{high_unit, low_unit, point_octets, points_octets, is_high, is_low}
 use Rattle.unicode_text.proofs.Laws.Utf16.{one_unit, two-units}
-use Rattle.reader.specs.Field.{Read, read_octets}
+use Rattle.reader.specs.declared.field.Read.{Read}
+use Rattle.reader.specs.Field.{read_octets}
 use Rattle.reader.proofs.Laws.Field.{Left, octets_here, left_after, left-next, left-length}
-use Rattle.reader.specs.declared.field.Stretch.{Stretch}
+use Rattle.octets.specs.declared.part.Stretch.{Stretch}
 use Rattle.reader.specs.declared.text.Unit16.TheVariants.{Ends, Plain, High, Low}
 use Rattle.reader.specs.declared.text.Turn.{Turn}
 use Rattle.reader.specs.declared.text.Turn.TheVariants.{Stop, Go, Wrong}
 use Rattle.reader.specs.declared.text.UnitStep.{UnitStep}
 use Rattle.reader.specs.declared.text.UnitStep.TheVariants as step
 use Rattle.reader.specs.Text.{unit_of, turn, on_turn, read_text_from, read_text}
-use Rattle.reader.specs.Internal.Text.{step_to, on_unit, unit_step}
+use Rattle.reader.specs.Internal.Text.{step_to, unit_step}
 
 -- ---- units
 
@@ -63,7 +65,7 @@ low_unit_lem u a b =
 
 -- n octets from `at` on, then the zero unit
 abbrev pub Got : ℕ → ℕ → ℕ → Try (Read Stretch)
-Got start at n = good (record { value = record { start = start; len = at + n - start }; next = at + n + 2 })
+Got start at n = Ok (record { value = record { start = start; len = at + n - start }; next = at + n + 2 })
 
 module _ {s : List ℕ} (start : ℕ) where
   pub unit_step_lem : (k at a b u : ℕ) (rest : List ℕ) (h g : Bool) → Left s at ((a ∷ b ∷ []) ++ rest) → little (a ∷ b ∷ []) ≡ u → turn h (unit_of u) ≡ Go g
@@ -75,7 +77,7 @@ module _ {s : List ℕ} (start : ℕ) where
   unfolding read_text_from little_octets little unit_of
   zero-step k at rest l =
       let e : at ≡ at + 0 = omega arith in
-      rw (octets_here (little_octets 2 0) rest 2 refl l) (ap (λ (x : ℕ). good (record { value = record { start = start; len = x - start }; next = x + 2 })) e)
+      rw (octets_here (little_octets 2 0) rest 2 refl l) (ap (λ (x : ℕ). Ok (record { value = record { start = start; len = x - start }; next = x + 2 })) e)
 
   units-read : (cs : List ℕ) (k at : ℕ) (rest : List ℕ) → length (points_octets cs) < k → Every Scalar cs → Left s at (points_octets cs ++ (little_octets 2 0 ++ rest))
       → read_text_from k s start at false ≡ Got start at (length (points_octets cs))
@@ -98,7 +100,7 @@ module _ {s : List ℕ} (start : ℕ) where
       moved n e =
           let m : length (point_octets c ++ points_octets cs) ≡ length (point_octets c) + length (points_octets cs) = length-append (point_octets c) (points_octets cs) in
           let y : at + n + length (points_octets cs) ≡ at + length (point_octets c ++ points_octets cs) = omega arith in
-          ap (λ (z : ℕ). good (record { value = record { start = start; len = z - start }; next = z + 2 })) y
+          ap (λ (z : ℕ). Ok (record { value = record { start = start; len = z - start }; next = z + 2 })) y
 
       here : Left s at (point_octets c ++ after)
       here = rw (append_assoc (point_octets c) (points_octets cs) (little_octets 2 0 ++ rest)) at l
@@ -137,13 +139,13 @@ module _ {s : List ℕ} (start : ℕ) where
 
 -- the text that stands here, as its stretch, and what is left after it
 pub text_here : {s : List ℕ} {at : ℕ} (cs rest : List ℕ) → Every Scalar cs → Left s at (points_octets cs ++ (little_octets 2 0 ++ rest))
-    → read_text s at ≡ good (record { value = record { start = at; len = length (points_octets cs) }; next = at + length (points_octets cs) + 2 })
+    → read_text s at ≡ Ok (record { value = record { start = at; len = length (points_octets cs) }; next = at + length (points_octets cs) + 2 })
 unfolding read_text
 text_here {s} {at} cs rest ok l =
     let n : length s ≡ at + (length (points_octets cs) + length (little_octets 2 0 ++ rest)) = left-length (points_octets cs ++ (little_octets 2 0 ++ rest)) l ∙ simp length-append in
     let e : at + length (points_octets cs) - at ≡ length (points_octets cs) = omega arith in
     units-read at cs (suc (length s)) at rest (omega arith) ok l
-    ∙ ap (λ (x : ℕ). good (record { value = record { start = at; len = x }; next = at + length (points_octets cs) + 2 })) e
+    ∙ ap (λ (x : ℕ). Ok (record { value = record { start = at; len = x }; next = at + length (points_octets cs) + 2 })) e
 
 pub text-after : {s : List ℕ} {at : ℕ} (x rest : List ℕ) → Left s at (x ++ (little_octets 2 0 ++ rest)) → Left s (at + length x + 2) rest
 unfolding little_octets
@@ -153,25 +155,25 @@ text-after x rest l = left-next (little_octets 2 0) rest 2 refl (left_after x (l
 
 module _ (s : List ℕ) (start : ℕ) where
   -- what is left of the reading after a unit at an offset
-  abbrev after : ℕ → ℕ → UnitStep → Try (Read Stretch)
-  after k at (step.Stop next) = good (record { value = record { start = start; len = at - start }; next = next })
-  after k at (step.Go after_high_lem next) = read_text_from k s start next after_high_lem
-  after k at (step.Refused r) = refused r
+  abbrev after : ℕ → ℕ → Try UnitStep → Try (Read Stretch)
+  after k at (Ok (step.Stop next)) = Ok (record { value = record { start = start; len = at - start }; next = next })
+  after k at (Ok (step.Go after_high_lem next)) = read_text_from k s start next after_high_lem
+  after k at (Err r) = Err r
 
   one-turn : (k at : ℕ) (h : Bool) → read_text_from (suc k) s start at h ≡ after k at (unit_step s at h)
   unfolding read_text_from unit_step
   one-turn k at h = go (read_octets s at 2)
     where
-      turned : (next : ℕ) (t : Turn) → on_turn t (good (record { value = record { start = start; len = at - start }; next = next })) (λ g. read_text_from k s start next g) ≡ after k at (step_to next t)
+      turned : (next : ℕ) (t : Turn) → on_turn t (Ok (record { value = record { start = start; len = at - start }; next = next })) (λ g. read_text_from k s start next g) ≡ after k at (step_to next t)
       turned next Stop = refl
       turned next (Go g) = refl
       turned next Wrong = refl
 
       go : (u : Try (Read (List ℕ)))
-          → (u >>= λ x. on_turn (turn h (unit_of (little x.value))) (good (record { value = record { start = start; len = at - start }; next = x.next })) (λ g. read_text_from k s start x.next g))
-          ≡ after k at (on_unit h u)
-      go (refused r) = refl
-      go (good x) = turned x.next (turn h (unit_of (little x.value)))
+          → (u >>= λ x. on_turn (turn h (unit_of (little x.value))) (Ok (record { value = record { start = start; len = at - start }; next = x.next })) (λ g. read_text_from k s start x.next g))
+          ≡ after k at (u >>= λ x. step_to x.next (turn h (unit_of (little x.value))))
+      go (Err r) = refl
+      go (Ok x) = turned x.next (turn h (unit_of (little x.value)))
 
   -- the reading goes on at an offset, with units enough
   pub record TextLeft (at : ℕ) (after_high_lem : Bool) : Type 0 where
@@ -194,13 +196,13 @@ module _ (s : List ℕ) (start : ℕ) where
       go (suc k) e = (k, e, sym (one-turn k at h) ∙ sym (ap (λ (n : ℕ). read_text_from n s start at h) e) ∙ t.left)
 
   module _ {at : ℕ} {h : Bool} (t : TextLeft at h) where
-    pub text_stop : (next : ℕ) → unit_step s at h ≡ step.Stop next → read_text s start ≡ good (record { value = record { start = start; len = at - start }; next = next })
+    pub text_stop : (next : ℕ) → unit_step s at h ≡ Ok (step.Stop next) → read_text s start ≡ Ok (record { value = record { start = start; len = at - start }; next = next })
     text_stop next e = let l = leads at h t in sym l.2 ∙ ap (after l.0 at) e
 
-    pub text-refused : (r : Refusal) → unit_step s at h ≡ step.Refused r → read_text s start ≡ refused r
+    pub text-refused : (r : Refusal) → unit_step s at h ≡ Err r → read_text s start ≡ Err r
     text-refused r e = let l = leads at h t in sym l.2 ∙ ap (after l.0 at) e
 
-    pub text_go : (g : Bool) (next : ℕ) → unit_step s at h ≡ step.Go g next → next ≡ at + 2 → next ≤ length s → TextLeft next g
+    pub text_go : (g : Bool) (next : ℕ) → unit_step s at h ≡ Ok (step.Go g next) → next ≡ at + 2 → next ≤ length s → TextLeft next g
     text_go g next e two within =
         let l = leads at h t in
         record {

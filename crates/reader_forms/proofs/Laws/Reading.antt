@@ -1,35 +1,28 @@
--- What reading promises, by the enum that it returns; and the names of an array are those that were read, place by place.
-use mathlib.Core.Path.{◌≡◌, refl, sym, ap, ◌∙◌}
-use mathlib.Core.List.{List, map}
-use mathlib.Core.Option
-use Prim.Native.Nat.{ℕ, ◌<◌}
-use lib.ListN.{take, get_or}
-use lib.Seq.{get_or-take}
+-- What reading promises, by what it returns.
+use Rattle.std.proofs.Common.{Ok, Err, option_map}
+use mathlib.Core.Path.{◌≡◌, refl, ap, ◌∙◌}
+use mathlib.Core.List.{List}
+use Prim.Native.Nat.{ℕ}
 use Rattle.answers.specs.declared.Form.{Form}
-use Rattle.answers.specs.Try.{Try, refused, good, number_of, value_of}
+use Rattle.answers.specs.Try.{Try, number_of, value_of}
 use Rattle.reader.specs.Reader as reader
-use Rattle.reader.specs.Reader.{NameRead, read_in, read_length}
-use Rattle.reader_names.specs.declared.NameAt.{NameAt}
-use Rattle.reader_names.specs.Name.{name_as}
+use Rattle.reader.specs.Reader.{read_in, read_length}
 use Rattle.reader_forms.specs.declared.reading.Reading.{Reading}
-use Rattle.reader_forms.specs.Reading.{no_name, name_in, fields_as, reading_as, reading_number, reading_length, reading_fields, ReadReplyPromise}
+use Rattle.reader_forms.specs.Reading.{fields_as, reading_as, reading_length, reading_fields, ReadReplyPromise}
 
-pub read_reply_promised : (reply : List ℕ) (form : Form) (v : ℕ) (r : Reading) → r ≡ reading_as reply (read_in form v reply) → ReadReplyPromise reply form v r
+pub read_reply_promised : (reply : List ℕ) (form : Form) (v : ℕ) (r : Try Reading) → r ≡ reading_as reply (read_in form v reply) → ReadReplyPromise reply form v r
 read_reply_promised reply form v r e =
     let t : Try reader.Fields = read_in form v reply in
-    record { same = e; numbered = ap reading_number e ∙ numbers t; sized = ap reading_length e ∙ sizes t; given = ap reading_fields e ∙ gives t }
+    record { same = e; numbered = ap number_of e ∙ numbers t; sized = ap reading_length e ∙ sizes t; given = ap reading_fields e ∙ gives t }
   where
-    numbers : (t : Try reader.Fields) → reading_number (reading_as reply t) ≡ number_of t
-    numbers (refused x) = refl
-    numbers (good f) = refl
+    numbers : (t : Try reader.Fields) → number_of (reading_as reply t) ≡ number_of t
+    numbers (Err x) = refl
+    numbers (Ok f) = refl
 
     sizes : (t : Try reader.Fields) → reading_length (reading_as reply t) ≡ read_length t reply
-    sizes (refused x) = refl
-    sizes (good f) = refl
+    sizes (Err x) = refl
+    sizes (Ok f) = refl
 
-    gives : (t : Try reader.Fields) → reading_fields (reading_as reply t) ≡ Option.map fields_as (value_of t)
-    gives (refused x) = refl
-    gives (good f) = refl
-
-pub name-at : (names : List NameAt) (given : List NameRead) (count k : ℕ) → k < count → take count names ≡ map name_as given → get_or names k (name_as no_name) ≡ name_in given k
-name-at names given count k h e = sym (get_or-take count names k (name_as no_name) h) ∙ ap (λ (x : List NameAt). get_or x k (name_as no_name)) e
+    gives : (t : Try reader.Fields) → reading_fields (reading_as reply t) ≡ option_map fields_as (value_of t)
+    gives (Err x) = refl
+    gives (Ok f) = refl

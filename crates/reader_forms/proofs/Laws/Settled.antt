@@ -1,27 +1,25 @@
 -- The two calls together give what document 01 says that reading gives: every name was read where it starts, and as many as the form has.
+use Rattle.std.proofs.Common.{Ok, Err, Option, None, Some, option_map}
 use mathlib.Core.Path.{◌≡◌, refl, sym, ap, ◌∙◌, subst}
 use mathlib.Core.List.{List, [], ◌∷◌, map}
-use mathlib.Core.Option
-use mathlib.Core.Option.{Option, none, some}
 use Prim.Native.Nat.{ℕ, zero, suc, ◌+◌, ◌<◌}
 use native.Mathlib.Omega.{arith}
 use lib.ListN.{length, drop, get_or}
 use lib.Seq.{drop-cons, drop-length}
 use Rattle.answers.specs.declared.Form.{Form}
-use Rattle.answers.specs.Try.{Try, refused, good}
+use Rattle.answers.specs.Try.{Try}
 use Rattle.names.specs.Walk.{WalkedName}
 use Rattle.names.proofs.Laws.Walk.{walk_inside, walk-found}
 use Rattle.octets.proofs.Laws.Lists.{Every}
-use Rattle.reader.specs.declared.field.Stretch.{Stretch}
-use Rattle.reader.specs.Field.{Read}
+use Rattle.reader.specs.declared.field.Read.{Read}
 use Rattle.reader.specs.Name.{read_name}
 use Rattle.reader.specs.Reader as reader
 use Rattle.reader.proofs.Laws.Name.{reader_walks}
 use Rattle.reader.specs.Reader.{NameRead, joined_name, read_in}
 use Rattle.reader_names.specs.Name.{name_as}
 use Rattle.reader_text.specs.Text.{name_text_lem, text_octets, text_given}
-use Rattle.reader_forms.specs.Reading.{no_name, address_as, next_site_as, fields_as, reading_as}
-use Rattle.reader_forms.specs.Settled.{site_read, name_from, address_from, fields_from, read_from, ReadingSettled}
+use Rattle.reader_forms.specs.Reading.{no_name, fields_as, reading_as}
+use Rattle.reader_forms.specs.Settled.{name_from, fields_from, read_from, ReadingSettled}
 use Rattle.reader_forms.proofs.Laws.Names.{SiteHas, AllHave, all_have}
 
 -- ---- a list as its elements one by one
@@ -41,7 +39,7 @@ module _ (s : List ℕ) (text : ℕ → List ℕ) (gives : (at : ℕ) → at < l
   abbrev Told : NameRead → Type 0
   Told n = text n.start ≡ n.text
 
-  name-told : (at : ℕ) (f : Read WalkedName) → read_name s at ≡ good f → Told (joined_name at f.value)
+  name-told : (at : ℕ) (f : Read WalkedName) → read_name s at ≡ Ok f → Told (joined_name at f.value)
   unfolding name_text_lem
   name-told at f e = gives at (walk_inside (walk-found s at f.value (reader_walks s at f e)).1) ∙ rw e
 
@@ -61,9 +59,9 @@ module _ (s : List ℕ) (text : ℕ → List ℕ) (gives : (at : ℕ) → at < l
       map-length [] = refl
       map-length (x ∷ xs) = ap suc (map-length xs)
 
-  site-back : (site : Option NameRead) → SiteHas s Told name-told site → Option.map (name_from text) (site_read (next_site_as site)) ≡ site
-  site-back none e = refl
-  site-back (some n) e = ap some (name_back n e)
+  site-back : (site : Option NameRead) → SiteHas s Told name-told site → option_map (name_from text) (option_map name_as site) ≡ site
+  site-back None e = refl
+  site-back (Some n) e = ap Some (name_back n e)
 
   -- ---- fields
 
@@ -86,20 +84,15 @@ module _ (s : List ℕ) (text : ℕ → List ℕ) (gives : (at : ℕ) → at < l
             version = f.version;
           })
   fields_back (reader.ex f) t =
-      ap (λ (x : List NameRead). made x (address_from (address_as f.ipv4)) (Option.map (name_from text) (site_read (next_site_as f.next_site_lem)))) (places-back 8 f.names t.0 t.1)
-      ∙ ap (λ (x : Option Stretch). made f.names x (Option.map (name_from text) (site_read (next_site_as f.next_site_lem)))) (address-back f.ipv4)
-      ∙ ap (λ (x : Option NameRead). made f.names f.ipv4 x) (site-back f.next_site_lem t.2)
+      ap (λ (x : List NameRead). made x (option_map (name_from text) (option_map name_as f.next_site_lem))) (places-back 8 f.names t.0 t.1)
+      ∙ ap (made f.names) (site-back f.next_site_lem t.2)
     where
-      made : List NameRead → Option Stretch → Option NameRead → reader.Fields
-      made names ipv4 site = reader.ex (record { opcode = f.opcode; flags = f.flags; guid = f.guid; names = names; ipv4 = ipv4; next_site_lem = site; version = f.version })
-
-      address-back : (o : Option Stretch) → address_from (address_as o) ≡ o
-      address-back none = refl
-      address-back (some x) = refl
+      made : List NameRead → Option NameRead → reader.Fields
+      made names site = reader.ex (record { opcode = f.opcode; flags = f.flags; guid = f.guid; names = names; ipv4 = f.ipv4; next_site_lem = site; version = f.version })
 
   reading_back : (form : Form) (v : ℕ) (t : Try reader.Fields) → read_in form v s ≡ t → read_from text (reading_as s t) ≡ t
-  reading_back form v (refused r) e = refl
-  reading_back form v (good f) e = ap good (fields_back f (all_have s Told name-told form v f e))
+  reading_back form v (Err r) e = refl
+  reading_back form v (Ok f) e = ap Ok (fields_back f (all_have s Told name-told form v f e))
 
 pub reading_settled : ReadingSettled
 reading_settled s form v r texts promise gives =

@@ -1,16 +1,10 @@
--- What the enum says of a reply's end: the fields read before it, whatever they are, or a refusal.
-use Rattle.std.specs.Prelude.{◌≡◌, List, ℕ}
-use Rattle.answers.specs.Try.{Try, refused, good, ◌>>=◌}
+-- What a reply's end is: the fields read before it, whatever they are, or a refusal.
+use Rattle.std.specs.Prelude.{◌≡◌, List, ℕ, Ok}
+use Rattle.answers.specs.Try.{Try, ◌>>=◌}
 use Rattle.reader.specs.Reader.{Fields, read_constant, read_tokens}
-use Rattle.reader_forms.specs.declared.ending.Ending.{Ending}
-use Rattle.reader_forms.specs.declared.ending.Ending.TheVariants.{Whole, Refused}
 
-abbrev pub ending_in : Fields → Ending → Try Fields
-ending_in fields Whole = good fields
-ending_in fields (Refused r) = refused r
+abbrev pub TokensEnd : List ℕ → ℕ → Try (Unit {0}) → Type 0
+TokensEnd s at r = (fields : Fields) → (r >>= λ done. Ok fields) ≡ read_tokens s at fields
 
-abbrev pub TokensEnd : List ℕ → ℕ → Ending → Type 0
-TokensEnd s at r = (fields : Fields) → ending_in fields r ≡ read_tokens s at fields
-
-abbrev pub VersionEnds : List ℕ → ℕ → ℕ → Ending → Type 0
-VersionEnds s at version r = (fields : Fields) → ending_in fields r ≡ (read_constant 4 version s at >>= λ e. read_tokens s e.next fields)
+abbrev pub VersionEnds : List ℕ → ℕ → ℕ → Try (Unit {0}) → Type 0
+VersionEnds s at version r = (fields : Fields) → (r >>= λ done. Ok fields) ≡ (read_constant 4 version s at >>= λ e. read_tokens s e.next fields)

@@ -1,14 +1,14 @@
--- What the enum says that reading the opcode and the three texts returns.
-use Rattle.answers.specs.Try.{Try, refused, good}
-use Rattle.reader.specs.Field.{Read}
+-- What reading the opcode and the three texts returns.
+use Rattle.std.specs.Prelude.{Ok}
+use Rattle.answers.specs.Try.{Try, ◌>>=◌}
+use Rattle.reader.specs.declared.field.Read.{Read}
 use Rattle.reader.specs.Reader as reader
 use Rattle.reader_older.specs.declared.opening.Opening.{Opening}
-use Rattle.reader_older.specs.declared.opening.OpeningRead.{OpeningRead}
-use Rattle.reader_older.specs.declared.opening.OpeningRead.TheVariants as opening
 
-abbrev pub opening_of : Opening → Read reader.Opening
-opening_of o = record { value = record { opcode = o.opcode; server = o.server; user = o.user; domain = o.domain }; next = o.next }
+abbrev pub opening_of : Opening → reader.Opening
+opening_of o = record { opcode = o.opcode; server = o.server; user = o.user; domain = o.domain }
 
-abbrev pub opening_in : OpeningRead → Try (Read reader.Opening)
-opening_in (opening.Opening o) = good (opening_of o)
-opening_in (opening.Refused r) = refused r
+abbrev pub opening_in : Try (Read Opening) → Try (Read reader.Opening)
+opening_in r = do
+  o ← r
+  Ok (record { value = opening_of o.value; next = o.next })

@@ -1,28 +1,23 @@
 -- A reply as it is planned: the names that its form writes, and its length.
-use Rattle.std.specs.Prelude.{◌≡◌, Bool, true, false, List, [], ◌++◌, ℕ, length, get_or, take}
-use Rattle.std.proofs.Math.Option.{Option, none, some}
+use Rattle.std.specs.Prelude.{◌≡◌, Bool, true, false, List, [], ◌++◌, ℕ, length, get_or, take, Option, None, Some}
 use Rattle.answers.specs.declared.Form.{Form}
 use Rattle.answers.specs.declared.Form.TheVariants.{Nt40, Response, Ex}
 use Rattle.answers.specs.Wire.{ex_version, ex_version_with_next_site}
-use Rattle.names.specs.declared.plan.Ending.TheVariants.{Zero}
 use Rattle.names.specs.declared.plan.PlannedName.{PlannedName}
 use Rattle.names.specs.Name.{write_name, write_names}
-use Rattle.names.specs.Internal.Plan.{Fit, AllFit, name_octets, names_tails, writing_of, writings_of}
+use Rattle.names.specs.Internal.Plan.{blank_name, Fit, AllFit, name_octets, names_tails, writing_of, writings_of}
 use Rattle.reply.specs.declared.raw.RawReply.{RawReply}
 use Rattle.reply.specs.declared.plan.Plan.{Plan}
 use Rattle.reply.specs.Reply.{Reply, ending, response_head, response_names, ex_head, ex_names, address_if, octets_in}
-use Rattle.reply.specs.Internal.RawReply.{no_stretch, reply_in, Short}
+use Rattle.reply.specs.Internal.RawReply.{reply_in}
 
 -- before name 8, or before the version where there is none
 unfoldable pub ex_front : Reply → List ℕ
 ex_front r = ex_head r ++ (write_names [] (length (ex_head r)) (ex_names r)).octets ++ address_if r.with_address_lem r.ipv4
 
-abbrev pub no_name : PlannedName
-no_name = record { text = no_stretch; offset = 0; literal = 0; ending = Zero }
-
 -- name 8 in the plan
 abbrev pub last_name : List PlannedName → PlannedName
-last_name names = get_or names 8 no_name
+last_name names = get_or names 8 blank_name
 
 module _ (table request : List ℕ) where
   -- name 8 and the version by it, as planned
@@ -40,8 +35,8 @@ module _ (table request : List ℕ) where
 
   -- name 8 is planned after the eight others
   abbrev pub NextPlan : Option (List ℕ) → List PlannedName → ℕ → Type 0
-  NextPlan none names at = Unit {0}
-  NextPlan (some text) names at =
+  NextPlan None names at = Unit {0}
+  NextPlan (Some text) names at =
       Fit table request (last_name names) × (write_name (names_tails table request (take 8 names)) at text ≡ writing_of table request (last_name names))
 
   pub record ExPlan (r : Reply) (names : List PlannedName) : Type 0 where
@@ -55,6 +50,5 @@ module _ (table request : List ℕ) where
   NamesPlan Ex r names = ExPlan r names
 
   pub record PlanOf (form : Form) (raw : RawReply) (plan : Plan) : Type 0 where
-    pub short : Short raw
     pub names : NamesPlan form (reply_in table request raw) plan.«names»
     pub whole : plan.«length» ≡ length (octets_in form (reply_in table request raw))

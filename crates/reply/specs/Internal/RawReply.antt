@@ -1,22 +1,17 @@
 -- What a reply says whose texts are stretches of the table image or of the ping's source.
-use Rattle.std.specs.Prelude.{Bool, true, false, List, ℕ, ◌≤◌, get_or}
-use Rattle.std.proofs.Math.Option.{Option, none, some}
-use Rattle.lent.specs.declared.stretch.Lender.TheVariants.{Table}
+use Rattle.std.specs.Prelude.{Bool, true, false, List, ℕ, get_or, Option, None, Some}
 use Rattle.lent.specs.declared.stretch.Stretch.{Stretch}
-use Rattle.lent.specs.Internal.Stretch.{octets_at}
+use Rattle.lent.specs.Internal.Stretch.{octets_at, empty_stretch}
 use Rattle.reply.specs.declared.raw.RawReply.{RawReply}
 use Rattle.reply.specs.Reply.{Reply}
 
-abbrev pub no_stretch : Stretch
-no_stretch = record { lender = Table; start = 0; len = 0 }
-
 -- the text of a slot
 abbrev pub slot_text : List ℕ → List ℕ → List Stretch → ℕ → List ℕ
-slot_text table request slots k = octets_at table request (get_or slots k no_stretch)
+slot_text table request slots k = octets_at table request (get_or slots k empty_stretch)
 
 abbrev pub text_if : Bool → List ℕ → Option (List ℕ)
-text_if true text = some text
-text_if false text = none
+text_if true text = Some text
+text_if false text = None
 
 abbrev pub reply_in : List ℕ → List ℕ → RawReply → Reply
 reply_in table request r =
@@ -37,9 +32,3 @@ reply_in table request r =
       with_address_lem = r.with_address;
       next_site_lem = text_if r.with_next_site (text 8);
     }
-
--- no stretch is over 255 octets, so that lengths and offsets stay small
-pub record Short (r : RawReply) : Type 0 where
-  pub guid : r.«guid».len ≤ 255
-  pub ipv4 : r.«ipv4».len ≤ 255
-  pub slots : (k : ℕ) → (get_or r.«slots» k no_stretch).len ≤ 255

@@ -11,8 +11,8 @@ use Rattle.lent.specs.declared.stretch.Stretch.{Stretch}
 use Rattle.lent.specs.Internal.Stretch.{octets_at}
 use Rattle.names.specs.declared.plan.PlannedName.{PlannedName}
 use Rattle.names.specs.Name.{write_name}
-use Rattle.names.specs.Internal.Plan.{Fit, name_octets, names_tails, writing_of, PlanOf}
-use Rattle.reply.specs.Internal.Plan.{no_name, last_name, last_octets}
+use Rattle.names.specs.Internal.Plan.{blank_name, Fit, name_octets, names_tails, writing_of, PlanOf}
+use Rattle.reply.specs.Internal.Plan.{last_name, last_octets}
 use Rattle.reply.proofs.Laws.Reply.{ending-length}
 use Rattle.reply.proofs.Laws.Plan.{last-length}
 use Rattle.reply_plan.specs.Internal.LastPlan.{LastPlan}
@@ -26,7 +26,7 @@ module _ (table request : List ℕ) (names : List PlannedName) (text : Stretch) 
     before = take-set-le 8 names 8 name (omega arith)
 
     last : name ≡ last_name (set names 8 name)
-    last = sym (get_or-set_same names 8 name no_name h)
+    last = sym (get_or-set_same names 8 name blank_name h)
 
     pub last_planned : LastPlan table request names true text front (record { «names» = set names 8 name; «length» = front + size + 8 })
     last_planned =

@@ -1,13 +1,13 @@
 -- After each name the writer's tails are all endings of the names so far: each ending was written literally once, or was pointed to, and then it was there.
+use Rattle.std.proofs.Common.{Option, None, Some, is_some}
 use mathlib.Core.Path.{◌≡◌, refl, sym, ap, ◌∙◌, subst}
 use mathlib.Core.Bool.{Bool, true, false}
 use mathlib.Core.List.{List, [], ◌∷◌, ◌++◌, append-nil}
-use mathlib.Core.Option.{Option, none, some}
 use Prim.Native.Nat.{ℕ, ◌+◌}
 use lib.ListN.{length}
 use Rattle.names.specs.Name.{Tail, Writing, literally, pointer_or, write_labels}
 use Rattle.octets.specs.Label.{labels, joined}
-use Rattle.octets.specs.Lists.{first, first_or, is_some}
+use Rattle.octets.specs.Lists.{first, first_or}
 use Rattle.octets.specs.Text.{same}
 use Rattle.octets.proofs.Laws.Label.{Plain, labels-joined}
 use Rattle.octets.proofs.Laws.Lists.{Every, every_append, every_weaken, found, or_else, first-append, true_not_false}
@@ -36,8 +36,8 @@ endings_more a b more [] h = tt
 endings_more a b more (l ∷ ls) h = (more (joined (l ∷ ls)) h.0, endings_more a b more ls h.1)
 
 either_some : (x y : Option Tail) → is_some x ≡ true → is_some (or_else x y) ≡ true
-either_some none y e = absurd (true_not_false (sym e))
-either_some (some t) y e = refl
+either_some None y e = absurd (true_not_false (sym e))
+either_some (Some t) y e = refl
 
 pub holds-before : (a b : List Tail) (text : List ℕ) → Holds a text → Holds (a ++ b) text
 holds-before a b text h = rw (first-append (λ t. same t.text text) a b) (either_some (find a text) (find b text) h)
@@ -49,17 +49,17 @@ holds-between a b t text h =
     rw (first-append (λ t. same t.text text) a (t ∷ b)) (go (find a text) (same t.text text) (find b text) (rw (first-append (λ t. same t.text text) a b) at h))
   where
     go : (x : Option Tail) (c : Bool) (y : Option Tail) → is_some (or_else x y) ≡ true → is_some (or_else x (first_or c t y)) ≡ true
-    go none true y e = refl
-    go none false y e = e
-    go (some u) c y e = refl
+    go None true y e = refl
+    go None false y e = e
+    go (Some u) c y e = refl
 
 holds_this : (a b : List Tail) (at : ℕ) (text : List ℕ) → Holds (a ++ (record { offset = at; text = text } ∷ b)) text
 unfolding first
 holds_this a b at text = rw (first-append (λ t. same t.text text) a (record { offset = at; text = text } ∷ b), same_self text) (go (find a text))
   where
-    go : (x : Option Tail) → is_some (or_else x (some (record { offset = at; text = text }))) ≡ true
-    go none = refl
-    go (some u) = refl
+    go : (x : Option Tail) → is_some (or_else x (Some (record { offset = at; text = text }))) ≡ true
+    go None = refl
+    go (Some u) = refl
 
 -- ---- one name
 
@@ -79,12 +79,12 @@ endings_held earlier at (l ∷ ls) plain closed = go (find earlier text) refl (e
     here = literally at text l rest
 
     go : (f : Option Tail) → find earlier text ≡ f → HoldsEndings (earlier ++ rest.tails) ls → HoldsEndings (earlier ++ (pointer_or f here).tails) (l ∷ ls)
-    go (some t) q h =
+    go (Some t) q h =
         let f = found (λ t. same t.text text) (λ t. HoldsEndings earlier (labels t.text)) earlier t closed q in
         let e : labels t.text ≡ l ∷ ls = ap labels (same_equal t.text text f.1) ∙ labels-joined (l ∷ ls) plain in
         let h : HoldsEndings (earlier ++ []) (l ∷ ls) = subst (λ (x : List Tail). HoldsEndings x (l ∷ ls)) (sym (append-nil earlier)) (rw e at f.0) in
         h
-    go none q h =
+    go None q h =
         let new : Tail = record { offset = at; text = text } in
         (holds_this earlier rest.tails at text, endings_more (earlier ++ rest.tails) (earlier ++ (new ∷ rest.tails)) (holds-between earlier rest.tails new) ls h)
 
@@ -98,8 +98,8 @@ own_endings earlier at (l ∷ ls) all plain h = go (find earlier (joined (l ∷ 
     rest = write_labels earlier (at + (1 + length l)) ls
 
     go : (f : Option Tail) → Every (λ t. HoldsEndings all (labels t.text)) rest.tails → Every (λ t. HoldsEndings all (labels t.text)) (pointer_or f (literally at (joined (l ∷ ls)) l rest)).tails
-    go (some t) r = tt
-    go none r = (rw (labels-joined (l ∷ ls) plain) h, r)
+    go (Some t) r = tt
+    go None r = (rw (labels-joined (l ∷ ls) plain) h, r)
 
 pub closed_after : (earlier : List Tail) (at : ℕ) (ls : List (List ℕ)) → Plain ls → Closed earlier → Closed (earlier ++ (write_labels earlier at ls).tails)
 closed_after earlier at ls plain closed =

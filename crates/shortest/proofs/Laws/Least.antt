@@ -1,14 +1,13 @@
 -- Compared field by field: document 01's reply is one of those compared, and no longer than any.
+use Rattle.std.proofs.Common.{Option, None, Some, is_some}
 use mathlib.Core.Path.{◌≡◌, refl, sym, subst}
 use mathlib.Core.Bool.{true}
 use mathlib.Core.List.{List, [], ◌∷◌, ◌++◌, map, map-append, Memᴰ as Among}
-use mathlib.Core.Option.{Option, none, some}
 use Prim.Native.Nat.{ℕ, ◌+◌, ◌<◌, ◌≤◌}
 use native.Mathlib.Omega.{arith}
 use lib.ListN.{length, length-append}
 use Rattle.names.specs.Name.{Tail, Writing, pointer_to, literal_label, literally, pointer_or, write_labels, write_name}
 use Rattle.octets.specs.Label.{labels, joined}
-use Rattle.octets.specs.Lists.{is_some}
 use Rattle.octets.specs.Number.{big_octets, little_octets}
 use Rattle.octets.specs.Text.{same}
 use Rattle.octets.proofs.Laws.Label.{Plain}
@@ -42,16 +41,16 @@ name-least tails from h (label {l = l} {ls = ls} {s = s} w) = go (find tails (jo
     rest = write_labels tails (from + (1 + length l)) ls
 
     go : (f : Option Tail) → length rest.octets ≤ length s → length (pointer_or f (literally from (joined (l ∷ ls)) l rest)).octets ≤ length ((length l ∷ l) ++ s)
-    go none r = simp length-append (omega arith)
-    go (some t) r = simp length-append (omega (arith, some_octet w))
+    go None r = simp length-append (omega arith)
+    go (Some t) r = simp length-append (omega (arith, some_octet w))
 name-least tails from h (pointer {ls = ls} {t = t} m e low) = go ls (subst (Holds tails) e (every_among (λ n. Holds tails n.text) h m))
   where
     here : List ℕ → List (List ℕ) → Writing
     here l rest = literally from (joined (l ∷ rest)) l (write_labels tails (from + (1 + length l)) rest)
 
     points : (l : List ℕ) (rest : List (List ℕ)) (f : Option Tail) → is_some f ≡ true → length (pointer_or f (here l rest)).octets ≤ 2
-    points l rest none q = absurd (true_not_false (sym q))
-    points l rest (some u) q = omega arith
+    points l rest None q = absurd (true_not_false (sym q))
+    points l rest (Some u) q = omega arith
 
     go : (left : List (List ℕ)) → Holds tails (joined left) → length (write_labels tails from left).octets ≤ 2
     go [] q = omega arith
@@ -108,8 +107,8 @@ name-compared tails at (l ∷ ls) low = go (find tails text) refl (name-compared
 
     go : (f : Option Tail) → find tails text ≡ f → NameWritten (map literal tails) (at + (1 + length l)) ls rest.octets (map literal rest.tails)
         → NameWritten (map literal tails) at (l ∷ ls) (pointer_or f here).octets (map literal (pointer_or f here).tails)
-    go none q w = label w
-    go (some t) q w =
+    go None q w = label w
+    go (Some t) q w =
         let there = found (λ t. same t.text text) (λ t. Among (literal t) (map literal tails)) tails t (among_self tails) q in
         pointer {t = literal t} there.0 (same_equal t.text text there.1) (found (λ t. same t.text text) Low tails t low q).0
 
@@ -126,8 +125,8 @@ own-low tails at (l ∷ ls) room = go (find tails (joined (l ∷ ls))) room (λ 
     here = literally at (joined (l ∷ ls)) l rest
 
     go : (f : Option Tail) → at + length (pointer_or f here).octets ≤ 0x4000 → (at + (1 + length l) + length rest.octets ≤ 0x4000 → Every Low rest.tails) → Every Low (pointer_or f here).tails
-    go none h r = let n : length (l ++ rest.octets) ≡ length l + length rest.octets = length-append l rest.octets in (omega arith, r (omega arith))
-    go (some t) h r = tt
+    go None h r = let n : length (l ++ rest.octets) ≡ length l + length rest.octets = length-append l rest.octets in (omega arith, r (omega arith))
+    go (Some t) h r = tt
 
 pub fields_compared : (fields : List Field) (tails : List Tail) (at : ℕ) → Every Low tails → at + length (written tails at fields) ≤ 0x4000
     → (places : List Placed) × FieldsWritten (map literal tails) at fields (written tails at fields) places

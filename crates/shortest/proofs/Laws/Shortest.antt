@@ -1,9 +1,9 @@
 -- #113 is proved: of both forms, for any texts that are names, and so of every answer.
+use Rattle.std.proofs.Common.{Option, None, Some}
 use mathlib.Core.Path.{◌≡◌, refl, sym, ap, ap₂, ◌∙◌}
 use mathlib.Core.Bool.{true, false}
 use mathlib.Core.List.Memᴰ
 use mathlib.Core.List.{List, [], ◌∷◌, ◌++◌, map, flat_map, append-nil, append_assoc}
-use mathlib.Core.Option.{Option, none, some}
 use Prim.Native.Nat.{ℕ, ◌+◌, ◌≤◌}
 use native.Mathlib.Nat.{zero-add}
 use native.Mathlib.Omega.{arith}
@@ -52,17 +52,17 @@ names-row (text ∷ texts) tails at fields =
     ∙ sym (append_assoc one.octets more.octets _)
 
 -- a head, names, and fields after them
-after_head_lem : (head : List ℕ) (texts : List (List ℕ)) (fields : List Field)
+written_after_head : (head : List ℕ) (texts : List (List ℕ)) (fields : List Field)
     → (let w = write_names [] (length head) texts in
     written [] 0 (fixed head ∷ (map name texts ++ fields)) ≡ head ++ (w.octets ++ written w.tails (length head + length w.octets) fields))
 unfolding written
-after_head_lem head texts fields =
+written_after_head head texts fields =
     ap (λ (s : List ℕ). head ++ s) (ap (λ (n : ℕ). written [] n (map name texts ++ fields)) (zero-add (length head)) ∙ names-row texts [] (length head) fields)
 
-last_fields_lem : (site : Option (List ℕ)) (names : Writing) (at : ℕ) → written names.tails at (last_fields site) ≡ ex_last site names at
+last_fields_written : (site : Option (List ℕ)) (names : Writing) (at : ℕ) → written names.tails at (last_fields site) ≡ ex_last site names at
 unfolding written
-last_fields_lem none names at = append-nil (ending ex_version)
-last_fields_lem (some text) names at = ap (λ (s : List ℕ). (write_name names.tails at text).octets ++ s) (append-nil (ending ex_version_with_next_site))
+last_fields_written None names at = append-nil (ending ex_version)
+last_fields_written (Some text) names at = ap (λ (s : List ℕ). (write_name names.tails at text).octets ++ s) (append-nil (ending ex_version_with_next_site))
 
 by_fields : (form : Form) (r : Reply) → octets_in form r ≡ written [] 0 (fields_of form r)
 unfolding written response_octets ex_octets
@@ -71,7 +71,7 @@ by_fields Response r =
     let names : Writing = write_names [] (length (response_head r)) (response_names r) in
     let end : List ℕ = r.ipv4 ++ u32 r.flags ++ ending response_version in
     let whole : response_head r ++ names.octets ++ r.ipv4 ++ u32 r.flags ++ ending response_version ≡ response_head r ++ (names.octets ++ (end ++ [])) = simp (append_assoc, append-nil) in
-    whole ∙ sym (after_head_lem (response_head r) (response_names r) (fixed end ∷ []))
+    whole ∙ sym (written_after_head (response_head r) (response_names r) (fixed end ∷ []))
 by_fields Ex r =
     let head : List ℕ = ex_head r in
     let names : Writing = write_names [] (length head) (ex_names r) in
@@ -80,9 +80,9 @@ by_fields Ex r =
     let n : length head + length names.octets + length address ≡ length (head ++ names.octets ++ address) = simp length-append in
     let whole : head ++ names.octets ++ address ++ last ≡ head ++ (names.octets ++ (address ++ last)) = simp append_assoc in
     whole
-    ∙ sym (after_head_lem head (ex_names r) (fixed address ∷ last_fields r.next_site_lem)
+    ∙ sym (written_after_head head (ex_names r) (fixed address ∷ last_fields r.next_site_lem)
     ∙ ap (λ (s : List ℕ). head ++ (names.octets ++ (address ++ s)))
-    (ap (λ (k : ℕ). written names.tails k (last_fields r.next_site_lem)) n ∙ last_fields_lem r.next_site_lem names (length (head ++ names.octets ++ address))))
+    (ap (λ (k : ℕ). written names.tails k (last_fields r.next_site_lem)) n ∙ last_fields_written r.next_site_lem names (length (head ++ names.octets ++ address))))
 
 -- ---- texts that are names
 
@@ -111,9 +111,9 @@ all-read-back form r names other places w = says_names (names_plain (texts_of (f
 
 -- ---- every answer's texts are names, and its reply is short
 
-last_plain : (site : Option (List ℕ)) → ((text : List ℕ) → site ≡ some text → Writable 63 text) → Every (λ text. Plain (labels text)) (texts_of (last_fields site))
-last_plain none h = tt
-last_plain (some text) h = ((h text refl).plain, tt)
+last_plain : (site : Option (List ℕ)) → ((text : List ℕ) → site ≡ Some text → Writable 63 text) → Every (λ text. Plain (labels text)) (texts_of (last_fields site))
+last_plain None h = tt
+last_plain (Some text) h = ((h text refl).plain, tt)
 
 texts_plain : (form : Form) (v : ℕ) (r : Reply) → Sound form v r → Every (λ text. Plain (labels text)) (texts_of (fields_of form r))
 texts_plain Nt40 v r k = tt
@@ -125,7 +125,7 @@ shortest : (form : Form) (v : ℕ) (r : Reply) → Sound form v r → Shortest f
 shortest form v r k =
     let names : AreNames form r = plain_names (texts_of (fields_of form r)) (texts_plain form v r k) in
     let one = document_reply_compared form r (omega (arith, sound_length form v r k)) in
-    record { places = one.0; compared = one.1; least = none_shorter form r names; read_back_lem = all-read-back form r names }
+    record { places = one.0; compared = one.1; least = none_shorter form r names; read_back = all-read-back form r names }
 
 pub shortest_answer_over : ShortestAnswerOver
 shortest_answer_over = every_sound Shortest shortest
@@ -152,7 +152,7 @@ sample =
       client_site_lem = [];
       ipv4 = replicate 4 0;
       with_address_lem = false;
-      next_site_lem = none;
+      next_site_lem = None;
     }
 
 longer-response : Longer Response

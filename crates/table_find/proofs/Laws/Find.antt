@@ -1,8 +1,8 @@
--- The name as it is compared, by its cases; and each lookup of the table is the search by its key.
+-- The name as it is compared, by its cases; and a lookup of the table is a search in the used records of a kind.
+use Rattle.std.proofs.Common.{option_map}
 use mathlib.Core.Path.{◌≡◌, refl, sym, ap, ◌∙◌}
 use mathlib.Core.Bool.{Bool, true, false, cond, not, ◌&&◌}
 use mathlib.Core.List.{List, [], ◌∷◌, ◌++◌, map, flat_map}
-use mathlib.Core.Option
 use Prim.Native.Nat.{ℕ, suc, ◌+◌, ◌-◌, ◌≤◌, ◌<◌}
 use native.Mathlib.Omega.{arith}
 use lib.Dec.{eqb, leb}
@@ -10,19 +10,14 @@ use lib.ListN.{length, take, get_or, length-append}
 use borrow.Author.Tests.{leb-true, leb-false, le-leb, lt-leb}
 use Rattle.octets.specs.Lists.{first, keep}
 use Rattle.octets.proofs.Laws.Lists.{first-map, first-keep}
-use Rattle.table.specs.declared.ContextNumber.{ContextNumber}
 use Rattle.table.specs.declared.record.RecordKind.{RecordKind}
 use Rattle.table.specs.declared.record.RecordKind.TheVariants as kind
-use Rattle.table.specs.Account.{account_of}
-use Rattle.table.specs.Context.{context_of}
+use Rattle.table.specs.Account.{Account, account_of}
+use Rattle.table.specs.Context.{Context, context_of}
 use Rattle.table.specs.Format.{format_of, records_in}
-use Rattle.table.specs.Site.{site_of}
+use Rattle.table.specs.Site.{Site, site_of}
 use Rattle.table.specs.Table.{is_used, bodies, records_of, table_of}
-use Rattle.table_find.specs.declared.search.ContextKey.{ContextKey}
-use Rattle.table_find.specs.declared.search.SiteKey.{SiteKey}
-use Rattle.table_find.specs.declared.search.Key.TheVariants as key
-use Rattle.table_find.specs.Find.{name_compared, is_account_of}
-use Rattle.table_find.specs.Internal.Key.{is_context, is_site}
+use Rattle.table_find.specs.Find.{name_compared}
 use Rattle.table_find.specs.Internal.Search.{first_in}
 
 module _ (s : List ℕ) where
@@ -77,23 +72,22 @@ compared_undotted m x e = go (leb 2 (length (m ++ (x ∷ [])))) refl
         let n : length (m ++ (x ∷ [])) - 1 ≡ length m = omega (arith, length-append m (x ∷ [])) in
         compared_other (m ++ (x ∷ [])) (leb-true 2 (length (m ++ (x ∷ []))) q) (rw (n, get_d_behind m x [], e))
 
-module _ (asked : List ℕ) (blocks : List (List ℕ)) where
+module _ (blocks : List (List ℕ)) where
   -- a search in the used records of a kind, read as f does
-  used_search : {A : Type 0} (f : List ℕ → A) (p : A → Bool) (k : RecordKind)
-      → Option.map f (first (λ r. is_used r && p (f r)) (flat_map (records_in (format_of k)) (bodies (format_of k).kind blocks))) ≡ first p (map f (records_of k blocks))
-  unfolding records_of
+  used_search : {A : Type 0} (f : List ℕ → A) (p : A → Bool) (k : RecordKind) → option_map f (first_in k (λ r. p (f r)) blocks) ≡ first p (map f (records_of k blocks))
+  unfolding first_in records_of
   used_search f p k =
       let records = flat_map (records_in (format_of k)) (bodies (format_of k).kind blocks) in
-      sym (first-map f p (keep is_used records) ∙ ap (Option.map f) (first-keep (λ r. p (f r)) is_used records))
+      sym (first-map f p (keep is_used records) ∙ ap (option_map f) (first-keep (λ r. p (f r)) is_used records))
 
-  pub context_search : (k : ContextKey) → Option.map context_of (first_in (key.Context k) asked blocks) ≡ first (is_context k asked) (table_of blocks).contexts
-  unfolding first_in table_of
-  context_search k = used_search context_of (is_context k asked) kind.Context
+  pub context_search : (p : Context → Bool) → option_map context_of (first_in kind.Context (λ r. p (context_of r)) blocks) ≡ first p (table_of blocks).contexts
+  unfolding table_of
+  context_search p = used_search context_of p kind.Context
 
-  pub account_search : (n : ContextNumber) → Option.map account_of (first_in (key.Account n) asked blocks) ≡ first (is_account_of n asked) (table_of blocks).accounts
-  unfolding first_in table_of
-  account_search n = used_search account_of (is_account_of n asked) kind.Account
+  pub account_search : (p : Account → Bool) → option_map account_of (first_in kind.Account (λ r. p (account_of r)) blocks) ≡ first p (table_of blocks).accounts
+  unfolding table_of
+  account_search p = used_search account_of p kind.Account
 
-  pub site_search : (k : SiteKey) → Option.map site_of (first_in (key.Site k) asked blocks) ≡ first (is_site k) (table_of blocks).sites
-  unfolding first_in table_of
-  site_search k = used_search site_of (is_site k) kind.Site
+  pub site_search : (p : Site → Bool) → option_map site_of (first_in kind.Site (λ r. p (site_of r)) blocks) ≡ first p (table_of blocks).sites
+  unfolding table_of
+  site_search p = used_search site_of p kind.Site

@@ -1,6 +1,5 @@
--- What a lookup found: the offset of the record in the image, as the enum that the code returns.
-use Rattle.std.specs.Prelude.{List, ℕ, ◌+◌, ◌≤◌, length}
-use Rattle.std.proofs.Math.Option.{Option, none, some, map}
+-- What a lookup found: the offset of the record in the image, or nothing.
+use Rattle.std.specs.Prelude.{List, ℕ, ◌+◌, ◌≤◌, length, Option, IfSome, option_map}
 use Rattle.octets.specs.Lists.{cut}
 use Rattle.table.specs.declared.record.RecordKind.{RecordKind}
 use Rattle.table.specs.declared.record.RecordKind.TheVariants as kind
@@ -9,27 +8,23 @@ use Rattle.table.specs.Context.{Context, context_of}
 use Rattle.table.specs.Format.{format_of}
 use Rattle.table.specs.Site.{Site, site_of}
 use Rattle.table.specs.Subnet.{Subnet, subnet_of}
-use Rattle.table_find.specs.declared.search.Found.{Found}
-use Rattle.table_find.specs.declared.search.Found.TheVariants.{At, Nothing}
 
 -- the record of a kind that was found
-abbrev pub record_found : List ℕ → RecordKind → Found → Option (List ℕ)
-record_found image k Nothing = none
-record_found image k (At offset) = some (cut image offset (format_of k).width)
+abbrev pub record_found : List ℕ → RecordKind → Option ℕ → Option (List ℕ)
+record_found image k found = option_map (λ offset. cut image offset (format_of k).width) found
 
 -- it lies in the image
-abbrev pub LiesIn : List ℕ → RecordKind → Found → Type 0
-LiesIn image k Nothing = Unit {0}
-LiesIn image k (At offset) = offset + (format_of k).width ≤ length image
+abbrev pub LiesIn : List ℕ → RecordKind → Option ℕ → Type 0
+LiesIn image k found = IfSome found (λ offset. offset + (format_of k).width ≤ length image)
 
-abbrev pub context_at : List ℕ → Found → Option Context
-context_at image f = map context_of (record_found image kind.Context f)
+abbrev pub context_at : List ℕ → Option ℕ → Option Context
+context_at image found = option_map context_of (record_found image kind.Context found)
 
-abbrev pub account_at : List ℕ → Found → Option Account
-account_at image f = map account_of (record_found image kind.Account f)
+abbrev pub account_at : List ℕ → Option ℕ → Option Account
+account_at image found = option_map account_of (record_found image kind.Account found)
 
-abbrev pub site_at : List ℕ → Found → Option Site
-site_at image f = map site_of (record_found image kind.Site f)
+abbrev pub site_at : List ℕ → Option ℕ → Option Site
+site_at image found = option_map site_of (record_found image kind.Site found)
 
-abbrev pub subnet_at : List ℕ → Found → Option Subnet
-subnet_at image f = map subnet_of (record_found image kind.Subnet f)
+abbrev pub subnet_at : List ℕ → Option ℕ → Option Subnet
+subnet_at image found = option_map subnet_of (record_found image kind.Subnet found)

@@ -1,20 +1,28 @@
--- The first record that a key finds: in a body, in a block, in all blocks.
-use Rattle.std.specs.Prelude.{cond, ℕ, eqb}
+-- The first record in use that passes a test: in a body, in a block, in all blocks.
+use Rattle.std.specs.Prelude.{◌≡◌, Bool, ◌&&◌, cond, ℕ, eqb, Option, None}
+use Rattle.std.specs.Fn.{Shared, FnReturnsAt}
 use mathlib.Core.List.{List, flat_map}
-use Rattle.std.proofs.Math.Option.{Option, none}
+use denote.Ref.{Bor}
 use Rattle.octets.specs.Lists.{first}
+use Rattle.table.specs.declared.record.RecordKind.{RecordKind}
 use Rattle.table.specs.Block.{kind_in, body}
 use Rattle.table.specs.Format.{format_of, records_in}
-use Rattle.table.specs.Table.{bodies}
-use Rattle.table_find.specs.declared.search.Key.{Key}
-use Rattle.table_find.specs.Internal.Key.{kind_for, is_found_by}
+use Rattle.table.specs.Table.{is_used, bodies}
 
-unfoldable pub first_in_body : Key → List ℕ → List ℕ → Option (List ℕ)
-first_in_body k asked b = first (is_found_by k asked) (records_in (format_of (kind_for k)) b)
+-- f answers of each record's octets what the test says of them
+abbrev pub TestsAs : {F : Type 0} → Shared F (Bor (List ℕ) × Unit {0}) Bool → F → (List ℕ → Bool) → Type 0
+TestsAs g f test = (r : List ℕ) (b : Bool) → FnReturnsAt g f r b → b ≡ test r
+
+-- an unused record is never the one sought
+abbrev pub passes : (List ℕ → Bool) → List ℕ → Bool
+passes test r = is_used r && test r
+
+unfoldable pub first_in_body : RecordKind → (List ℕ → Bool) → List ℕ → Option (List ℕ)
+first_in_body k test b = first (passes test) (records_in (format_of k) b)
 
 -- a block of another kind has none
-unfoldable pub first_in_block : Key → List ℕ → List ℕ → Option (List ℕ)
-first_in_block k asked block = cond (eqb (kind_in block) (format_of (kind_for k)).kind) (first_in_body k asked (body block)) none
+unfoldable pub first_in_block : RecordKind → (List ℕ → Bool) → List ℕ → Option (List ℕ)
+first_in_block k test block = cond (eqb (kind_in block) (format_of k).kind) (first_in_body k test (body block)) None
 
-unfoldable pub first_in : Key → List ℕ → List (List ℕ) → Option (List ℕ)
-first_in k asked blocks = first (is_found_by k asked) (flat_map (records_in (format_of (kind_for k))) (bodies (format_of (kind_for k)).kind blocks))
+unfoldable pub first_in : RecordKind → (List ℕ → Bool) → List (List ℕ) → Option (List ℕ)
+first_in k test blocks = first (passes test) (flat_map (records_in (format_of k)) (bodies (format_of k).kind blocks))

@@ -1,19 +1,18 @@
 -- A context is found by its own name; a dot that closes a name is not compared; a dot that is left finds nothing, as no name of a table ends in one.
+use Rattle.std.proofs.Common.{Ok, Option, None, Some, is_some}
 use mathlib.Core.Path.{◌≡◌, refl, sym, ap, subst, ◌∙◌}
 use mathlib.Core.Bool.{Bool, true, false, cond, not, ◌&&◌, false≢true}
 use mathlib.Core.List.{List, [], ◌∷◌, ◌++◌, map, append_assoc}
-use mathlib.Core.Option.{Option, none, some}
 use Prim.Native.Nat.{ℕ, ◌+◌, ◌≤◌}
 use native.Mathlib.Omega.{arith}
 use lib.Dec.{eqb, leb}
 use lib.ListN.{length}
 use borrow.Author.Tests.{eqb-true, ne_eqb, leb-true, not-true}
-use Rattle.answers.specs.Try.{good}
 use Rattle.octets.proofs.Laws.Label.{Plain, no_closing_dot}
 use Rattle.octets.proofs.Laws.Lists.{Every, every_weaken, none_any, first_any, both_left, both_right}
 use Rattle.octets.proofs.Laws.Text.{same_self}
 use Rattle.octets.specs.Label.{labels}
-use Rattle.octets.specs.Lists.{any, is_some, first, unique}
+use Rattle.octets.specs.Lists.{any, first, unique}
 use Rattle.octets.specs.Text.{same, lower}
 use Rattle.table.specs.Context.{Context}
 use Rattle.table.specs.Countings.{same_context}
@@ -32,11 +31,11 @@ use Rattle.table_lookup.proofs.Laws.NearestSubnet.{every_among, any-among}
 -- ---- a context's own name
 
 -- of those that are unique, each is the first that is like itself
-first_alike : {A : Type 0} (alike : A → A → Bool) (x : A) → alike x x ≡ true → (xs : List A) → unique alike xs ≡ true → Among x xs → first (λ y. alike y x) xs ≡ some x
+first_alike : {A : Type 0} (alike : A → A → Bool) (x : A) → alike x x ≡ true → (xs : List A) → unique alike xs ≡ true → Among x xs → first (λ y. alike y x) xs ≡ Some x
 unfolding first unique
-first_alike {A} alike x own xs u a = subst (λ (ys : List A). first (λ y. alike y x) ys ≡ some x) (sym a.stands) (go a.before (subst (λ (ys : List A). unique alike ys ≡ true) a.stands u))
+first_alike {A} alike x own xs u a = subst (λ (ys : List A). first (λ y. alike y x) ys ≡ Some x) (sym a.stands) (go a.before (subst (λ (ys : List A). unique alike ys ≡ true) a.stands u))
   where
-    go : (before : List A) → unique alike (before ++ (x ∷ a.behind)) ≡ true → first (λ y. alike y x) (before ++ (x ∷ a.behind)) ≡ some x
+    go : (before : List A) → unique alike (before ++ (x ∷ a.behind)) ≡ true → first (λ y. alike y x) (before ++ (x ∷ a.behind)) ≡ Some x
     go [] e = rw own
     go (y ∷ before) e =
         let rest : List A = before ++ (x ∷ a.behind) in
@@ -59,7 +58,7 @@ ends (x ∷ y ∷ s) h = let r = ends (y ∷ s) (omega arith) in record { front 
 last_undotted : (c : Context) → GoodContext c → (r : Ends c.dns) → r.last ≡ 46 → ⊥
 last_undotted c ok r e = no_closing_dot r.front (subst (λ (s : List ℕ). Plain (labels s)) (r.joins ∙ ap (λ (x : ℕ). r.front ++ (x ∷ [])) e) ok.dns.plain)
 
-module _ (image : List ℕ) (t : Table) (e : table_in image ≡ good t) (c : Context) (there : Among c t.contexts) where
+module _ (image : List ℕ) (t : Table) (e : table_in image ≡ Ok t) (c : Context) (there : Among c t.contexts) where
   sound : GoodContext c
   sound = every_among GoodContext t.contexts c (judged-good image t e).contexts there
 
@@ -69,7 +68,7 @@ module _ (image : List ℕ) (t : Table) (e : table_in image ≡ good t) (c : Con
       let others : Bool = unique (λ c d. same_context c.number d.number) t.contexts && unique (λ c d. same c.guid d.guid) t.contexts && unique (λ c d. same_sid c.sid d.sid) t.contexts in
       both_right others (unique (λ c d. same_dns_name c.dns d.dns) t.contexts) (judged-whole image t e).contexts
 
-  own_name : context_by_dns_name t c.dns ≡ some c
+  own_name : context_by_dns_name t c.dns ≡ Some c
   unfolding context_by_dns_name is_named_by same_dns_name
   own_name =
       let r = ends c.dns sound.filled in
@@ -110,9 +109,9 @@ unnamed k c ok = go (same_dns_name c.dns (k ++ (46 ∷ []))) refl
         let r = ends_too c.dns k q in
         absurd (no_closing_dot r.0 (subst (λ (s : List ℕ). Plain (labels s)) r.1 ok.dns.plain))
 
-is_none : {A : Type 0} (o : Option A) → is_some o ≡ false → o ≡ none
-is_none none e = refl
-is_none (some x) e = absurd (false≢true (sym e))
+is_none : {A : Type 0} (o : Option A) → is_some o ≡ false → o ≡ None
+is_none None e = refl
+is_none (Some x) e = absurd (false≢true (sym e))
 
 two-behind : (m : List ℕ) → m ++ (46 ∷ 46 ∷ []) ≡ m ++ (46 ∷ []) ++ (46 ∷ [])
 two-behind [] = refl
@@ -120,7 +119,7 @@ two-behind (x ∷ m) = ap (λ (s : List ℕ). x ∷ s) (two-behind m)
 
 module _ (t : Table) (ok : GoodTable t) where
   -- a value that is compared with a dot at its end finds no context
-  dotted : (asked k : List ℕ) → name_compared asked ≡ k ++ (46 ∷ []) → context_by_dns_name t asked ≡ none
+  dotted : (asked k : List ℕ) → name_compared asked ≡ k ++ (46 ∷ []) → context_by_dns_name t asked ≡ None
   unfolding context_by_dns_name is_named_by
   dotted asked k e =
       let unfound : Every (λ c. same_dns_name c.dns (name_compared asked) ≡ false) t.contexts =

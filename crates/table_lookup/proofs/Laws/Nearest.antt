@@ -1,8 +1,8 @@
 -- One pass over the records finds the nearest subnet of the table.
+use Rattle.std.proofs.Common.{Option, None, Some}
 use mathlib.Core.Path.{◌≡◌, refl, ◌∙◌}
 use mathlib.Core.Bool.{Bool, true, false, cond, ◌&&◌}
 use mathlib.Core.List.{List, [], ◌∷◌, map, flat_map}
-use mathlib.Core.Option.{Option, none, some}
 use Prim.Native.Nat.{ℕ}
 use native.Mathlib.Omega.{arith}
 use lib.Dec.{ltb}
@@ -15,29 +15,29 @@ use Rattle.table.specs.Subnet.{Subnet, subnet_format, subnet_of}
 use Rattle.table.specs.Table.{is_used, bodies, records_of, table_of}
 use Rattle.table_find.specs.Find.{in_subnet}
 use Rattle.table_lookup.specs.Lookup.{nearer, nearest, subnet_for}
-use Rattle.table_find.specs.Internal.Nearest.{longer, nearer_held, nearest_over, nearest_in_lem}
+use Rattle.table_find.specs.Internal.Nearest.{longer, nearer_held, nearest_over, nearest_in}
 
 -- the nearer of two, where there are two; the first of equal ones
 abbrev nearer_of : Option Subnet → Option Subnet → Option Subnet
-nearer_of none m = m
-nearer_of (some n) m = nearer n m
+nearer_of None m = m
+nearer_of (Some n) m = nearer n m
 
-alone : (o : Option Subnet) → o ≡ nearer_of o none
-alone none = refl
-alone (some n) = refl
+alone : (o : Option Subnet) → o ≡ nearer_of o None
+alone None = refl
+alone (Some n) = refl
 
 -- it does not matter which two are compared first
 in_turn : (o : Option Subnet) (n : Subnet) (x : Option Subnet) → nearer_of (longer o n) x ≡ nearer_of o (nearer n x)
-in_turn none n x = refl
-in_turn (some m) n none = go (ltb m.prefix n.prefix) refl
+in_turn None n x = refl
+in_turn (Some m) n None = go (ltb m.prefix n.prefix) refl
   where
-    go : (b : Bool) → ltb m.prefix n.prefix ≡ b → nearer_of (cond b (some n) (some m)) none ≡ cond b (some n) (some m)
+    go : (b : Bool) → ltb m.prefix n.prefix ≡ b → nearer_of (cond b (Some n) (Some m)) None ≡ cond b (Some n) (Some m)
     go true e = refl
     go false e = refl
-in_turn (some m) n (some k) = go (ltb m.prefix n.prefix) refl (ltb n.prefix k.prefix) refl (ltb m.prefix k.prefix) refl
+in_turn (Some m) n (Some k) = go (ltb m.prefix n.prefix) refl (ltb n.prefix k.prefix) refl (ltb m.prefix k.prefix) refl
   where
     go : (x : Bool) → ltb m.prefix n.prefix ≡ x → (y : Bool) → ltb n.prefix k.prefix ≡ y → (z : Bool) → ltb m.prefix k.prefix ≡ z
-        → nearer_of (cond x (some n) (some m)) (some k) ≡ nearer m (cond y (some k) (some n))
+        → nearer_of (cond x (Some n) (Some m)) (Some k) ≡ nearer m (cond y (Some k) (Some n))
     go true p true q true r = rw (q, r)
     go true p true q false r = absurd (omega (arith, ltb-true m.prefix n.prefix p, ltb-true n.prefix k.prefix q, ltb-false m.prefix k.prefix r))
     go true p false q z r = rw (q, p)
@@ -62,6 +62,6 @@ module _ (address : ℕ) where
       go true true e = rw e (in_turn best (subnet_of r) (nearest (held rs)))
       go true false e = rw e
 
-pub subnet_found : (caller : Caller) (blocks : List (List ℕ)) → nearest_in_lem (address_number caller.address) none blocks ≡ subnet_for (table_of blocks) caller
-unfolding nearest_in_lem subnet_for table_of records_of
-subnet_found caller blocks = over_held (address_number caller.address) none (flat_map (records_in subnet_format) (bodies subnet_format.kind blocks))
+pub subnet_found : (caller : Caller) (blocks : List (List ℕ)) → nearest_in (address_number caller.address) None blocks ≡ subnet_for (table_of blocks) caller
+unfolding nearest_in subnet_for table_of records_of
+subnet_found caller blocks = over_held (address_number caller.address) None (flat_map (records_in subnet_format) (bodies subnet_format.kind blocks))

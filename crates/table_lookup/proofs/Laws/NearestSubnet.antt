@@ -1,17 +1,16 @@
 -- The subnet that decides is the only one of the longest prefix: two that hold one address with one prefix have one network, and 4 refuses them.
+use Rattle.std.proofs.Common.{Ok, Option, None, Some, is_some}
 use mathlib.Core.Path.{◌≡◌, refl, sym, ap, subst, ◌∙◌}
 use mathlib.Core.Bool.{Bool, true, false, not, ◌&&◌, ◌||◌, cond, false≢true}
 use mathlib.Core.List.{List, [], ◌∷◌, ◌++◌}
 use mathlib.Core.Logic.{◌⊎◌, inl, inr}
-use mathlib.Core.Option.{Option, none, some}
 use Prim.Native.Nat.{ℕ, ◌<◌, ◌≤◌}
 use native.Mathlib.Omega.{arith}
 use lib.Dec.{eqb, ltb}
 use lib.ListN.{length}
 use borrow.Author.Tests.{eqb-true, eqb-false, eq-eqb, ltb-true, ltb-false, lt-ltb, not-true}
-use Rattle.answers.specs.Try.{good}
 use Rattle.answers.proofs.Laws.Try.{good-same}
-use Rattle.octets.specs.Lists.{all, any, first, first_or, keep, keep_if, unique, is_some, none_or}
+use Rattle.octets.specs.Lists.{all, any, first, first_or, keep, keep_if, unique, none_or}
 use Rattle.octets.proofs.Laws.Lists.{Every, every_all, every_none, first_any, first_holds, neither_left, neither_right, both_left, both_right, none_not_some}
 use Rattle.table.specs.declared.Caller.{Caller}
 use Rattle.table.specs.declared.SiteNumber.{SiteNumber}
@@ -43,12 +42,12 @@ module _ {A : Type 0} where
   later : (y x : A) (xs : List A) → Among x xs → Among x (y ∷ xs)
   later y x xs a = record { before = y ∷ a.before; behind = a.behind; stands = ap (λ (s : List A). y ∷ s) a.stands }
 
-  first-among : (p : A → Bool) (xs : List A) (x : A) → first p xs ≡ some x → Among x xs
+  first-among : (p : A → Bool) (xs : List A) (x : A) → first p xs ≡ Some x → Among x xs
   unfolding first later
   first-among p [] x e = absurd (none_not_some x e)
   first-among p (y ∷ xs) x e = go (p y) (first-among p xs x) e
     where
-      go : (b : Bool) → (first p xs ≡ some x → Among x xs) → first_or b y (first p xs) ≡ some x → Among x (y ∷ xs)
+      go : (b : Bool) → (first p xs ≡ Some x → Among x xs) → first_or b y (first p xs) ≡ Some x → Among x (y ∷ xs)
       go true rest f = let z : y ≡ x = cc in record { before = []; behind = xs; stands = ap (λ (w : A). w ∷ xs) z }
       go false rest f = later y x xs (rest f)
 
@@ -72,10 +71,10 @@ module _ (address : ℕ) where
   none_holds (x ∷ ns) = go (in_subnet address x) (none_holds ns)
     where
       one_found : (o : Option Subnet) → is_some (nearer x o) ≡ true
-      one_found none = refl
-      one_found (some m) = either (ltb x.prefix m.prefix)
+      one_found None = refl
+      one_found (Some m) = either (ltb x.prefix m.prefix)
         where
-          either : (b : Bool) → is_some (cond b (some m) (some x)) ≡ true
+          either : (b : Bool) → is_some (cond b (Some m) (Some x)) ≡ true
           either true = refl
           either false = refl
 
@@ -137,31 +136,31 @@ module _ (address : ℕ) where
           subst (λ (ms : List Subnet). all (below x.prefix) ms ≡ true) (sym d.among.stands)
           (all-between (below x.prefix) d.among.before m d.among.behind (all-longer m.prefix x.prefix k (d.among.before ++ d.among.behind) d.nearest) b)
 
-      one_of_two : (n : Subnet) → nearer x (some m) ≡ some n → Decides address n (x ∷ ns)
+      one_of_two : (n : Subnet) → nearer x (Some m) ≡ Some n → Decides address n (x ∷ ns)
       one_of_two n e = go (ltb x.prefix m.prefix) refl e
         where
-          go : (b : Bool) → ltb x.prefix m.prefix ≡ b → cond b (some m) (some x) ≡ some n → Decides address n (x ∷ ns)
+          go : (b : Bool) → ltb x.prefix m.prefix ≡ b → cond b (Some m) (Some x) ≡ Some n → Decides address n (x ∷ ns)
           go true p f = let z : m ≡ n = cc in subst (λ (k : Subnet). Decides address k (x ∷ ns)) z (passed m d (rw (h, p)))
           go false p f = let z : x ≡ n = cc in subst (λ (k : Subnet). Decides address k (x ∷ ns)) z (in_front h (all_shorter (ltb-false x.prefix m.prefix p)))
 
-    only : (n : Subnet) → in_subnet address x ≡ true → nearest (keep (in_subnet address) ns) ≡ none → nearer x none ≡ some n → Decides address n (x ∷ ns)
+    only : (n : Subnet) → in_subnet address x ≡ true → nearest (keep (in_subnet address) ns) ≡ None → nearer x None ≡ Some n → Decides address n (x ∷ ns)
     only n h q e =
         let z : x ≡ n = cc in
         subst (λ (k : Subnet). Decides address k (x ∷ ns)) z (in_front h (none_below x.prefix ns (sym (none_holds ns) ∙ ap is_some q)))
 
-    one_more : ((m : Subnet) → nearest (keep (in_subnet address) ns) ≡ some m → Decides address m ns) → (n : Subnet) → nearest (keep (in_subnet address) (x ∷ ns)) ≡ some n → Decides address n (x ∷ ns)
+    one_more : ((m : Subnet) → nearest (keep (in_subnet address) ns) ≡ Some m → Decides address m ns) → (n : Subnet) → nearest (keep (in_subnet address) (x ∷ ns)) ≡ Some n → Decides address n (x ∷ ns)
     unfolding nearest keep
     one_more rest n e = go (in_subnet address x) refl e
       where
-        chosen : in_subnet address x ≡ true → (o : Option Subnet) → nearest (keep (in_subnet address) ns) ≡ o → nearer x o ≡ some n → Decides address n (x ∷ ns)
-        chosen h none q f = only n h q f
-        chosen h (some m) q f = one_of_two h m (rest m q) n f
+        chosen : in_subnet address x ≡ true → (o : Option Subnet) → nearest (keep (in_subnet address) ns) ≡ o → nearer x o ≡ Some n → Decides address n (x ∷ ns)
+        chosen h None q f = only n h q f
+        chosen h (Some m) q f = one_of_two h m (rest m q) n f
 
-        go : (b : Bool) → in_subnet address x ≡ b → nearest (keep_if b x (keep (in_subnet address) ns)) ≡ some n → Decides address n (x ∷ ns)
+        go : (b : Bool) → in_subnet address x ≡ b → nearest (keep_if b x (keep (in_subnet address) ns)) ≡ Some n → Decides address n (x ∷ ns)
         go false h f = passed n (rest n f) (rw h)
         go true h f = chosen h (nearest (keep (in_subnet address) ns)) refl f
 
-  decided : (ns : List Subnet) → unique same_network ns ≡ true → Every PrefixOnly ns → (n : Subnet) → nearest (keep (in_subnet address) ns) ≡ some n → Decides address n ns
+  decided : (ns : List Subnet) → unique same_network ns ≡ true → Every PrefixOnly ns → (n : Subnet) → nearest (keep (in_subnet address) ns) ≡ Some n → Decides address n ns
   unfolding nearest keep unique
   decided [] u g n e = absurd (none_not_some n e)
   decided (x ∷ ns) u g n e =
@@ -170,7 +169,7 @@ module _ (address : ℕ) where
 
 -- ---- the table
 
-module _ (image : List ℕ) (t : Table) (e : table_in image ≡ good t) where
+module _ (image : List ℕ) (t : Table) (e : table_in image ≡ Ok t) where
   subnets_apart : unique same_network t.subnets ≡ true
   unfolding subnets_unique
   subnets_apart = (judged-whole image t e).subnets
@@ -229,15 +228,15 @@ same_number m n e = λ j. record { 0 = eqb-true m.0 n.0 e j }
 -- a number that a site has finds it
 found_by : (t : Table) (o : Option SiteNumber) → none_or (has_site t) o ≡ true → FoundBy o t.sites (site_if_any t o)
 unfolding site_by_number has_site
-found_by t none e = refl
-found_by t (some number) e = go (first p t.sites) refl
+found_by t None e = refl
+found_by t (Some number) e = go (first p t.sites) refl
   where
     p : Site → Bool
     p s = same_site_lem s.number number
 
-    go : (o : Option Site) → first p t.sites ≡ o → FoundBy (some number) t.sites (first p t.sites)
-    go none q = absurd (false≢true (sym (ap is_some q) ∙ first_any p t.sites ∙ e))
-    go (some s) q = (s, first-among p t.sites s q, same_number s.number number (first_holds p t.sites s q), q)
+    go : (o : Option Site) → first p t.sites ≡ o → FoundBy (Some number) t.sites (first p t.sites)
+    go None q = absurd (false≢true (sym (ap is_some q) ∙ first_any p t.sites ∙ e))
+    go (Some s) q = (s, first-among p t.sites s q, same_number s.number number (first_holds p t.sites s q), q)
 
 -- with more than one site the subnet decides
 pub several : (t : Table) (caller : Caller) (sites : List Site) → 1 < length sites → site_for t caller sites ≡ site_of_subnet t (subnet_for t caller)
@@ -245,29 +244,29 @@ several t caller [] h = absurd (omega arith)
 several t caller (s ∷ []) h = absurd (omega arith)
 several t caller (s ∷ r ∷ rest) h = refl
 
-module _ (image : List ℕ) (t : Table) (caller : Caller) (e : table_in image ≡ good t) where
+module _ (image : List ℕ) (t : Table) (caller : Caller) (e : table_in image ≡ Ok t) where
   abbrev address : ℕ
   address = address_number caller.address
 
   near : NearestIn t caller
   near = nearest_in image t e caller
 
-  unfound : any (in_subnet address) t.subnets ≡ false → subnet_for t caller ≡ none
+  unfound : any (in_subnet address) t.subnets ≡ false → subnet_for t caller ≡ None
   unfound w = go (subnet_for t caller) refl
     where
-      go : (o : Option Subnet) → subnet_for t caller ≡ o → o ≡ none
-      go none q = refl
-      go (some m) q = absurd (false≢true (sym (near.whether ∙ w) ∙ ap is_some q))
+      go : (o : Option Subnet) → subnet_for t caller ≡ o → o ≡ None
+      go None q = refl
+      go (Some m) q = absurd (false≢true (sym (near.whether ∙ w) ∙ ap is_some q))
 
   -- the one that decides is found, in whatever order they stand
-  deciding : (ns : List Subnet) → SameSubnets t.subnets ns → (n : Subnet) → Decides address n ns → subnet_for t caller ≡ some n
+  deciding : (ns : List Subnet) → SameSubnets t.subnets ns → (n : Subnet) → Decides address n ns → subnet_for t caller ≡ Some n
   deciding ns same n d = go (subnet_for t caller) refl
     where
-      go : (o : Option Subnet) → subnet_for t caller ≡ o → o ≡ some n
-      go none q =
+      go : (o : Option Subnet) → subnet_for t caller ≡ o → o ≡ Some n
+      go None q =
           let unheld : in_subnet address n ≡ false = any-among (in_subnet address) t.subnets n (sym near.whether ∙ ap is_some q) ((same n).1 d.among) in
           absurd (false≢true (sym unheld ∙ d.holding))
-      go (some m) q = ap some (one-decides address t.subnets ns m n same (near.decides m q) d)
+      go (Some m) q = ap Some (one-decides address t.subnets ns m n same (near.decides m q) d)
 
   referring : Every (λ n. none_or (has_site t) n.site ≡ true) t.subnets
   unfolding refers_rightly
@@ -298,16 +297,16 @@ abbrev numbered : List Site → SiteNumber → Option Site
 numbered sites n = first (λ s. same_site_lem s.number n) sites
 
 abbrev site_in : List Site → Option SiteNumber → Option Site
-site_in sites none = none
-site_in sites (some n) = numbered sites n
+site_in sites None = None
+site_in sites (Some n) = numbered sites n
 
 abbrev site_by : List Site → Option Subnet → Option Site
-site_by sites none = none
-site_by sites (some n) = site_in sites n.site
+site_by sites None = None
+site_by sites (Some n) = site_in sites n.site
 
 abbrev chosen : List Site → List Site → Option Subnet → Option Site
-chosen sites [] o = none
-chosen sites (s ∷ []) o = some s
+chosen sites [] o = None
+chosen sites (s ∷ []) o = Some s
 chosen sites (s ∷ r ∷ rest) o = site_by sites o
 
 by_sites : (t : Table) (caller : Caller) → client_site_lem t caller ≡ chosen t.sites t.sites (subnet_for t caller)
@@ -315,26 +314,26 @@ unfolding client_site_lem site_by_number
 by_sites t caller = go t.sites
   where
     number : (o : Option SiteNumber) → site_if_any t o ≡ site_in t.sites o
-    number none = refl
-    number (some n) = refl
+    number None = refl
+    number (Some n) = refl
 
     subnet : (o : Option Subnet) → site_of_subnet t o ≡ site_by t.sites o
-    subnet none = refl
-    subnet (some n) = number n.site
+    subnet None = refl
+    subnet (Some n) = number n.site
 
     go : (sites : List Site) → site_for t caller sites ≡ chosen t.sites sites (subnet_for t caller)
     go [] = refl
     go (s ∷ []) = refl
     go (s ∷ r ∷ rest) = subnet (subnet_for t caller)
 
-module _ (image other : List ℕ) (t u : Table) (caller : Caller) (e : table_in image ≡ good t) (f : table_in other ≡ good u) (same : SameSubnets t.subnets u.subnets) where
+module _ (image other : List ℕ) (t u : Table) (caller : Caller) (e : table_in image ≡ Ok t) (f : table_in other ≡ Ok u) (same : SameSubnets t.subnets u.subnets) where
   same_subnet : subnet_for t caller ≡ subnet_for u caller
   same_subnet = go (subnet_for t caller) refl (subnet_for u caller) refl
     where
       go : (o : Option Subnet) → subnet_for t caller ≡ o → (p : Option Subnet) → subnet_for u caller ≡ p → subnet_for t caller ≡ subnet_for u caller
-      go (some n) q p r = q ∙ sym (deciding other u caller f t.subnets (λ k. ((same k).1, (same k).0)) n ((nearest_in image t e caller).decides n q))
-      go none q (some m) r = deciding image t caller e u.subnets same m ((nearest_in other u f caller).decides m r) ∙ sym r
-      go none q none r = q ∙ sym r
+      go (Some n) q p r = q ∙ sym (deciding other u caller f t.subnets (λ k. ((same k).1, (same k).0)) n ((nearest_in image t e caller).decides n q))
+      go None q (Some m) r = deciding image t caller e u.subnets same m ((nearest_in other u f caller).decides m r) ∙ sym r
+      go None q None r = q ∙ sym r
 
 pub subnet_order : SubnetOrder
 subnet_order image other t u caller e f sites same =

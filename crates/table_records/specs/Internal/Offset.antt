@@ -1,8 +1,9 @@
 -- Where the records of one kind stand in an image.
 use mathlib.Core.List.{List, [], map, flat_map}
-use Rattle.std.specs.Prelude.{ℕ, zero, suc, ◌+◌, ◌/◌}
+use Rattle.std.specs.Prelude.{ℕ, zero, suc, ◌+◌, ◌*◌, ◌/◌, ◌≤◌}
 use Rattle.octets.specs.Lists.{cut, keep, keep_if, pieces}
-use Rattle.table.specs.Block.{block_size, image_most}
+use Rattle.table.specs.declared.record.RecordFormat.{RecordFormat}
+use Rattle.table.specs.Block.{block_size, body_size, image_most}
 use Rattle.table.specs.Table.{bodies, is_used}
 
 -- how many blocks the longest image has
@@ -18,6 +19,12 @@ unfoldable pub offsets_from : List ℕ → ℕ → ℕ → ℕ → List ℕ
 offsets_from image w at zero = []
 offsets_from image w at (suc n) = keep_if (is_used (cut image at w)) at (offsets_from image w (at + w) n)
 
--- the used records of a kind, n of w octets in each body
-unfoldable pub used_of : ℕ → ℕ → ℕ → List (List ℕ) → List (List ℕ)
-used_of kind n w blocks = keep is_used (flat_map (pieces n w) (bodies kind blocks))
+-- its records fit into a body
+pub record FitsBody (format : RecordFormat) : Type 0 where
+  pub in_body : format.count * format.width ≤ body_size
+  pub some : 1 ≤ format.width
+  pub few : format.count ≤ 42
+
+-- the used records of a format
+unfoldable pub used_of : RecordFormat → List (List ℕ) → List (List ℕ)
+used_of format blocks = keep is_used (flat_map (pieces format.count format.width) (bodies format.kind blocks))

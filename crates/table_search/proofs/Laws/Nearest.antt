@@ -1,43 +1,55 @@
 -- One pass over the subnets: record by record, block by block.
+use Rattle.std.proofs.Common.{Option}
 use mathlib.Core.Path.{◌≡◌, refl, sym, ap, ◌∙◌}
-use mathlib.Core.Bool.{Bool, true, false, cond}
+use mathlib.Core.Bool.{Bool, true, false, cond, ◌&&◌}
 use mathlib.Core.List.{List, [], ◌∷◌, ◌++◌, map, flat_map}
-use mathlib.Core.Option.{Option}
-use Prim.Native.Nat.{ℕ, zero, suc, ◌+◌, ◌-◌, ◌/◌, ◌≤◌, ◌<◌}
-use native.Mathlib.Omega.{arith}
+use Prim.Native.Nat.{ℕ, ◌+◌, ◌/◌, ◌≤◌, ◌<◌}
+use native.Mathlib.Numerals.{add-one}
 use lib.Dec.{eqb}
-use lib.ListN.{length, drop}
-use lib.Seq.{drop-drop}
-use Rattle.octets.specs.Lists.{keep, keep_if, cut, pieces}
-use Rattle.octets.proofs.Laws.Lists.{pieces-take}
-use Rattle.table.specs.Block.{block_size, blocks_of, kind_in, body_size, body}
+use lib.ListN.{length, get_or, drop, drop_of_length-le}
+use lib.Seq.{drop-cons}
+use Rattle.octets.specs.Lists.{keep, keep_if}
+use Rattle.table.specs.declared.record.RecordKind.TheVariants as kind
+use Rattle.table.specs.Block.{block_size, blocks_of, kind_in, body}
 use Rattle.table.specs.Internal.BlockAt.{block_at}
 use Rattle.table.specs.Countings.{block_place}
 use Rattle.table.specs.Format.{records_in}
-use Rattle.table.specs.Subnet.{Subnet, subnet_format}
-use Rattle.table.specs.Table.{bodies}
+use Rattle.table.specs.Subnet.{Subnet, subnet_format, subnet_of}
+use Rattle.table.specs.Table.{is_used, bodies}
 use Rattle.table.proofs.Laws.Table.{blocks_step, blocks_end}
-use Rattle.table_find.specs.Internal.Nearest.{nearer_held, nearest_over, nearest_in_body, nearest_in_lem}
+use Rattle.table_find.specs.Find.{in_subnet}
+use Rattle.table_search.proofs.Laws.Record.{records_at, record_there, stands_there, stands, past_records}
+use Rattle.table_find.specs.Internal.Nearest.{longer, nearer_held, nearest_over, nearest_in_body, nearest_in}
 
 module _ (address : ℕ) where
-  -- what is left of a body's records: n of them from an offset of the image on
-  pub over-next : (best : Option Subnet) (image : List ℕ) (w n offset : ℕ) → 0 < n
-      → nearest_over address (nearer_held address best (cut image offset w)) (pieces (n - 1) w (drop (offset + w) image)) ≡ nearest_over address best (pieces n w (drop offset image))
-  unfolding nearest_over pieces
-  over-next best image w zero offset h = absurd (omega arith)
-  over-next best image w (suc n) offset h =
-      let e : suc n - 1 ≡ n = omega arith in
-      rw e (ap (λ (s : List ℕ). nearest_over address (nearer_held address best (cut image offset w)) (pieces n w s)) (sym (drop-drop w offset image)))
+  -- what is left at a place: the record there, and what is left after it
+  over_next : (best : Option Subnet) (rs : List (List ℕ)) (i : ℕ) → i < length rs
+      → nearest_over address (nearer_held address best (get_or rs i [])) (drop (i + 1) rs) ≡ nearest_over address best (drop i rs)
+  unfolding nearest_over
+  over_next best rs i h = rw (add-one, drop-cons rs i [])
 
-  pub over-end : (best : Option Subnet) (image : List ℕ) (w n offset : ℕ) → n ≤ 0 → best ≡ nearest_over address best (pieces n w (drop offset image))
-  unfolding nearest_over pieces
-  over-end best image w zero offset h = refl
-  over-end best image w (suc n) offset h = absurd (omega arith)
+  over_end : (best : Option Subnet) (rs : List (List ℕ)) (i : ℕ) → length rs ≤ i → best ≡ nearest_over address best (drop i rs)
+  unfolding nearest_over
+  over_end best rs i h = rw (drop_of_length-le rs)
 
-  -- a body's records are those from its offset on
-  pub over-body : (best : Option Subnet) (image : List ℕ) (offset : ℕ) → nearest_over address best (records_in subnet_format (drop offset image)) ≡ nearest_in_body address best (cut image offset body_size)
-  unfolding nearest_in_body
-  over-body best image offset = ap (nearest_over address best) (sym (pieces-take 42 12 body_size (drop offset image) (omega arith)))
+  -- one that holds the address comes in, and another doesn't
+  pub held_in : (best : Option Subnet) (r : List ℕ) → (is_used r && in_subnet address (subnet_of r)) ≡ true → longer best (subnet_of r) ≡ nearer_held address best r
+  held_in best r e = rw e
+
+  pub left_out : (best : Option Subnet) (r : List ℕ) → (is_used r && in_subnet address (subnet_of r)) ≡ false → best ≡ nearer_held address best r
+  left_out best r e = rw e
+
+  -- what is left of a body's records at a place
+  module _ (image : List ℕ) (body i : ℕ) (best : Option Subnet) where
+    pub over_record : (there : Option Subnet) → i < subnet_format.count → there ≡ nearer_held address best (record_there kind.Subnet image body i)
+        → nearest_over address there (drop (i + 1) (records_at kind.Subnet image body)) ≡ nearest_over address best (drop i (records_at kind.Subnet image body))
+    over_record there h e =
+        let rs = records_at kind.Subnet image body in
+        ap (λ (o : Option Subnet). nearest_over address o (drop (i + 1) rs)) (e ∙ ap (nearer_held address best) (sym (stands_there kind.Subnet image body i h)))
+        ∙ over_next best rs i (stands kind.Subnet image body i h)
+
+    pub over_body : subnet_format.count ≤ i → best ≡ nearest_over address best (drop i (records_at kind.Subnet image body))
+    over_body h = over_end best (records_at kind.Subnet image body) i (past_records kind.Subnet image body i h)
 
   over-append : (best : Option Subnet) (xs ys : List (List ℕ)) → nearest_over address best (xs ++ ys) ≡ nearest_over address (nearest_over address best xs) ys
   unfolding nearest_over
@@ -48,8 +60,8 @@ module _ (address : ℕ) where
   abbrev after_block : Option Subnet → List ℕ → Option Subnet
   after_block best block = cond (eqb (kind_in block) subnet_format.kind) (nearest_in_body address best (body block)) best
 
-  in_cons : (best : Option Subnet) (block : List ℕ) (blocks : List (List ℕ)) → nearest_in_lem address best (block ∷ blocks) ≡ nearest_in_lem address (after_block best block) blocks
-  unfolding nearest_in_lem nearest_in_body bodies keep flat_map
+  in_cons : (best : Option Subnet) (block : List ℕ) (blocks : List (List ℕ)) → nearest_in address best (block ∷ blocks) ≡ nearest_in address (after_block best block) blocks
+  unfolding nearest_in nearest_in_body bodies keep flat_map
   in_cons best block blocks = go (eqb (kind_in block) subnet_format.kind)
     where
       rest : List (List ℕ)
@@ -63,24 +75,24 @@ module _ (address : ℕ) where
 
   -- what is left at a place: a block of subnets, and one of another kind
   step : (best : Option Subnet) (image : List ℕ) (i : ℕ) → i < length image / block_size
-      → nearest_in_lem address (after_block best (block_at image (block_place i))) (drop (i + 1) (blocks_of image)) ≡ nearest_in_lem address best (drop i (blocks_of image))
-  step best image i h = sym (ap (nearest_in_lem address best) (blocks_step image i h) ∙ in_cons best (block_at image (block_place i)) (drop (i + 1) (blocks_of image)))
+      → nearest_in address (after_block best (block_at image (block_place i))) (drop (i + 1) (blocks_of image)) ≡ nearest_in address best (drop i (blocks_of image))
+  step best image i h = sym (ap (nearest_in address best) (blocks_step image i h) ∙ in_cons best (block_at image (block_place i)) (drop (i + 1) (blocks_of image)))
 
   pub in_block : (best there : Option Subnet) (image : List ℕ) (i : ℕ) → i < length image / block_size
       → eqb (kind_in (block_at image (block_place i))) subnet_format.kind ≡ true
       → there ≡ nearest_in_body address best (body (block_at image (block_place i)))
-      → nearest_in_lem address there (drop (i + 1) (blocks_of image)) ≡ nearest_in_lem address best (drop i (blocks_of image))
+      → nearest_in address there (drop (i + 1) (blocks_of image)) ≡ nearest_in address best (drop i (blocks_of image))
   in_block best there image i h e f =
       let made : there ≡ after_block best (block_at image (block_place i)) = rw e f in
-      ap (λ (o : Option Subnet). nearest_in_lem address o (drop (i + 1) (blocks_of image))) made ∙ step best image i h
+      ap (λ (o : Option Subnet). nearest_in address o (drop (i + 1) (blocks_of image))) made ∙ step best image i h
 
-  pub past-block : (best : Option Subnet) (image : List ℕ) (i : ℕ) → i < length image / block_size
+  pub past_block : (best : Option Subnet) (image : List ℕ) (i : ℕ) → i < length image / block_size
       → eqb (kind_in (block_at image (block_place i))) subnet_format.kind ≡ false
-      → nearest_in_lem address best (drop (i + 1) (blocks_of image)) ≡ nearest_in_lem address best (drop i (blocks_of image))
-  past-block best image i h e =
+      → nearest_in address best (drop (i + 1) (blocks_of image)) ≡ nearest_in address best (drop i (blocks_of image))
+  past_block best image i h e =
       let kept : best ≡ after_block best (block_at image (block_place i)) = rw e in
-      ap (λ (o : Option Subnet). nearest_in_lem address o (drop (i + 1) (blocks_of image))) kept ∙ step best image i h
+      ap (λ (o : Option Subnet). nearest_in address o (drop (i + 1) (blocks_of image))) kept ∙ step best image i h
 
-  pub nearest-end : (best : Option Subnet) (image : List ℕ) (i : ℕ) → length image / block_size ≤ i → best ≡ nearest_in_lem address best (drop i (blocks_of image))
-  unfolding nearest_in_lem bodies keep flat_map nearest_over
-  nearest-end best image i h = rw (blocks_end image i h)
+  pub nearest_end : (best : Option Subnet) (image : List ℕ) (i : ℕ) → length image / block_size ≤ i → best ≡ nearest_in address best (drop i (blocks_of image))
+  unfolding nearest_in bodies keep flat_map nearest_over
+  nearest_end best image i h = rw (blocks_end image i h)

@@ -1,90 +1,78 @@
--- Laws of the search: record by record, block by block, and over the table's lists.
-use mathlib.Core.Path.{◌≡◌, refl, sym, ap, ◌∙◌}
-use mathlib.Core.Bool.{Bool, true, false, cond}
-use mathlib.Core.List.{List, ◌∷◌, map, flat_map}
-use mathlib.Core.Option.{Option, none, some}
-use Prim.Native.Nat.{ℕ, zero, suc, ◌+◌, ◌-◌, ◌*◌, ◌/◌, ◌≤◌, ◌<◌}
-use native.Mathlib.Nat.{suc-mul}
-use native.Mathlib.Omega.{arith}
+-- Laws of the search: a record's test, record by record, and block by block over the table's lists.
+use Rattle.std.proofs.Common.{Option, None, Some}
+use mathlib.Core.Path.{◌≡◌, refl, sym, ap, ap₂, ◌∙◌}
+use mathlib.Core.Bool.{Bool, true, false, cond, not, ◌&&◌, and-false}
+use mathlib.Core.List.{List, [], ◌∷◌, map, flat_map}
+use Prim.Native.Nat.{ℕ, ◌+◌, ◌/◌, ◌≤◌, ◌<◌}
 use lib.Dec.{eqb}
 use lib.ListN.{length, drop}
-use lib.Seq.{drop-drop}
-use Rattle.octets.specs.Lists.{first, first_or, keep, keep_if, cut, pieces}
-use Rattle.octets.proofs.Laws.Lists.{or_else, first-append, pieces-take}
-use Rattle.table.specs.Block.{block_size, blocks_of, kind_in, body_size, body}
+use Rattle.octets.specs.Lists.{first, keep, keep_if}
+use Rattle.octets.specs.Text.{all_zero}
+use Rattle.octets.proofs.Laws.Lists.{or_else, first-append, first_here, first_next, first-end}
+use Rattle.table.specs.declared.record.RecordKind.{RecordKind}
+use Rattle.table.specs.Block.{block_size, blocks_of, kind_in, body}
 use Rattle.table.specs.Internal.BlockAt.{block_at}
 use Rattle.table.specs.Countings.{block_place}
 use Rattle.table.specs.Format.{format_of, records_in}
-use Rattle.table.specs.Table.{bodies}
-use Rattle.table.proofs.Laws.Format.{format_fills}
+use Rattle.table.specs.Table.{is_used, bodies}
 use Rattle.table.proofs.Laws.Table.{blocks_step, blocks_end}
-use Rattle.table_find.specs.declared.search.Key.{Key}
-use Rattle.table_find.specs.Internal.Key.{kind_for, is_found_by}
-use Rattle.table_find.specs.Internal.Search.{first_in_body, first_in_block, first_in}
+use Rattle.table_search.proofs.Laws.Record.{records_at, record_there, stands_there, stands, past_records}
+use Rattle.table_find.specs.Internal.Search.{passes, first_in_body, first_in_block, first_in}
 
--- one record less is left
-pub less_one : (n w : ℕ) → 0 < n → n * w ≡ (n - 1) * w + w
-less_one zero w h = absurd (omega arith)
-less_one (suc n) w h =
-    let e : suc n - 1 ≡ n = omega arith in
-    rw e (suc-mul n w)
+-- a record passes where it is in use and the test says so; z and b are what the code asked
+module _ (t : List ℕ → Bool) (r : List ℕ) (b : Bool) (told : b ≡ t r) where
+  pub passed : (z : Bool) → z ≡ all_zero r → z ≡ false → b ≡ true → passes t r ≡ true
+  passed z is e f = ap₂ (λ (x y : Bool). not x && y) (sym is ∙ e) (sym told ∙ f)
 
--- what is left of a body's records: n of them from an offset of the image on
-left_step : (p : List ℕ → Bool) (image : List ℕ) (w n offset : ℕ)
-    → 0 < n
-    → first p (pieces n w (drop offset image)) ≡ first_or (p (cut image offset w)) (cut image offset w) (first p (pieces (n - 1) w (drop (offset + w) image)))
-unfolding first pieces
-left_step p image w zero offset h = absurd (omega arith)
-left_step p image w (suc n) offset h =
-    let e : suc n - 1 ≡ n = omega arith in
-    rw e (ap (λ (s : List ℕ). first_or (p (cut image offset w)) (cut image offset w) (first p (pieces n w s))) (drop-drop w offset image))
+  pub failed : b ≡ false → passes t r ≡ false
+  failed f = ap (λ (y : Bool). is_used r && y) (sym told ∙ f) ∙ and-false (is_used r)
 
-module _ (p : List ℕ → Bool) (image : List ℕ) (w n offset : ℕ) (h : 0 < n) where
-  pub left-found : p (cut image offset w) ≡ true → some (cut image offset w) ≡ first p (pieces n w (drop offset image))
-  left-found e = sym (left_step p image w n offset h ∙ rw e)
+pub unused_fails : (t : List ℕ → Bool) (r : List ℕ) (z : Bool) → z ≡ all_zero r → z ≡ true → passes t r ≡ false
+unused_fails t r z is e = ap (λ (x : Bool). not x && t r) (sym is ∙ e)
 
-  pub left-next : p (cut image offset w) ≡ false → first p (pieces (n - 1) w (drop (offset + w) image)) ≡ first p (pieces n w (drop offset image))
-  left-next e = sym (left_step p image w n offset h ∙ rw e)
+module _ (k : RecordKind) (t : List ℕ → Bool) where
+  -- what is left of a body's records at a place
+  module _ (image : List ℕ) (body i : ℕ) where
+    abbrev left : ℕ → Option (List ℕ)
+    left n = first (passes t) (drop n (records_at k image body))
 
-pub left_none : (p : List ℕ → Bool) (image : List ℕ) (w n offset : ℕ) → n ≤ 0 → none ≡ first p (pieces n w (drop offset image))
-unfolding first pieces
-left_none p image w zero offset h = refl
-left_none p image w (suc n) offset h = absurd (omega arith)
+    module _ (h : i < (format_of k).count) where
+      pub found_there : passes t (record_there k image body i) ≡ true → Some (record_there k image body i) ≡ left i
+      found_there e =
+          let q = stands_there k image body i h in
+          ap Some (sym q) ∙ first_here (passes t) (records_at k image body) i [] (stands k image body i h) (ap (passes t) q ∙ e)
 
--- a body's records are those from its offset on
-pub body_records : (k : Key) (asked image : List ℕ) (offset : ℕ)
-    → first (is_found_by k asked) (records_in (format_of (kind_for k)) (drop offset image)) ≡ first_in_body k asked (cut image offset body_size)
-unfolding first_in_body
-body_records k asked image offset =
-    let format = format_of (kind_for k) in
-    ap (first (is_found_by k asked)) (sym (pieces-take format.count format.width body_size (drop offset image) (omega (arith, format_fills (kind_for k)))))
+      pub left_next : passes t (record_there k image body i) ≡ false → left (i + 1) ≡ left i
+      left_next e = first_next (passes t) (records_at k image body) i [] (stands k image body i h) (ap (passes t) (stands_there k image body i h) ∙ e)
 
--- block by block
-first_in-cons : (k : Key) (asked block : List ℕ) (blocks : List (List ℕ)) → first_in k asked (block ∷ blocks) ≡ or_else (first_in_block k asked block) (first_in k asked blocks)
-unfolding first_in first_in_block first_in_body bodies keep flat_map
-first_in-cons k asked block blocks = go (eqb (kind_in block) (format_of (kind_for k)).kind)
-  where
-    within : List ℕ → List (List ℕ)
-    within = records_in (format_of (kind_for k))
+    pub left_none : (format_of k).count ≤ i → None ≡ left i
+    left_none h = first-end (passes t) (records_at k image body) i (past_records k image body i h)
 
-    rest : List (List ℕ)
-    rest = keep (λ c. eqb (kind_in c) (format_of (kind_for k)).kind) blocks
+  first_in-cons : (block : List ℕ) (blocks : List (List ℕ)) → first_in k t (block ∷ blocks) ≡ or_else (first_in_block k t block) (first_in k t blocks)
+  unfolding first_in first_in_block first_in_body bodies keep flat_map
+  first_in-cons block blocks = go (eqb (kind_in block) (format_of k).kind)
+    where
+      within : List ℕ → List (List ℕ)
+      within = records_in (format_of k)
 
-    go : (b : Bool)
-        → first (is_found_by k asked) (flat_map within (map body (keep_if b block rest)))
-        ≡ or_else (cond b (first (is_found_by k asked) (within (body block))) none) (first (is_found_by k asked) (flat_map within (map body rest)))
-    go true = first-append (is_found_by k asked) (within (body block)) (flat_map within (map body rest))
-    go false = refl
+      rest : List (List ℕ)
+      rest = keep (λ c. eqb (kind_in c) (format_of k).kind) blocks
 
--- what is left at a place: what the block there gives, or what is left after it
-pub search_step : (k : Key) (asked image : List ℕ) (i : ℕ) (there : Option (List ℕ))
-    → i < length image / block_size
-    → there ≡ first_in_block k asked (block_at image (block_place i))
-    → or_else there (first_in k asked (drop (i + 1) (blocks_of image))) ≡ first_in k asked (drop i (blocks_of image))
-search_step k asked image i there h e =
-    ap (λ (o : Option (List ℕ)). or_else o (first_in k asked (drop (i + 1) (blocks_of image)))) e
-    ∙ sym (ap (first_in k asked) (blocks_step image i h) ∙ first_in-cons k asked (block_at image (block_place i)) (drop (i + 1) (blocks_of image)))
+      go : (b : Bool)
+          → first (passes t) (flat_map within (map body (keep_if b block rest)))
+          ≡ or_else (cond b (first (passes t) (within (body block))) None) (first (passes t) (flat_map within (map body rest)))
+      go true = first-append (passes t) (within (body block)) (flat_map within (map body rest))
+      go false = refl
 
-pub search_end : (k : Key) (asked image : List ℕ) (i : ℕ) → length image / block_size ≤ i → none ≡ first_in k asked (drop i (blocks_of image))
-unfolding first_in bodies keep flat_map first
-search_end k asked image i h = rw (blocks_end image i h)
+  -- what is left at a place: what the block there gives, or what is left after it
+  pub search_step : (image : List ℕ) (i : ℕ) (there : Option (List ℕ))
+      → i < length image / block_size
+      → there ≡ first_in_block k t (block_at image (block_place i))
+      → or_else there (first_in k t (drop (i + 1) (blocks_of image))) ≡ first_in k t (drop i (blocks_of image))
+  search_step image i there h e =
+      ap (λ (o : Option (List ℕ)). or_else o (first_in k t (drop (i + 1) (blocks_of image)))) e
+      ∙ sym (ap (first_in k t) (blocks_step image i h) ∙ first_in-cons (block_at image (block_place i)) (drop (i + 1) (blocks_of image)))
+
+  pub search_end : (image : List ℕ) (i : ℕ) → length image / block_size ≤ i → None ≡ first_in k t (drop i (blocks_of image))
+  unfolding first_in bodies keep flat_map first
+  search_end image i h = rw (blocks_end image i h)

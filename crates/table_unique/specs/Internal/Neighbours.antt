@@ -1,7 +1,7 @@
 -- What neighbours in a list show of its order.
 use Rattle.std.specs.Prelude.{List, [], ◌∷◌, ℕ}
-use Rattle.account_names.specs.declared.compare.Ordering.{Ordering}
-use Rattle.account_names.specs.declared.compare.Ordering.TheVariants.{Less, Equal, Greater}
+use Rattle.std.specs.declared.cmp.Ordering.{Ordering}
+use Rattle.std.specs.declared.cmp.Ordering.TheVariants.{Less, Equal, Greater}
 use Rattle.table_unique.specs.declared.unique.Neighbours.{Neighbours}
 use Rattle.table_unique.specs.declared.unique.Neighbours.TheVariants.{Rising, Duplicate, Unsorted}
 

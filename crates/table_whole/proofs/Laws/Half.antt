@@ -1,8 +1,8 @@
 -- Laws of the two halves, and of the subnets by themselves: from what is found at offsets and among marks to what is said of the table.
+use Rattle.std.proofs.Common.{Option, None, Some}
 use mathlib.Core.Path.{◌≡◌, refl, sym, ap, ap₂, ◌∙◌, fun_ext}
 use mathlib.Core.Bool.{Bool, true, false, not, ◌&&◌, ◌||◌, and-false, and_comm}
 use mathlib.Core.List.{List, map, flat_map}
-use mathlib.Core.Option.{Option, none, some}
 use Prim.Native.Nat.{ℕ, ◌+◌, ◌*◌, ◌≤◌, ◌<◌}
 use native.Mathlib.Omega.{arith}
 use lib.Dec.{eqb, leb}
@@ -29,10 +29,10 @@ use Rattle.table.specs.Site.{site_of}
 use Rattle.table.specs.Subnet.{subnet_format, same_network, subnet_of}
 use Rattle.table.specs.Table.{Table, is_used, bodies, records_of, table_of, table_from}
 use Rattle.table.specs.Internal.RecordAt.{record_at}
-use Rattle.table_records.specs.declared.alike.Likeness.TheVariants.{Contexts, Accounts, Subnets}
-use Rattle.table_records.specs.Internal.Alike.{alike_at, contexts_alike}
+use Rattle.table_records.specs.Internal.Alike.{contexts_alike, contexts_alike_at, accounts_alike_at, subnets_alike_at}
 use Rattle.table_whole.specs.Whole.{contexts_unique, accounts_unique, sites_unique, subnets_unique, has_context, has_site, refers_rightly, good_whole}
 use Rattle.table_whole.specs.Internal.Half.{AllOf, SiteMarks, good_accounts, good_contexts, context_half, good_next, good_subnets, good_references, good_sites, site_half}
+use Rattle.table_refer.specs.declared.mark.Marks.{Marks}
 use Rattle.table_refer.specs.Internal.Mark.{Marked, same_site_at}
 use Rattle.table_refer.specs.Internal.Refer.{has_number, in_contexts, is_marked_or_none, is_other_or_none, site_refers_at, subnet_refers, subnets_refer}
 
@@ -50,17 +50,13 @@ module _ {A : Type 0} (f : List ℕ → A) (kind : RecordKind) (image offsets : 
   count_at : length (map f (records_of kind (blocks_of image))) ≡ length offsets
   count_at = length-map (records_of kind (blocks_of image)) f ∙ ap length (sym e) ∙ length-map offsets (record_at image kind)
 
--- as many of the offsets as were found
-pub found_count : (n most : ℕ) (s : List ℕ) → length s ≡ most → n ≤ most → n ≡ length (take n s)
-found_count n most s e h = sym (length-take-le n s (rw e h))
-
 -- contexts and their accounts
 module _ (image contexts : List ℕ) (e : AllOf kind.Context image contexts) where
   pub context-found : (n : ContextNumber) → has_number image contexts n ≡ has_context (table_from image) n
   unfolding has_number has_context table_of
   context-found n = any_at context_of kind.Context image contexts e (λ c. same_context c.number n)
 
-  pub contexts_alike_lem : unique (alike_at Contexts image) contexts ≡ contexts_unique (table_from image).contexts
+  pub contexts_alike_lem : unique (contexts_alike_at image) contexts ≡ contexts_unique (table_from image).contexts
   unfolding table_of contexts_unique
   contexts_alike_lem =
       let cs = (table_from image).contexts in
@@ -70,7 +66,7 @@ module _ (image contexts : List ℕ) (e : AllOf kind.Context image contexts) whe
       ∙ unique_either (λ c d. (same_context c.number d.number || same c.guid d.guid) || same_sid c.sid d.sid) (λ c d. same_dns_name c.dns d.dns) cs)
 
   pub accounts-good : (accounts : List ℕ) → AllOf kind.Account image accounts
-      → (all (in_contexts image contexts) accounts && unique (alike_at Accounts image) accounts) ≡ good_accounts (table_from image)
+      → (all (in_contexts image contexts) accounts && unique (accounts_alike_at image) accounts) ≡ good_accounts (table_from image)
   unfolding table_of good_accounts accounts_unique
   accounts-good accounts a =
       ap₂ (λ (p q : Bool). p && q)
@@ -94,17 +90,17 @@ module _ (image contexts : List ℕ) (e : AllOf kind.Context image contexts) whe
   some-contexts n h = rw (contexts_count, le-leb (length contexts) 16 h, le-leb 1 (length contexts) (omega arith))
 
 -- sites referred to, where there is one
-module _ (marks : List ℕ) (t : Table) (m : SiteMarks marks t) where
+module _ (marks : Marks) (t : Table) (m : SiteMarks marks t) where
   none_or_marked : (o : Option SiteNumber) → is_marked_or_none marks o ≡ none_or (has_site t) o
-  none_or_marked none = refl
-  none_or_marked (some n) = m.say n
+  none_or_marked None = refl
+  none_or_marked (Some n) = m n
 
 other_or_none : (own : SiteNumber) (o : Option SiteNumber) → is_other_or_none own o ≡ not (holds (same_site_lem own) o)
-other_or_none own none = refl
-other_or_none own (some n) = refl
+other_or_none own None = refl
+other_or_none own (Some n) = refl
 
 -- an unused record refers to no site, and so refers rightly
-unused_refers : (marks r : List ℕ) → (not (is_used r) || subnet_refers marks r) ≡ subnet_refers marks r
+unused_refers : (marks : Marks) (r : List ℕ) → (not (is_used r) || subnet_refers marks r) ≡ subnet_refers marks r
 unfolding subnet_of
 unused_refers marks r = go (all_zero r) refl
   where
@@ -115,7 +111,7 @@ unused_refers marks r = go (all_zero r) refl
     go false e = refl
 
 -- subnets, block by block
-pub subnets_refer_lem : (marks image : List ℕ) → SiteMarks marks (table_from image) → all (subnets_refer marks) (blocks_of image) ≡ good_subnets (table_from image)
+pub subnets_refer_lem : (marks : Marks) (image : List ℕ) → SiteMarks marks (table_from image) → all (subnets_refer marks) (blocks_of image) ≡ good_subnets (table_from image)
 unfolding table_of records_of bodies good_subnets
 subnets_refer_lem marks image m =
     let t = table_from image in
@@ -132,11 +128,11 @@ subnets_refer_lem marks image m =
 
 -- sites
 module _ (image sites : List ℕ) (e : AllOf kind.Site image sites) where
-  pub site_marks : (marks : List ℕ) → length marks ≡ 8192 → Marked marks image sites → SiteMarks marks (table_from image)
+  pub site_marks : (marks : Marks) → Marked marks image sites → SiteMarks marks (table_from image)
   unfolding table_of has_site
-  site_marks marks size seen = record { size = size; say = λ n. seen n ∙ any_at site_of kind.Site image sites e (λ s. same_site_lem s.number n) }
+  site_marks marks seen n = seen n ∙ any_at site_of kind.Site image sites e (λ s. same_site_lem s.number n)
 
-  pub sites_refer : (marks : List ℕ) → SiteMarks marks (table_from image) → all (site_refers_at marks image) sites ≡ good_next (table_from image)
+  pub sites_refer : (marks : Marks) → SiteMarks marks (table_from image) → all (site_refers_at marks image) sites ≡ good_next (table_from image)
   unfolding table_of good_next
   sites_refer marks m =
       let t = table_from image in
@@ -170,7 +166,7 @@ module _ (image sites : List ℕ) (e : AllOf kind.Site image sites) where
   some-sites n = rw (sites_count, le-leb 1 (length sites) (omega arith))
 
 -- subnets by themselves
-pub subnets-unique : (image subnets : List ℕ) → AllOf kind.Subnet image subnets → unique (alike_at Subnets image) subnets ≡ subnets_unique (table_from image).subnets
+pub subnets-unique : (image subnets : List ℕ) → AllOf kind.Subnet image subnets → unique (subnets_alike_at image) subnets ≡ subnets_unique (table_from image).subnets
 unfolding table_of subnets_unique
 subnets-unique image subnets e = unique-at subnet_of kind.Subnet image subnets e same_network
 

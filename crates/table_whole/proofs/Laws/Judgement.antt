@@ -1,4 +1,5 @@
 -- Laws of judging an image: what an accepted one holds, and the answer by the first judgement that fails.
+use Rattle.std.proofs.Common.{Ok, Err}
 use mathlib.Core.Path.{◌≡◌, refl, sym, ◌∙◌, subst, ap}
 use mathlib.Core.Bool.{Bool, true, false, cond, not, ◌&&◌, ◌||◌, false≢true}
 use mathlib.Core.List.{List, [], ◌∷◌, map, flat_map}
@@ -9,7 +10,7 @@ use lib.ListN.{length}
 use borrow.Author.Tests.{eqb-true, not-true, not-false, leb-true, le-leb, lt-leb}
 use Rattle.answers.specs.declared.Refusal.{Refusal}
 use Rattle.answers.specs.declared.Refusal.TheVariants.{ImageLength, BlockCheck, BlockLayout, TableWhole}
-use Rattle.answers.specs.Try.{Try, refused, good, number_of}
+use Rattle.answers.specs.Try.{Try, number_of, ◌>>=◌}
 use Rattle.answers.proofs.Laws.Try.{refused_if-good}
 use Rattle.octets.specs.Lists.{all, any, keep, holds, pieces}
 use Rattle.octets.proofs.Laws.Lists.{Every, every_all, every_map, every_flat, every_keep, both_left, both_right, other_right, cut-length, pieces_wide}
@@ -39,10 +40,8 @@ use Rattle.table.proofs.Laws.Format.{format_fills}
 use Rattle.table_check.specs.Check.{good_check}
 use Rattle.table_layout.specs.Field.{zeros, text_field, last_text}
 use Rattle.table_layout.specs.Layout.{nonzero, server_layout, forest_layout, flags_layout, sid_layout, is_empty, is_context_netbios, context_layout, site_layout, subnet_layout, record_layout, records_layout, body_layout, block_layout, layouts_from}
-use Rattle.table_whole.specs.Judgement.{good_length, table_in, Accepted, judged_as, judgement_number, JudgePromise}
+use Rattle.table_whole.specs.Judgement.{good_length, table_in, Accepted, judged_as, JudgePromise, image_in}
 use Rattle.table_whole.specs.Whole.{contexts_unique, sites_unique, accounts_unique, subnets_unique, refers_rightly, good_whole}
-use Rattle.table_whole.specs.declared.judge.Judgement.{Judgement}
-use Rattle.table_whole.specs.declared.judge.Judgement.TheVariants.{Passed, Refused}
 
 -- ---- what an accepted image holds
 
@@ -61,7 +60,7 @@ length_bounds image e =
     (leb-true 1024 (length image) (both_left least most ends), leb-true (length image) 65536 (both_right least most ends))
 
 -- a table that was judged good is the image's, and all judgements passed
-judged : (image : List ℕ) (t : Table) → table_in image ≡ good t → Judged image × (table_from image ≡ t)
+judged : (image : List ℕ) (t : Table) → table_in image ≡ Ok t → Judged image × (table_from image ≡ t)
 unfolding table_in
 judged image t e =
     let blocks : List (List ℕ) = blocks_of image in
@@ -69,11 +68,11 @@ judged image t e =
     let b = refused_if-good (not (all good_check blocks)) BlockCheck _ t a.1 in
     let c = refused_if-good (not (layouts_from server_place blocks)) BlockLayout _ t b.1 in
     let d = refused_if-good (not (good_whole (table_of blocks))) TableWhole _ t c.1 in
-    let q : good (table_of blocks) ≡ good t = d.1 in
+    let q : Ok (table_of blocks) ≡ Ok t = d.1 in
     (record { length = not-false _ a.0; checks = not-false _ b.0; layouts = not-false _ c.0; whole = not-false _ d.0 }, cc)
 
-pub accepted : (image : List ℕ) (t : Table) → table_in image ≡ good t → Accepted image
-accepted image t e = e ∙ ap good (sym (judged image t e).1)
+pub accepted : (image : List ℕ) (t : Table) → table_in image ≡ Ok t → Accepted image
+accepted image t e = e ∙ ap Ok (sym (judged image t e).1)
 
 -- what 4 says of a table
 pub record Whole (t : Table) : Type 0 where
@@ -337,7 +336,7 @@ accepted-good image ok =
 
 -- of the table that was judged
 
-module _ (image : List ℕ) (t : Table) (e : table_in image ≡ good t) where
+module _ (image : List ℕ) (t : Table) (e : table_in image ≡ Ok t) where
   pub judged-good : GoodTable t
   judged-good = subst GoodTable (judged image t e).1 (accepted-good image (accepted image t e))
 
@@ -383,45 +382,56 @@ module _ (image : List ℕ) where
   unfolding good_length
   length-between h k = rw (le-leb 1024 (length image) h, le-leb (length image) 65536 k)
 
-  pub refused-length : good_length image ≡ false → Refused ImageLength ≡ judged_as (table_in image)
+  pub refused-length : good_length image ≡ false → Err ImageLength ≡ judged_as (table_in image)
   unfolding table_in
   refused-length e = rw e
 
   module _ (l : good_length image ≡ true) where
-    pub refused_check : all good_check (blocks_of image) ≡ false → Refused BlockCheck ≡ judged_as (table_in image)
+    pub refused_check : all good_check (blocks_of image) ≡ false → Err BlockCheck ≡ judged_as (table_in image)
     unfolding table_in
     refused_check e = rw (l, e)
 
     module _ (c : all good_check (blocks_of image) ≡ true) where
-      pub refused_layout : layouts_from server_place (blocks_of image) ≡ false → Refused BlockLayout ≡ judged_as (table_in image)
+      pub refused_layout : layouts_from server_place (blocks_of image) ≡ false → Err BlockLayout ≡ judged_as (table_in image)
       unfolding table_in
       refused_layout e = rw (l, c, e)
 
       module _ (y : layouts_from server_place (blocks_of image) ≡ true) where
-        pub refused-whole : good_whole (table_from image) ≡ false → Refused TableWhole ≡ judged_as (table_in image)
+        pub refused-whole : good_whole (table_from image) ≡ false → Err TableWhole ≡ judged_as (table_in image)
         unfolding table_in
         refused-whole e = rw (l, c, y, e)
 
-        pub passed : good_whole (table_from image) ≡ true → Passed ≡ judged_as (table_in image)
+        pub passed : good_whole (table_from image) ≡ true → Ok tt ≡ judged_as (table_in image)
         unfolding table_in
         passed e = rw (l, c, y, e)
 
 -- ---- what a judgement says of the image
 
-pub judge_promised : (image : List ℕ) (r : Judgement) → r ≡ judged_as (table_in image) → JudgePromise image r
-judge_promised image r e = record { same = e; numbered = ap judgement_number e ∙ numbers (table_in image) }
+pub judge_promised : (image : List ℕ) (r : Try (Unit {0})) → r ≡ judged_as (table_in image) → JudgePromise image r
+judge_promised image r e = record { same = e; numbered = ap number_of e ∙ numbers (table_in image) }
   where
-    numbers : (t : Try Table) → judgement_number (judged_as t) ≡ number_of t
-    numbers (refused x) = refl
-    numbers (good t) = refl
+    numbers : (t : Try Table) → number_of (judged_as t) ≡ number_of t
+    numbers (Err x) = refl
+    numbers (Ok t) = refl
 
-pub passed_accepted : (image : List ℕ) → Passed ≡ judged_as (table_in image) → Accepted image
+pub passed_accepted : (image : List ℕ) → Ok tt ≡ judged_as (table_in image) → Accepted image
 passed_accepted image e = go (table_in image) refl e
   where
-    go : (t : Try Table) → table_in image ≡ t → Passed ≡ judged_as t → Accepted image
-    go (refused x) q k = let z : ◌≡◌ {A = ℕ} 0 1 = cc in absurd (omega arith)
-    go (good t) q k = accepted image t q
+    go : (t : Try Table) → table_in image ≡ t → Ok tt ≡ judged_as t → Accepted image
+    go (Err x) q k = let z : ◌≡◌ {A = ℕ} 0 1 = cc in absurd (omega arith)
+    go (Ok t) q k = accepted image t q
 
-pub judged-refused : (t : Try Table) (x : Refusal) → Refused x ≡ judged_as t → t ≡ refused x
-judged-refused (refused y) x e = let z : x ≡ y = cc in ap refused (sym z)
-judged-refused (good t) x e = let z : ◌≡◌ {A = ℕ} 0 1 = cc in absurd (omega arith)
+pub judged-refused : (t : Try Table) (x : Refusal) → Err x ≡ judged_as t → t ≡ Err x
+judged-refused (Err y) x e = let z : x ≡ y = cc in ap Err (sym z)
+judged-refused (Ok t) x e = let z : ◌≡◌ {A = ℕ} 0 1 = cc in absurd (omega arith)
+
+-- an image that passed, and one that was refused
+pub passed-image : (image : List ℕ) → Ok tt ≡ judged_as (table_in image) → Ok image ≡ image_in image
+passed-image image e = go (table_in image) e
+  where
+    go : (t : Try Table) → Ok tt ≡ judged_as t → Ok image ≡ (t >>= λ u. Ok image)
+    go (Err x) k = let z : ◌≡◌ {A = ℕ} 0 1 = cc in absurd (omega arith)
+    go (Ok t) k = refl
+
+pub refused-image : (image : List ℕ) (x : Refusal) → Err x ≡ judged_as (table_in image) → Err x ≡ image_in image
+refused-image image x e = sym (ap (λ (t : Try Table). t >>= λ u. Ok image) (judged-refused (table_in image) x e))

@@ -11,16 +11,16 @@ use Rattle.table.specs.Table.{Table, records_of}
 use Rattle.table_records.specs.Internal.Offset.{records_at}
 use Rattle.table_whole.specs.Whole.{contexts_unique, accounts_unique, sites_unique, has_context, has_site}
 use Rattle.octets.specs.Lists.{none_or}
-use Rattle.table_refer.specs.Internal.Mark.{marks_size, is_marked}
+use Rattle.table_refer.specs.declared.mark.Marks.{Marks}
+use Rattle.table_refer.specs.Internal.Mark.{is_marked}
 
 -- the offsets are those of all used records of a kind
 abbrev pub AllOf : RecordKind → List ℕ → List ℕ → Type 0
 AllOf kind image offsets = records_at image (format_of kind).width offsets ≡ records_of kind (blocks_of image)
 
 -- marks that say of each number whether the table has such a site
-pub record SiteMarks (marks : List ℕ) (t : Table) : Type 0 where
-  pub size : length marks ≡ marks_size
-  pub say : (n : SiteNumber) → is_marked marks n ≡ has_site t n
+abbrev pub SiteMarks : Marks → Table → Type 0
+SiteMarks marks t = (n : SiteNumber) → is_marked marks n ≡ has_site t n
 
 unfoldable pub good_accounts : Table → Bool
 good_accounts t = all (λ a. has_context t a.context) t.accounts && accounts_unique t.accounts

@@ -1,7 +1,8 @@
 -- How many octets a UTF-16LE text takes in UTF-8: at most three for a unit's two, and at least one.
+use Rattle.std.proofs.Common.{Some}
 use mathlib.Core.Path.{◌≡◌, ap, subst}
 use mathlib.Core.List.{List, [], ◌∷◌, flat_map}
-use mathlib.Core.Option.{some, map-eq-some_iff}
+use Rattle.octets.proofs.Laws.Option.{mapped_some}
 use Prim.Native.Nat.{ℕ, ◌+◌, ◌*◌, ◌%◌, ◌≤◌}
 use native.Mathlib.Omega.{arith}
 use lib.Dec.{ltb}
@@ -62,24 +63,24 @@ covered between u h =
     cond_has (Covered 2) (is_low u) _ _ (λ f. tt) (λ f. omega (arith, (sizes u).0)))
 covered (partway i) u h = cond_has (Covered 4) (within i.low i.high u) _ _ (λ e. omega (arith, (sizes (i.bits * 1024 + u % 1024)).1 (omega arith))) (λ e. tt)
 
-one_from : (s : List ℕ) (d : Decoder) (cs : List ℕ) → Begun d → points_from16 d s ≡ some cs → before d + length s ≤ 2 * length (flat_map utf8_of cs)
+one_from : (s : List ℕ) (d : Decoder) (cs : List ℕ) → Begun d → points_from16 d s ≡ Some cs → before d + length s ≤ 2 * length (flat_map utf8_of cs)
 unfolding points_from16 flat_map
 one_from [] between cs h e = omega arith
 one_from [] (partway i) cs h e = absurd (none_not_some cs e)
 one_from (x ∷ []) d cs h e = absurd (none_not_some cs e)
 one_from (x ∷ y ∷ s) d cs h e = turn (decode16 d (little (x ∷ y ∷ []))) (covered d (little (x ∷ y ∷ [])) h) e (λ n ds k q. one_from s n ds k q)
   where
-    turn : (v : Decoded) → Covered (before d + 2) v → on_decoded v (λ n. points_from16 n s) ≡ some cs
-        → ((n : Decoder) (ds : List ℕ) → Begun n → points_from16 n s ≡ some ds → before n + length s ≤ 2 * length (flat_map utf8_of ds))
+    turn : (v : Decoded) → Covered (before d + 2) v → on_decoded v (λ n. points_from16 n s) ≡ Some cs
+        → ((n : Decoder) (ds : List ℕ) → Begun n → points_from16 n s ≡ Some ds → before n + length s ≤ 2 * length (flat_map utf8_of ds))
         → before d + length (x ∷ y ∷ s) ≤ 2 * length (flat_map utf8_of cs)
     turn bad p q f = absurd (none_not_some cs q)
     turn (more i) p q f = omega (arith, p.1, f (partway i) cs p.0 q)
     turn (point c) p q f =
-        let r = (map-eq-some_iff (λ ds. c ∷ ds) (points_from16 between s)).0 q in
+        let r = mapped_some (λ ds. c ∷ ds) (points_from16 between s) q in
         subst (λ (l : List ℕ). before d + length (x ∷ y ∷ s) ≤ 2 * length (flat_map utf8_of l)) r.2 (simp length-append (omega (arith, p, f between r.0 tt r.1)))
 
-pub one_a_unit : (s t : List ℕ) → utf8_from16 s ≡ some t → length s ≤ 2 * length t
+pub one_a_unit : (s t : List ℕ) → utf8_from16 s ≡ Some t → length s ≤ 2 * length t
 unfolding utf8_from16
 one_a_unit s t e =
-    let r = (map-eq-some_iff (flat_map utf8_of) (points_of16 s)).0 e in
+    let r = mapped_some (flat_map utf8_of) (points_of16 s) e in
     omega (arith, one_from s between r.0 tt r.1, ap length r.2)

@@ -1,8 +1,8 @@
 -- Laws of a code point at an offset of a UTF-16LE text, one for each way that the code leaves.
+use Rattle.std.proofs.Common.{None, Some}
 use mathlib.Core.Path.{◌≡◌, refl, sym, ap, ◌∙◌}
 use mathlib.Core.Bool.{true, false, ◌||◌}
 use mathlib.Core.List.{List, [], ◌∷◌}
-use mathlib.Core.Option.{none, some}
 use Prim.Native.Nat.{ℕ, ◌+◌, ◌*◌, ◌%◌, ◌≤◌, ◌<◌}
 use native.Mathlib.Omega.{arith}
 use lib.Dec.{leb, ltb}
@@ -43,20 +43,20 @@ opened d (x ∷ []) h = absurd (omega arith)
 opened d (x ∷ y ∷ l) h = refl
 
 -- half a unit is left; or less than a unit after a high surrogate
-half : (l : List ℕ) → 1 ≤ length l → length l < 2 → points_of16 l ≡ none
+half : (l : List ℕ) → 1 ≤ length l → length l < 2 → points_of16 l ≡ None
 unfolding points_from16
 half [] h k = absurd (omega arith)
 half (x ∷ []) h k = refl
 half (x ∷ y ∷ l) h k = absurd (omega arith)
 
-alone : (i : Partial) (l : List ℕ) → length l < 2 → points_from16 (partway i) l ≡ none
+alone : (i : Partial) (l : List ℕ) → length l < 2 → points_from16 (partway i) l ≡ None
 unfolding points_from16
 alone i [] k = refl
 alone i (x ∷ []) k = refl
 alone i (x ∷ y ∷ l) k = absurd (omega arith)
 
 module _ (s : List ℕ) (at : ℕ) where
-  pub end-points : length s ≤ at → points_of16 (drop at s) ≡ some []
+  pub end-points : length s ≤ at → points_of16 (drop at s) ≡ Some []
   unfolding points_from16
   end-points h = rw (drop_of_length-le s)
 

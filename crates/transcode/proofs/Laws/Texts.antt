@@ -1,14 +1,15 @@
 -- UTF-16LE texts as UTF-8, and back.
+use Rattle.std.proofs.Common.{Some, is_some}
 use mathlib.Core.Path.{◌≡◌, refl, ap, ◌∙◌, subst}
 use mathlib.Core.Bool.{true}
 use mathlib.Core.List.{List, [], ◌∷◌, flat_map}
-use mathlib.Core.Option.{some, map-eq-some_iff}
+use Rattle.octets.proofs.Laws.Option.{mapped_some}
 use Prim.Native.Nat.{ℕ, suc, ◌≤◌, ◌<◌}
 use native.Mathlib.Omega.{arith}
 use lib.Dec.{ltb}
 use lib.ListN.{length, get_or}
 use borrow.Author.Tests.{le-leb, lt-ltb, ltb-true}
-use Rattle.octets.specs.{Lists.all, Lists.is_some, NameRule.without, NameRule.user_name_most}
+use Rattle.octets.specs.{Lists.all, NameRule.without, NameRule.user_name_most}
 use Rattle.octets.proofs.Laws.Lists.{every_all}
 use Rattle.unicode_text.specs.{UserName.is_user_name, Utf8.points, Utf8.is_utf8, Utf8.utf8_of, Utf16.utf16, Utf16.points_of16, Utf16.utf8_from16}
 use Rattle.unicode_text.proofs.Laws.OneText.{text-back}
@@ -27,10 +28,10 @@ back_8 = text-back
 pub to_8 : To8
 unfolding utf8_from16 utf16 is_utf8
 to_8 s t o e =
-    let p = (map-eq-some_iff (flat_map utf8_of) (points_of16 s)).0 e in
+    let p = mapped_some (flat_map utf8_of) (points_of16 s) e in
     let cs : List ℕ = p.0 in
     let r = points16_comes s cs (every_all (λ x. ltb x 256) (λ x. x < 256) (λ x q. ltb-true x 256 q) s o) p.1 in
-    let q : points t ≡ some cs = subst (λ (x : List ℕ). points x ≡ some cs) p.2 (points-back cs r.0) in
+    let q : points t ≡ Some cs = subst (λ (x : List ℕ). points x ≡ Some cs) p.2 (points-back cs r.0) in
     record {
       utf8 = ap is_some q;
       back = rw q r.1;
@@ -39,6 +40,6 @@ to_8 s t o e =
     }
 
 -- a user's name, 9
-pub user_8 : (s t : List ℕ) → are_octets s ≡ true → utf8_from16 s ≡ some t → without 0 t ≡ true → length t ≤ user_name_most → is_user_name t ≡ true
+pub user_8 : (s t : List ℕ) → are_octets s ≡ true → utf8_from16 s ≡ Some t → without 0 t ≡ true → length t ≤ user_name_most → is_user_name t ≡ true
 unfolding is_user_name
 user_8 s t o e z h = rw (le-leb (length t) user_name_most h, (to_8 s t o e).utf8, z)

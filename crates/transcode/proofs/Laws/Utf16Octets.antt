@@ -1,8 +1,8 @@
 -- Octets that lead to code points as UTF-16LE are those of these code points.
+use Rattle.std.proofs.Common.{Some}
 use mathlib.Core.Path.{◌≡◌, refl, sym, ap₂, ◌∙◌, subst}
 use mathlib.Core.Bool.{false}
 use mathlib.Core.List.{List, [], ◌∷◌, ◌++◌, append_assoc, flat_map}
-use mathlib.Core.Option.{some}
 use Prim.Native.Nat.{ℕ, ◌+◌, ◌*◌, ◌/◌, ◌%◌, ◌≤◌, ◌<◌}
 use native.Mathlib.Omega.{arith}
 use borrow.Author.Tests.{leb-false, le-leb}
@@ -67,7 +67,7 @@ module _ (a b : ℕ) (h : a < 256) (k : b < 256) where
   decode-after between p e = subst (λ (q : List ℕ). After point_octets Owes16 (lead16 unit) (q ++ (a ∷ b ∷ []))) (sym e) lead_after
   decode-after (partway i) p s = follow-after i p s
 
-comes_from : (xs : List ℕ) (d : Decoder) (p cs : List ℕ) → Every (λ x. x < 256) xs → Before point_octets Owes16 d p → points_from16 d xs ≡ some cs → Comes point_octets (p ++ xs) cs
+comes_from : (xs : List ℕ) (d : Decoder) (p cs : List ℕ) → Every (λ x. x < 256) xs → Before point_octets Owes16 d p → points_from16 d xs ≡ Some cs → Comes point_octets (p ++ xs) cs
 unfolding points_from16 flat_map
 comes_from [] between p cs z b e = let k : [] ≡ cs = cc in subst (λ (q : List ℕ). Comes point_octets (q ++ []) cs) (sym b) (subst (Comes point_octets []) k (tt, refl))
 comes_from [] (partway i) p cs z b e = absurd (none_not_some cs e)
@@ -78,5 +78,5 @@ comes_from (x ∷ y ∷ xs) d p cs z b e =
     (decode-after x y z.0 z.1.0 d p b) e (λ n q ds c k. comes_from xs n q ds z.1.1 c k) in
     (r.0, r.1 ∙ append_assoc p (x ∷ y ∷ []) xs)
 
-pub points16_comes : (s cs : List ℕ) → Every (λ x. x < 256) s → points_of16 s ≡ some cs → Every Code cs × (points_octets cs ≡ s)
+pub points16_comes : (s cs : List ℕ) → Every (λ x. x < 256) s → points_of16 s ≡ Some cs → Every Code cs × (points_octets cs ≡ s)
 points16_comes s cs z e = comes_from s between [] cs z refl e

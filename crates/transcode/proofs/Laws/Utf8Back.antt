@@ -1,8 +1,8 @@
 -- UTF-8 loses nothing: a code point's octets lead back to it, by the laws of a code point at an offset, which here is the text's first.
+use Rattle.std.proofs.Common.{Some, option_map}
 use mathlib.Core.Path.{◌≡◌, refl}
 use mathlib.Core.Bool.{Bool, true, false, cond}
 use mathlib.Core.List.{List, [], ◌∷◌, ◌++◌, flat_map}
-use mathlib.Core.Option.{some, map}
 use Prim.Native.Nat.{ℕ, ◌+◌, ◌*◌, ◌/◌, ◌%◌, ◌≤◌, ◌<◌}
 use native.Mathlib.Omega.{arith}
 use lib.Dec.{eqb, ltb}
@@ -26,7 +26,7 @@ below x one its y h k = cond_has (λ (n : ℕ). y ≤ n) (eqb x one) its 0xBF (�
 
 module _ (c : ℕ) (rest : List ℕ) where
   abbrev LedBack : List ℕ → Type 0
-  LedBack octets = points (octets ++ rest) ≡ map (λ cs. c ∷ cs) (points rest)
+  LedBack octets = points (octets ++ rest) ≡ option_map (λ cs. c ∷ cs) (points rest)
 
   back_one : c < 0x80 → LedBack (c ∷ [])
   unfolding points_from lead
@@ -86,6 +86,6 @@ module _ (c : ℕ) (rest : List ℕ) where
       back_four _ _ _ _ (ltb-false c 0x10000 d) h.below refl refl refl refl)))
 
 -- the octets of code points are UTF-8, and lead back to them
-pub points-back : (cs : List ℕ) → Every Code cs → points (flat_map utf8_of cs) ≡ some cs
+pub points-back : (cs : List ℕ) → Every Code cs → points (flat_map utf8_of cs) ≡ Some cs
 unfolding points_from
 points-back cs h = back-all utf8_of points refl led_back cs h

@@ -1,8 +1,9 @@
 -- A zero octet of UTF-8 is a zero code point.
+use Rattle.std.proofs.Common.{Some}
 use mathlib.Core.Path.{◌≡◌, refl, sym, ap, ap₂, ◌∙◌}
 use mathlib.Core.Bool.{Bool, true, false, not, ◌&&◌}
 use mathlib.Core.List.{List, [], ◌∷◌, flat_map}
-use mathlib.Core.Option.{some, map-eq-some_iff}
+use Rattle.octets.proofs.Laws.Option.{mapped_some}
 use Prim.Native.Nat.{ℕ, ◌≤◌}
 use native.Mathlib.Omega.{arith}
 use lib.Dec.{eqb, ltb}
@@ -39,8 +40,8 @@ unfolding all flat_map
 zeros_kept [] = refl
 zeros_kept (c ∷ cs) = all_append (λ y. not (eqb y 0)) (utf8_of c) (flat_map utf8_of cs) ∙ ap₂ (λ a b. a && b) (zero_kept c) (zeros_kept cs)
 
-pub zeros-said : (s t : List ℕ) → utf8_from16 s ≡ some t → without 0 t ≡ holds (without 0) (points_of16 s)
+pub zeros-said : (s t : List ℕ) → utf8_from16 s ≡ Some t → without 0 t ≡ holds (without 0) (points_of16 s)
 unfolding utf8_from16
 zeros-said s t e =
-    let r = (map-eq-some_iff (flat_map utf8_of) (points_of16 s)).0 e in
+    let r = mapped_some (flat_map utf8_of) (points_of16 s) e in
     ap (without 0) (sym r.2) ∙ zeros_kept r.0 ∙ sym (ap (holds (without 0)) r.1)

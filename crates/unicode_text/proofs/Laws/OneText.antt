@@ -1,13 +1,12 @@
 -- UTF-16LE loses nothing: a code point's octets lead back to it, whatever comes after.
+use Rattle.std.proofs.Common.{Option, None, Some, option_map, is_some}
 use mathlib.Core.Path.{◌≡◌, refl, sym, ap, ◌∙◌}
 use mathlib.Core.Bool.{Bool, true, false}
 use mathlib.Core.List.{List, ◌∷◌, ◌++◌}
-use mathlib.Core.Option.{Option, none, some, map}
 use Prim.Native.Nat.{ℕ, ◌+◌, ◌*◌, ◌%◌, ◌≤◌, ◌<◌}
 use native.Mathlib.Omega.{arith}
 use lib.Dec.{ltb}
 use borrow.Author.Tests.{ltb-true, ltb-false}
-use Rattle.octets.specs.Lists.{is_some}
 use Rattle.octets.proofs.Laws.Lists.{Every, true_not_false}
 use Rattle.octets.proofs.Laws.Text.{within_range, without_range}
 use Rattle.unicode_text.specs.Utf8.{Partial, point, more, points, is_utf8}
@@ -36,7 +35,7 @@ module _ (u : ℕ) where
 
 module _ (c : ℕ) (rest : List ℕ) (h : Code c) where
   abbrev LedBack : Type 0
-  LedBack = points_of16 (point_octets c ++ rest) ≡ map (λ cs. c ∷ cs) (points_of16 rest)
+  LedBack = points_of16 (point_octets c ++ rest) ≡ option_map (λ cs. c ∷ cs) (points_of16 rest)
 
   one-back : c < 0x10000 → LedBack
   unfolding points_from16
@@ -63,22 +62,22 @@ module _ (c : ℕ) (rest : List ℕ) (h : Code c) where
       go true e = one-back (ltb-true c 0x10000 e)
       go false e = pair_back (ltb-false c 0x10000 e)
 
-points-back : (cs : List ℕ) → Every Code cs → points_of16 (points_octets cs) ≡ some cs
+points-back : (cs : List ℕ) → Every Code cs → points_of16 (points_octets cs) ≡ Some cs
 unfolding points_from16
 points-back cs h = back-all point_octets points_of16 refl led_back cs h
 
 -- a text that is UTF-8 comes back by its code points
-pub text-back : (t : List ℕ) → is_utf8 t ≡ true → utf8_from16 (utf16 t) ≡ some t
+pub text-back : (t : List ℕ) → is_utf8 t ≡ true → utf8_from16 (utf16 t) ≡ Some t
 unfolding is_utf8 utf16 utf8_from16
 text-back t u = go (points t) refl u
   where
-    go : (o : Option (List ℕ)) → points t ≡ o → is_some o ≡ true → utf8_from16 (utf16 t) ≡ some t
-    go none q v = absurd (true_not_false (sym v))
-    go (some cs) q v =
+    go : (o : Option (List ℕ)) → points t ≡ o → is_some o ≡ true → utf8_from16 (utf16 t) ≡ Some t
+    go None q v = absurd (true_not_false (sym v))
+    go (Some cs) q v =
         let r = points_comes t cs q in
-        rw (q, points-back cs r.0) (ap some r.1)
+        rw (q, points-back cs r.0) (ap Some r.1)
 
 pub one-text : OneText
 one-text x y u v e =
-    let k : some x ≡ some y = sym (text-back x u) ∙ ap utf8_from16 e ∙ text-back y v in
+    let k : Some x ≡ Some y = sym (text-back x u) ∙ ap utf8_from16 e ∙ text-back y v in
     cc

@@ -1,8 +1,8 @@
 -- Laws of a code point at an offset: what its octets, decoded one after the other, say of the text.
+use Rattle.std.proofs.Common.{Option, None, Some, option_map, is_some}
 use mathlib.Core.Path.{◌≡◌, refl, sym, ap, subst, ◌∙◌}
 use mathlib.Core.Bool.{Bool, true, false, cond}
 use mathlib.Core.List.{List, [], ◌∷◌}
-use mathlib.Core.Option.{Option, none, some, map}
 use Prim.Native.Nat.{ℕ, ◌+◌, ◌*◌, ◌%◌, ◌≤◌, ◌<◌}
 use native.Mathlib.Numerals.{add-one}
 use native.Mathlib.Omega.{arith}
@@ -10,7 +10,6 @@ use lib.Dec.{eqb, leb, ltb}
 use lib.ListN.{length, get_or, drop, drop_of_length-le, get_or-eq_default}
 use lib.Seq.{drop-cons}
 use borrow.Author.Tests.{eqb-true, eqb-false, ne_eqb, leb-true, ltb-true, ltb-false, lt-ltb, le-ltb}
-use Rattle.octets.specs.Lists.{is_some}
 use Rattle.octets.specs.Text.{within}
 use Rattle.octets.proofs.Laws.Lists.{none_not_some, both_left}
 use Rattle.unicode_text.specs.declared.utf8.PointAt.TheVariants.{Bad, Point}
@@ -259,30 +258,30 @@ some-low false low its h e = omega (arith, e)
 
 -- a text's code points by the one at an offset
 
-pub end-points : (s : List ℕ) (at : ℕ) → length s ≤ at → points (drop at s) ≡ some []
+pub end-points : (s : List ℕ) (at : ℕ) → length s ≤ at → points (drop at s) ≡ Some []
 unfolding points_from
 end-points s at h = rw (drop_of_length-le s)
 
-pub some_more : (c : ℕ) (o : Option (List ℕ)) → is_some (map (λ cs. c ∷ cs) o) ≡ is_some o
-some_more c none = refl
-some_more c (some cs) = refl
+pub some_more : (c : ℕ) (o : Option (List ℕ)) → is_some (option_map (λ cs. c ∷ cs) o) ≡ is_some o
+some_more c None = refl
+some_more c (Some cs) = refl
 
 -- what can be read of a text that is UTF-8 is all of it
-readable-from : (xs : List ℕ) (decoder : Decoder) (cs : List ℕ) → points_from decoder xs ≡ some cs → readable_from decoder xs ≡ cs
+readable-from : (xs : List ℕ) (decoder : Decoder) (cs : List ℕ) → points_from decoder xs ≡ Some cs → readable_from decoder xs ≡ cs
 unfolding points_from readable_from
 readable-from [] between cs e = cc
 readable-from [] (partway i) cs e = absurd (none_not_some cs e)
 readable-from (x ∷ xs) decoder cs e = go (decode decoder x) e (λ n ds q. readable-from xs n ds q)
   where
-    after : (c : ℕ) (r : Option (List ℕ)) → ((ds : List ℕ) → r ≡ some ds → readable_from between xs ≡ ds) → map (λ ds. c ∷ ds) r ≡ some cs → c ∷ readable_from between xs ≡ cs
-    after c none f q = absurd (none_not_some cs q)
-    after c (some ds) f q = let k : c ∷ ds ≡ cs = cc in ap (λ (t : List ℕ). c ∷ t) (f ds refl) ∙ k
+    after : (c : ℕ) (r : Option (List ℕ)) → ((ds : List ℕ) → r ≡ Some ds → readable_from between xs ≡ ds) → option_map (λ ds. c ∷ ds) r ≡ Some cs → c ∷ readable_from between xs ≡ cs
+    after c None f q = absurd (none_not_some cs q)
+    after c (Some ds) f q = let k : c ∷ ds ≡ cs = cc in ap (λ (t : List ℕ). c ∷ t) (f ds refl) ∙ k
 
-    go : (d : Decoded) → on_decoded d (λ n. points_from n xs) ≡ some cs → ((n : Decoder) (ds : List ℕ) → points_from n xs ≡ some ds → readable_from n xs ≡ ds)
+    go : (d : Decoded) → on_decoded d (λ n. points_from n xs) ≡ Some cs → ((n : Decoder) (ds : List ℕ) → points_from n xs ≡ Some ds → readable_from n xs ≡ ds)
         → read_on d (λ n. readable_from n xs) ≡ cs
     go bad q f = absurd (none_not_some cs q)
     go (point c) q f = after c (points_from between xs) (f between) q
     go (more i) q f = f (partway i) cs q
 
-pub readable-points : (s cs : List ℕ) → points s ≡ some cs → readable s ≡ cs
+pub readable-points : (s cs : List ℕ) → points s ≡ Some cs → readable s ≡ cs
 readable-points s cs e = readable-from s between cs e

@@ -1,14 +1,13 @@
 -- What the rule for users' names gives: a text that UTF-16 can say, of at most 63 octets.
+use Rattle.std.proofs.Common.{Option, None, Some, is_some}
 use mathlib.Core.Path.{◌≡◌, refl, sym}
 use mathlib.Core.Bool.{true, ◌&&◌, not}
 use mathlib.Core.List.{List}
-use mathlib.Core.Option.{Option, none, some}
 use Prim.Native.Nat.{ℕ, ◌≤◌}
 use native.Mathlib.Omega.{arith}
 use lib.Dec.{eqb, leb}
 use lib.ListN.{length}
 use borrow.Author.Tests.{not-true, eqb-false, leb-true}
-use Rattle.octets.specs.Lists.{is_some}
 use Rattle.octets.proofs.Laws.Lists.{Every, every_all, both_left, both_right, true_not_false}
 use Rattle.octets.specs.NameRule.{without}
 use Rattle.unicode_text.specs.UserName.{is_user_name}
@@ -34,5 +33,5 @@ module _ (s : List ℕ) (e : is_user_name s ≡ true) where
   user-name_spoken = go (points s) refl (both_right (leb (length s) 63) (is_utf8 s) short-utf8)
     where
       go : (p : Option (List ℕ)) → points s ≡ p → is_some p ≡ true → Spoken s
-      go none q u = absurd (true_not_false (sym u))
-      go (some cs) q u = spoken s cs nonzero q
+      go None q u = absurd (true_not_false (sym u))
+      go (Some cs) q u = spoken s cs nonzero q

@@ -1,14 +1,14 @@
 -- Laws of UTF-16LE: how many octets a text takes, and that each unit's octets make its number again.
+use Rattle.std.proofs.Common.{Some, is_some}
 use mathlib.Core.Path.{◌≡◌, refl, ap}
 use mathlib.Core.Bool.{Bool, true, false, cond}
 use mathlib.Core.List.{List, [], ◌∷◌, ◌++◌, flat_map}
-use mathlib.Core.Option.{some}
 use Prim.Native.Nat.{ℕ, ◌+◌, ◌*◌, ◌-◌, ◌/◌, ◌%◌, ◌<◌, ◌≤◌}
 use native.Mathlib.Omega.{arith}
 use lib.Dec.{ltb}
 use lib.ListN.{length, length-append}
 use borrow.Author.Tests.{le-ltb, lt-ltb}
-use Rattle.octets.specs.Lists.{all, is_some}
+use Rattle.octets.specs.Lists.{all}
 use Rattle.octets.proofs.Laws.Lists.{Every, every_all, every_weaken}
 use Rattle.octets.specs.NameRule.{printable, is_netbios_name}
 use Rattle.octets.proofs.Laws.NameRule.{netbios-printable}
@@ -62,7 +62,7 @@ pub record Spoken (s : List ℕ) : Type 0 where
   pub scalars : Every Scalar codes
   pub short : length (utf16 s) ≤ 2 * length s
 
-pub spoken : (s cs : List ℕ) → Every (λ x. 1 ≤ x) s → points s ≡ some cs → Spoken s
+pub spoken : (s cs : List ℕ) → Every (λ x. 1 ≤ x) s → points s ≡ Some cs → Spoken s
 unfolding utf16 is_utf8
 spoken s cs z e =
     let k : Every Scalar cs × (units_of cs ≤ length s) = sayable s cs z e in

@@ -1,8 +1,8 @@
 -- Laws of UTF-8: a text that is UTF-8 is the octets of its code points; without zero octets they are ones that UTF-16 can say, of no more units than the text has octets.
+use Rattle.std.proofs.Common.{Some}
 use mathlib.Core.Path.{◌≡◌, refl, sym, ◌∙◌, subst}
 use mathlib.Core.Bool.{Bool, true, false, cond}
 use mathlib.Core.List.{List, [], ◌∷◌, ◌++◌, append_assoc, flat_map}
-use mathlib.Core.Option.{some}
 use Prim.Native.Nat.{ℕ, zero, suc, ◌+◌, ◌*◌, ◌/◌, ◌%◌, ◌≤◌, ◌<◌}
 use native.Mathlib.Omega.{arith}
 use lib.Dec.{eqb, ltb}
@@ -115,7 +115,7 @@ decode-after : (d : Decoder) (p : List ℕ) → Before utf8_of Owes8 d p → (x 
 decode-after between p e x = subst (λ (q : List ℕ). After utf8_of Owes8 (lead x) (q ++ (x ∷ []))) (sym e) (lead_after x)
 decode-after (partway i) p s x = follow-after i p s x
 
-comes_from : (xs : List ℕ) (d : Decoder) (p cs : List ℕ) → Before utf8_of Owes8 d p → points_from d xs ≡ some cs → Comes utf8_of (p ++ xs) cs
+comes_from : (xs : List ℕ) (d : Decoder) (p cs : List ℕ) → Before utf8_of Owes8 d p → points_from d xs ≡ Some cs → Comes utf8_of (p ++ xs) cs
 unfolding points_from flat_map
 comes_from [] between p cs b e = let k : [] ≡ cs = cc in subst (λ (q : List ℕ). Comes utf8_of (q ++ []) cs) (sym b) (subst (Comes utf8_of []) k (tt, refl))
 comes_from [] (partway i) p cs b e = absurd (none_not_some cs e)
@@ -125,7 +125,7 @@ comes_from (x ∷ xs) d p cs b e =
     (r.0, r.1 ∙ append_assoc p (x ∷ []) xs)
 
 -- a text that is UTF-8 is the octets of its code points
-pub points_comes : (t cs : List ℕ) → points t ≡ some cs → Every Code cs × (flat_map utf8_of cs ≡ t)
+pub points_comes : (t cs : List ℕ) → points t ≡ Some cs → Every Code cs × (flat_map utf8_of cs ≡ t)
 points_comes t cs e = comes_from t between [] cs refl e
 
 -- whatever octets there are, zero too: what one leads to stays below 110000h, as it is owed from some octets on
@@ -183,13 +183,13 @@ octets_sayable (c ∷ cs) h z =
     let rest = octets_sayable cs h.1 one.1 in
     ((record { some = one.0; below = h.0.below; unique = h.0.unique }, rest.0), omega arith)
 
-pub sayable : (s cs : List ℕ) → Every (λ x. 1 ≤ x) s → points s ≡ some cs → Every Scalar cs × (units_of cs ≤ length s)
+pub sayable : (s cs : List ℕ) → Every (λ x. 1 ≤ x) s → points s ≡ Some cs → Every Scalar cs × (units_of cs ≤ length s)
 sayable s cs z e =
     let r = points_comes s cs e in
     subst (λ (t : List ℕ). Every (λ x. 1 ≤ x) t → Sayable t cs) r.1 (octets_sayable cs r.0) z
 
 -- ASCII octets are their own code points
-pub points_ascii : (s : List ℕ) → Every (λ x. x < 0x80) s → points s ≡ some s
+pub points_ascii : (s : List ℕ) → Every (λ x. x < 0x80) s → points s ≡ Some s
 unfolding points_from lead
 points_ascii [] h = refl
 points_ascii (x ∷ xs) h = rw (lt-ltb x 0x80 h.0, points_ascii xs h.1)

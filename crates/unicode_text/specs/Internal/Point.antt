@@ -1,7 +1,6 @@
 -- The code point at an offset of a text, and the offset after it; the code points that can be read of octets that are no UTF-8; and what a
 -- code point decoded from octets as numbers says of a text in which they stand.
-use Rattle.std.specs.Prelude.{◌≡◌, true, false, cond, List, [], ◌∷◌, ℕ, ◌+◌, ◌%◌, ◌≤◌, ◌<◌, ltb, length, get_or, drop}
-use Rattle.std.proofs.Math.Option.{none, map}
+use Rattle.std.specs.Prelude.{◌≡◌, true, false, cond, List, [], ◌∷◌, ℕ, ◌+◌, ◌%◌, ◌≤◌, ◌<◌, ltb, length, get_or, drop, None, option_map}
 use Rattle.octets.specs.Text.{within}
 use Rattle.unicode_text.specs.Utf8.{Decoded, bad, point, more, Decoder, between, partway, decode, points}
 use Rattle.unicode_text.specs.declared.utf8.PointAt.{PointAt}
@@ -27,9 +26,9 @@ readable = readable_from between
 -- what it says of the text's code points from the offset on
 abbrev pub PointRead : List ℕ → ℕ → PointAt → Type 0
 PointRead s at End = length s ≤ at
-PointRead s at Bad = (points (drop at s) ≡ none) × (readable (drop at s) ≡ [])
+PointRead s at Bad = (points (drop at s) ≡ None) × (readable (drop at s) ≡ [])
 PointRead s at (Point c next) =
-    (at < next) × (next ≤ length s) × (c < point_limit) × (points (drop at s) ≡ map (λ cs. c ∷ cs) (points (drop next s))) × (readable (drop at s) ≡ c ∷ readable (drop next s))
+    (at < next) × (next ≤ length s) × (c < point_limit) × (points (drop at s) ≡ option_map (λ cs. c ∷ cs) (points (drop next s))) × (readable (drop at s) ≡ c ∷ readable (drop next s))
 
 -- what the six bits read of an octet, or 64, say of it
 abbrev pub SixBits : ℕ → ℕ → ℕ → ℕ → Type 0

@@ -3,7 +3,6 @@ use native.Mathlib.Omega.{arith}
 use borrow.Author.Tests.{eqb-true}
 use Rattle.unicode_text.proofs.Laws.Point.{stand_two}
 use Rattle.account_names.proofs.Laws.NameOrder.{points_alike, letters_alike}
-use borrow.Author.Rules.{rules}
 use Rattle.account_names.proofs.compare.alike_size.Goals as goal
 
 pub returns-then-a-i : goal.returns-then-a-i

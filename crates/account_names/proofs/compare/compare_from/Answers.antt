@@ -1,11 +1,12 @@
-use mathlib.Core.Path.{◌≡◌, refl, subst, ◌∙◌}
-use Prim.Native.Nat.{ℕ, ◌+◌, ◌-◌, ◌≤◌, ◌<◌}
+use mathlib.Core.Path.{◌≡◌, refl, sym, ap, subst, ◌∙◌}
+use Rattle.std.specs.Ordering.{is_ne}
+use Rattle.account_names.proofs.Laws.Ordering.{equal_numbers}
+use Prim.Native.Nat.{ℕ, ◌+◌, ◌≤◌, ◌<◌}
 use native.Mathlib.Omega.{arith}
-use lib.ListN.{length, get_or}
+use lib.ListN.{get_or}
 use Rattle.unicode_text.specs.Internal.Point.{size_of}
-use borrow.Author.Rules.{rules}
 use Rattle.account_names.specs.Internal.NameOrder.{RankRead, GoesOn}
-use Rattle.account_names.proofs.Laws.NameOrder.{rank_less, rank_greater, rank_next}
+use Rattle.account_names.proofs.Laws.NameOrder.{rank_decides, rank_next}
 use Rattle.account_names.proofs.compare.compare_from.Goals as goal
 use Rattle.account_names.proofs.compare.compare_from.Goals.{Else-x-eq0, Then-size-gt0}
 
@@ -30,14 +31,11 @@ next-read c =
     let x = c.rank_at-x in
     let y = c.rank_at-y in
     let next = l.j + size_of (get_or p.b.now l.j 0) in
-    let e : y.result ≡ x.result = omega (arith, c.if-y-x.false, c.if-x-y.false) in
+    let e : y.result ≡ x.result = sym (equal_numbers _ _ (ap is_ne (sym c.cmp-order.ensures) ∙ sym c.is_ne.ensures ∙ c.if-is_ne.false)) in
     rank_next p.a.now p.b.now l.i l.j (l.i + size_of (get_or p.a.now l.i 0)) next x.result x.ensures (subst (λ (k : ℕ). RankRead p.b.now l.j k next) e y.ensures) c.if-x-eq0.false
 
 pub loop-i-init : goal.loop-i-init
-loop-i-init c = let e = c in (e.requires.1, e.requires.2, refl)
-
-pub alike_size-size-requires : goal.alike_size-size-requires
-alike_size-size-requires c = c.requires.0
+loop-i-init c = let e = c in (e.requires.0, e.requires.1, refl)
 
 pub overflow_add-i : goal.overflow_add-i
 overflow_add-i c = omega (arith, (passed (goal.at.overflow_add-i c).Then-size-gt0).1.0)
@@ -51,21 +49,12 @@ loop-i-smaller-then-size-gt0 c = omega (arith, (passed (goal.at.loop-i-smaller-t
 pub loop-i-preserved-then-size-gt0 : goal.loop-i-preserved-then-size-gt0
 loop-i-preserved-then-size-gt0 c = let h = (passed (goal.at.loop-i-preserved-then-size-gt0 c).Then-size-gt0).1 in (h.0, h.1, h.2 ∙ c.loop-i.invariant.2)
 
-pub rank_at-x-requires : goal.rank_at-x-requires
-rank_at-x-requires c = c.requires.0
-
-pub rank_at-y-requires : goal.rank_at-y-requires
-rank_at-y-requires c = c.requires.0
-
-pub returns-then-x-y : goal.returns-then-x-y
-returns-then-x-y c =
+pub returns-then-is_ne : goal.returns-then-is_ne
+returns-then-is_ne c =
     let p = c.args in
-    rank_less p.a.now p.b.now _ _ _ _ _ _ c.rank_at-x.ensures c.rank_at-y.ensures c.if-x-y.true ∙ c.loop-i.invariant.2
-
-pub returns-then-y-x : goal.returns-then-y-x
-returns-then-y-x c =
-    let p = c.args in
-    rank_greater p.a.now p.b.now _ _ _ _ _ _ c.rank_at-x.ensures c.rank_at-y.ensures c.if-y-x.true ∙ c.loop-i.invariant.2
+    c.cmp-order.ensures
+    ∙ rank_decides p.a.now p.b.now _ _ _ _ _ _ c.rank_at-x.ensures c.rank_at-y.ensures (ap is_ne (sym c.cmp-order.ensures) ∙ sym c.is_ne.ensures ∙ c.if-is_ne.true)
+    ∙ c.loop-i.invariant.2
 
 pub compare_ends-requires : goal.compare_ends-requires
 compare_ends-requires c =
@@ -73,7 +62,7 @@ compare_ends-requires c =
     let l = c.loop-i in
     let x = c.rank_at-x in
     let y = c.rank_at-y in
-    let e : y.result ≡ 0 = omega (arith, c.if-x-eq0.true, c.if-y-x.false, c.if-x-y.false) in (
+    let e : y.result ≡ 0 = sym (equal_numbers _ _ (ap is_ne (sym c.cmp-order.ensures) ∙ sym c.is_ne.ensures ∙ c.if-is_ne.false)) ∙ c.if-x-eq0.true in (
       subst (λ (k : ℕ). RankRead p.a.now l.i k (l.i + size_of (get_or p.a.now l.i 0))) c.if-x-eq0.true x.ensures,
       subst (λ (k : ℕ). RankRead p.b.now l.j k (l.j + size_of (get_or p.b.now l.j 0))) e y.ensures,
     )

@@ -1,6 +1,5 @@
 use mathlib.Core.Path.{sym, ◌∙◌}
 use Rattle.account_names.proofs.Laws.NameOrder.{names_equal}
-use borrow.Author.Rules.{rules}
 use Rattle.account_names.proofs.compare.first_letters_differ.Goals as goal
 
 pub returns : goal.returns

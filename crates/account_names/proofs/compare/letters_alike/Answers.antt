@@ -2,7 +2,6 @@ use mathlib.Core.Path.{sym, ap, ap₂}
 use lib.Dec.{eqb}
 use borrow.Author.Tests.{eq-eqb}
 use Rattle.octets.specs.Text.{lower}
-use borrow.Author.Rules.{rules}
 use Rattle.account_names.proofs.compare.letters_alike.Goals as goal
 
 pub returns-then-x-y : goal.returns-then-x-y

@@ -4,7 +4,6 @@ use native.Mathlib.Omega.{arith}
 use borrow.Author.Tests.{not-true}
 use Rattle.octets.proofs.Laws.Lists.{true_not_false, both_left, both_right}
 use Rattle.account_names.proofs.Laws.NameOrder.{letters_differ}
-use borrow.Author.Rules.{rules}
 use Rattle.account_names.proofs.compare.other_letter_at.Goals as goal
 
 pub returns-then-a-at : goal.returns-then-a-at

@@ -2,7 +2,6 @@ use mathlib.Core.Path.{sym, ◌∙◌}
 use native.Mathlib.Omega.{arith}
 use borrow.Author.Tests.{not-false, eqb-true}
 use Rattle.account_names.proofs.Laws.NameOrder.{letters_alike}
-use borrow.Author.Rules.{rules}
 use Rattle.account_names.proofs.compare.plain_size.Goals as goal
 
 pub returns-then-a-at : goal.returns-then-a-at

@@ -1,8 +1,6 @@
 use mathlib.Core.Path.{refl, ◌∙◌}
-use Prim.Native.Nat.{◌+◌, ◌-◌, ◌≤◌}
+use Prim.Native.Nat.{◌+◌, ◌≤◌}
 use native.Mathlib.Omega.{arith}
-use lib.ListN.{length}
-use borrow.Author.Rules.{rules}
 use Rattle.account_names.specs.Internal.NameOrder.{GoesOn}
 use Rattle.account_names.proofs.compare.plain_start.Goals as goal
 use Rattle.account_names.proofs.compare.plain_start.Goals.{Else-size-eq0}

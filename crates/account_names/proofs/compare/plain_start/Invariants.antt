@@ -1,8 +1,5 @@
-use mathlib.Core.Path.{refl, ◌∙◌}
-use Prim.Native.Nat.{◌+◌, ◌-◌, ◌≤◌}
-use native.Mathlib.Omega.{arith}
+use Prim.Native.Nat.{◌-◌}
 use lib.ListN.{length}
-use borrow.Author.Rules.{rules}
 use Rattle.account_names.specs.Internal.NameOrder.{GoesOn}
 use Rattle.account_names.proofs.compare.plain_start.Given as goal
 

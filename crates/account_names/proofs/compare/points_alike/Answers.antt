@@ -1,7 +1,6 @@
 use mathlib.Core.Path.{sym, ◌∙◌}
 use borrow.Author.Tests.{eqb-true}
 use Rattle.octets.proofs.Laws.Lists.{true_not_false}
-use borrow.Author.Rules.{rules}
 use Rattle.account_names.proofs.compare.points_alike.Goals as goal
 
 pub returns-then-p-ge-NO_POINT : goal.returns-then-p-ge-NO_POINT

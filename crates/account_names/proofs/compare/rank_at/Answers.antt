@@ -3,7 +3,6 @@ use Prim.Native.Nat.{ℕ, ◌+◌}
 use native.Mathlib.Omega.{arith}
 use Rattle.octets.specs.Fold.{fold_point}
 use Rattle.account_names.proofs.Laws.NameOrder.{ranked_end, ranked_code, ranked_ascii}
-use borrow.Author.Rules.{rules}
 use Rattle.account_names.proofs.compare.rank_at.Goals as goal
 
 pub returns-then-s-at : goal.returns-then-s-at

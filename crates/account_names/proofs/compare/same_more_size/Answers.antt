@@ -6,7 +6,6 @@ use Rattle.unicode_text.specs.Internal.Point.{size_of}
 use Rattle.unicode_text.proofs.Laws.Point.{size_three, size_four}
 use Rattle.account_names.specs.Internal.NameOrder.{Alike}
 use Rattle.account_names.proofs.Laws.NameOrder.{decoded_alike}
-use borrow.Author.Rules.{rules}
 use Rattle.account_names.proofs.compare.same_more_size.Goals as goal
 use Rattle.account_names.proofs.compare.same_more_size.Goals.{Else-octet_at-y}
 

@@ -4,7 +4,6 @@ use native.Mathlib.Omega.{arith}
 use lib.ListN.{get_or}
 use Rattle.unicode_text.proofs.Laws.Point.{stand_two}
 use Rattle.account_names.proofs.Laws.NameOrder.{decoded_alike}
-use borrow.Author.Rules.{rules}
 use Rattle.account_names.proofs.compare.same_two_size.Goals as goal
 
 pub returns-then-lead-ge224 : goal.returns-then-lead-ge224

@@ -1,5 +1,6 @@
 use mathlib.Core.Path.{sym, ap, ◌∙◌}
 use native.Mathlib.Omega.{arith}
+use lib.ListN.{length}
 use Rattle.table_whole.proofs.Laws.Judgement.{accepted_bounds}
 use Rattle.octets.specs.Lists.{holds}
 use Rattle.octets.proofs.Laws.Lists.{cut-cut}
@@ -19,6 +20,12 @@ use Rattle.choose_reply.specs.Internal.Lends.{name_of}
 use Rattle.choose_reply.proofs.Laws.Lends.{server-body, next_there}
 use Rattle.choose_reply.proofs.chosen.reply_for.Goals as goal
 
+pub overflow_add-guid : goal.overflow_add-guid
+overflow_add-guid c = omega (arith, (accepted_bounds c.args.image.now c.octets.ensures.accepted).1, c.requires.asked.0)
+
+pub flags_for-flags-requires : goal.flags_for-flags-requires
+flags_for-flags-requires c = omega (arith, (accepted_bounds c.args.image.now c.octets.ensures.accepted).0, ap length c.octets.ensures.same)
+
 pub returns : goal.returns
 unfolding context_of server_of reply_for
 returns c =
@@ -27,38 +34,35 @@ returns c =
     let image = a.image.now in
     let t = table_from image in
     let p = ping_at a.source.now a.ping in
-    let long = (accepted_bounds image entry.requires.accepted.0).0 in
+    let long = (accepted_bounds image c.octets.ensures.accepted).0 in
     let site = c.client_site-client.ensures.result_value in
     let found = c.next_site-next in
     let slots = c.slots_for-slots.ensures in
     let same-site = ap (holds (λ s. same_site_lem s.number t.server.site)) site in
     let flags =
-    c.flags_for-flags.ensures
+    (rw c.octets.ensures.same at c.flags_for-flags.ensures)
     ∙ (λ i. flags_by a.form t.server.roles (same-site i) (entry.requires.application_value i))
     ∙ flags_by_lem a.form t p (client_site_lem t a.caller) in
     let address = sym (cut-cut image body_offset body_size 8 ipv4_size (omega arith)) ∙ ap (λ (s : Server). s.address) (server-body image (omega arith)) in
     let next =
-    (λ i. text_if (c.is_found.ensures i) (slots.octets 8 i))
+    (λ i. text_if (c.is_some.ensures i) (slots.octets 8 (omega arith) i))
     ∙ next_there image found.result
     ∙ found.ensures.result_value
     ∙ ap (next_site_lem t p.version) site in
+    λ i.
     record {
-      result_value = λ i.
-          record {
-            opcode = c.opcode_for-opcode.ensures i;
-            flags = flags i;
-            guid = sym (cut-cut image a.context body_size 4 guid_size (omega arith)) i;
-            forest = slots.octets 0 i;
-            dns = slots.octets 1 i;
-            host = slots.octets 2 i;
-            netbios = slots.octets 3 i;
-            server = slots.octets 4 i;
-            user = slots.octets 5 i;
-            own_site_lem = slots.octets 6 i;
-            client_site_lem = (slots.octets 7 ∙ ap name_of site) i;
-            ipv4 = address i;
-            with_address_lem = c.has_bits.ensures i;
-            next_site_lem = next i;
-          };
-      short = record { guid = omega arith; ipv4 = omega arith; slots = slots.short };
+      opcode = c.opcode_for-opcode.ensures i;
+      flags = flags i;
+      guid = sym (cut-cut image a.context body_size 4 guid_size (omega arith)) i;
+      forest = (slots.octets 0 (omega arith)) i;
+      dns = slots.octets 1 (omega arith) i;
+      host = slots.octets 2 (omega arith) i;
+      netbios = slots.octets 3 (omega arith) i;
+      server = slots.octets 4 (omega arith) i;
+      user = slots.octets 5 (omega arith) i;
+      own_site_lem = slots.octets 6 (omega arith) i;
+      client_site_lem = (slots.octets 7 (omega arith) ∙ ap name_of site) i;
+      ipv4 = address i;
+      with_address_lem = c.has_bits.ensures i;
+      next_site_lem = next i;
     }

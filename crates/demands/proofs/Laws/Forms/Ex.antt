@@ -1,13 +1,12 @@
 -- The octets of an EX reply in the order of the reader's fields, with its names at their places.
+use Rattle.std.proofs.Common.{Ok, Option, None, Some}
 use mathlib.Core.Path.{◌≡◌, refl, sym, ap, ◌∙◌, subst}
 use mathlib.Core.Bool.{Bool, true, false, cond}
 use mathlib.Core.List.{List, [], ◌++◌, append_assoc}
-use mathlib.Core.Option.{Option, none, some}
 use Prim.Native.Nat.{ℕ, ◌+◌, ◌≤◌}
 use native.Mathlib.Omega.{arith}
 use lib.ListN.{length, length-append}
 use Rattle.answers.specs.declared.Form.TheVariants.{Ex}
-use Rattle.answers.specs.Try.{good}
 use Rattle.answers.specs.Wire.{netlogon_nt_version_5ex_with_ip, netlogon_nt_version_with_closest_site, ex_version, ex_version_with_next_site, Sbz, DcSockAddrSize, sin_family}
 use Rattle.names.specs.Name.{Tail, Writing, write_name, write_names}
 use Rattle.names.specs.WalkRelation.{Walks}
@@ -34,12 +33,12 @@ use Rattle.demands.proofs.Laws.Places.{names-end}
 
 -- the octets of name 8, if there is one
 abbrev pub last_name : Option (List ℕ) → List Tail → ℕ → List ℕ
-last_name none tails at = []
-last_name (some text) tails at = (write_name tails at text).octets
+last_name None tails at = []
+last_name (Some text) tails at = (write_name tails at text).octets
 
 last-same : (site : Option (List ℕ)) (names : Writing) (at : ℕ) → ex_last site names at ≡ reading.last site (last_name site names.tails at)
-last-same none names at = ending-same ex_version
-last-same (some text) names at = rw (ending-same ex_version_with_next_site)
+last-same None names at = ending-same ex_version
+last-same (Some text) names at = rw (ending-same ex_version_with_next_site)
 
 module _ (v : ℕ) (r : Reply) (k : Sound Ex v r) where
   pub ex_plain : Every (λ text. Plain (labels text)) (ex_names r)
@@ -65,12 +64,12 @@ module _ (v : ℕ) (r : Reply) (k : Sound Ex v r) where
   pub ex_sizes : sizes (ex_names r) ≤ 994
   ex_sizes = let t = ex-texts in omega arith
 
-  pub ex_head_lem : length (ex_head r) ≡ 24
+  pub ex_head_length : length (ex_head r) ≡ 24
   unfolding ex_head
-  ex_head_lem = simp length-append (omega (arith, length-little 2 r.opcode, length-little 2 Sbz, length-little 4 r.flags, k.guid))
+  ex_head_length = simp length-append (omega (arith, length-little 2 r.opcode, length-little 2 Sbz, length-little 4 r.flags, k.guid))
 
   pub ex_room : length (ex_head r) + sizes (ex_names r) ≤ 0x4000
-  ex_room = omega (arith, ex_head_lem, ex_sizes)
+  ex_room = omega (arith, ex_head_length, ex_sizes)
 
   abbrev ex_named : Writing
   ex_named = write_names [] (length (ex_head r)) (ex_names r)
@@ -112,13 +111,13 @@ module _ (v : ℕ) (r : Reply) (k : Sound Ex v r) where
 
   -- the names start where the layout says, and so does name 8
   pub ex-start : names_start Ex (ex_octets r) ≡ length (ex_head r)
-  ex-start = sym ex_head_lem
+  ex-start = sym ex_head_length
 
   pub ex-last-start : last_start v (ex_octets r) ≡ length ex_front
   ex-last-start = omega (arith, names-end Ex ex-row ex-start, address-length (has v netlogon_nt_version_5ex_with_ip), front_length)
 
   pub front_short : length ex_front ≤ 1035
-  front_short = omega (arith, front_length, ex_head_lem, ex_sizes, names-short (ex_names r) [] (length (ex_head r)), address-short (has v netlogon_nt_version_5ex_with_ip))
+  front_short = omega (arith, front_length, ex_head_length, ex_sizes, names-short (ex_names r) [] (length (ex_head r)), address-short (has v netlogon_nt_version_5ex_with_ip))
 
   -- name 8 after the address, at place 8
   pub last_written : (text : List ℕ) → Writable 63 text
@@ -134,13 +133,13 @@ module _ (v : ℕ) (r : Reply) (k : Sound Ex v r) where
 
   -- name 8 where it is written: read there, and walked with at most 8 pointers and no more than its labels
   abbrev pub LastSpot : Option (List ℕ) → ℕ → Type 0
-  LastSpot none count = Unit {0}
-  LastSpot (some text) count = Spot (ex_octets r) (length ex_front) 8 text count
+  LastSpot None count = Unit {0}
+  LastSpot (Some text) count = Spot (ex_octets r) (length ex_front) 8 text count
 
   pub last_there : (site : Option (List ℕ)) → r.next_site_lem ≡ site
       → (count : ℕ) × LastAt (ex_octets r) v (length ex_front) site (last_name site ex_named.tails (length ex_front)) count × LastSpot site count
-  last_there none q = (0, tt, tt)
-  last_there (some text) q =
+  last_there None q = (0, tt, tt)
+  last_there (Some text) q =
       let s : List ℕ = ex_octets r in
       let at : ℕ = length ex_front in
       let octets : List ℕ = (write_name ex_named.tails (length ex_front) text).octets in
@@ -170,8 +169,8 @@ module _ (v : ℕ) (r : Reply) (k : Sound Ex v r) where
   ex-left = record { front = ex_head r; whole = ex-names ∙ append_assoc (ex_head r) ex_named.octets ex_rest; offset = refl }
 
   -- the address and what follows stand after the names
-  pub ex_rest_lem : Left (ex_octets r) (length (ex_head r) + length ex_named.octets) ex_rest
-  ex_rest_lem = left_after ex_named.octets ex_rest ex-left
+  pub ex_rest_left : Left (ex_octets r) (length (ex_head r) + length ex_named.octets) ex_rest
+  ex_rest_left = left_after ex_named.octets ex_rest ex-left
 
   pub ex-guid : cut (ex_octets r) (2 + 2 + 4) guid_size ≡ r.guid
   ex-guid =
@@ -181,7 +180,7 @@ module _ (v : ℕ) (r : Reply) (k : Sound Ex v r) where
       stretch_is r.guid (ex_named.octets ++ ex_rest) guid_size k.guid (left-next numbers (r.guid ++ (ex_named.octets ++ ex_rest)) (2 + 2 + 4) n whole)
 
   pub ex-read : reader.read_ex v (ex_octets r)
-      ≡ good
+      ≡ Ok
       (reader.ex
       (reading.ex_given v r.opcode r.flags (given_back_lem ex-row.starts (ex_names r) ex-row.counts) (length (ex_head r) + length ex_named.octets)
       (reading.last_given r.next_site_lem (length ex_front) last_count)))
@@ -190,7 +189,7 @@ module _ (v : ℕ) (r : Reply) (k : Sound Ex v r) where
       subst (λ (x : ℕ). LastAt (ex_octets r) v x r.next_site_lem ex_end last_count) front_length (last_there r.next_site_lem refl).1 in
       subst (λ (x : ℕ).
       reader.read_ex v (ex_octets r)
-      ≡ good
+      ≡ Ok
       (reader.ex
       (reading.ex_given v r.opcode r.flags (given_back_lem ex-row.starts (ex_names r) ex-row.counts) (length (ex_head r) + length ex_named.octets)
       (reading.last_given r.next_site_lem x last_count))))
@@ -201,8 +200,8 @@ module _ (v : ℕ) (r : Reply) (k : Sound Ex v r) where
 
   last-length : (site : Option (List ℕ)) → r.next_site_lem ≡ site → length (reading.last site (last_name site ex_named.tails (length ex_front))) ≤ 73
   unfolding write_name
-  last-length none q = omega (arith, ending-length ex_version)
-  last-length (some text) q =
+  last-length None q = omega (arith, ending-length ex_version)
+  last-length (Some text) q =
       let w : Writable 63 text = (k.next_site_lem text q).0 in
       let octets : List ℕ = (write_name ex_named.tails (length ex_front) text).octets in
       let e : length (octets ++ reading.ending ex_version_with_next_site) ≡ length octets + length (reading.ending ex_version_with_next_site) = length-append octets (reading.ending ex_version_with_next_site) in

@@ -1,11 +1,11 @@
 -- The octets of a RESPONSE in the order of the reader's fields, with its names at their places.
+use Rattle.std.proofs.Common.{Ok}
 use mathlib.Core.Path.{◌≡◌, refl, ap, ◌∙◌}
 use mathlib.Core.List.{List, [], ◌++◌, append_assoc}
 use Prim.Native.Nat.{ℕ, ◌+◌, ◌≤◌}
 use native.Mathlib.Omega.{arith}
 use lib.ListN.{length, length-append, length-replicate}
 use Rattle.answers.specs.declared.Form.TheVariants.{Response}
-use Rattle.answers.specs.Try.{good}
 use Rattle.answers.specs.Wire.{response_version, NullGuid, Lm20Token}
 use Rattle.names.specs.Name.{write_names}
 use Rattle.names.proofs.Laws.Name.{sizes, names-short}
@@ -37,12 +37,12 @@ module _ (v : ℕ) (r : Reply) (k : Sound Response v r) where
   pub response_sizes : sizes (response_names r) ≤ 765
   response_sizes = let s = response-short in omega arith
 
-  pub response_head_lem : length (response_head r) ≤ 226
+  pub response_head_most : length (response_head r) ≤ 226
   unfolding response_head
-  response_head_lem = simp (length-append, length-replicate) (omega (arith, opening-length Response v r k, k.guid))
+  response_head_most = simp (length-append, length-replicate) (omega (arith, opening-length Response v r k, k.guid))
 
   pub response_room : length (response_head r) + sizes (response_names r) ≤ 0x4000
-  response_room = omega (arith, response_head_lem, response_sizes)
+  response_room = omega (arith, response_head_most, response_sizes)
 
   abbrev response_named : List ℕ
   response_named = (write_names [] (length (response_head r)) (response_names r)).octets
@@ -60,7 +60,7 @@ module _ (v : ℕ) (r : Reply) (k : Sound Response v r) where
       (simp length-append
       (omega (
         arith,
-        response_head_lem,
+        response_head_most,
         response_sizes,
         names-short (response_names r) [] (length (response_head r)),
         k.ipv4,
@@ -92,7 +92,7 @@ module _ (v : ℕ) (r : Reply) (k : Sound Response v r) where
       ap (λ (n : ℕ). n + guid_size + length NullGuid) (opening-ends (response_octets r) _ response_opened.reads) ∙ left-same names (left_after NullGuid names zeros) response-left
 
   pub response-read : reader.read_response (response_octets r)
-      ≡ good
+      ≡ Ok
       (reader.response
       (record {
         opcode = r.opcode;

@@ -1,8 +1,9 @@
-use mathlib.Core.Path.{sym, ap, ◌∙◌}
-use Prim.Native.Nat.{◌≤◌, ◌<◌}
-use Rattle.filter.specs.Internal.ClauseNames.{clause_name_at}
-use Rattle.filter_gather.specs.declared.gather.SpelledName.TheVariants.{Known}
-use Rattle.filter_gather.specs.Internal.Gather.{spelled_as, name_spelled}
+use mathlib.Core.Path.{◌≡◌, sym, ap, ◌∙◌}
+use Prim.Native.Nat.{ℕ, ◌≤◌, ◌<◌}
+use Rattle.std.proofs.Common.{Some, get_or}
+use Rattle.filter.specs.declared.request.ClauseName.TheVariants.{DnsDomain}
+use Rattle.filter.specs.Request.{clause_names}
+use Rattle.filter_gather.specs.Internal.Gather.{name_spelled}
 use Rattle.filter_gather.specs.Internal.Seen.{place_as}
 use Rattle.filter_gather.proofs.Laws.Letters.{spelled_whole}
 use Rattle.filter_gather.proofs.Laws.Seen.{place_none, place_some}
@@ -11,12 +12,13 @@ use Rattle.filter_gather.proofs.gather.name_of.Goals as goal
 pub returns-then-place-ge-CLAUSE_COUNT : goal.returns-then-place-ge-CLAUSE_COUNT
 returns-then-place-ge-CLAUSE_COUNT c =
     let o = name_spelled c.args.s.now in
-    let h : 8 ≤ place_as o = rw (c.place_of-place.ensures ∙ spelled_whole c.args.s.now) at c.if-place-ge-CLAUSE_COUNT.true in
-    sym (ap spelled_as (place_none o h))
+    let h : 8 ≤ place_as o = rw (c.place_spelled-place.ensures ∙ spelled_whole c.args.s.now) at c.if-place-ge-CLAUSE_COUNT.true in
+    sym (place_none o h)
 
 pub returns : goal.returns
 returns c =
     let o = name_spelled c.args.s.now in
-    let p = c.place_of-place.ensures ∙ spelled_whole c.args.s.now in
+    let p = c.place_spelled-place.ensures ∙ spelled_whole c.args.s.now in
     let h : place_as o < 8 = rw p at c.if-place-ge-CLAUSE_COUNT.false in
-    ap Known (c.clause_name_at.ensures ∙ ap clause_name_at p) ∙ sym (ap spelled_as (place_some o h))
+    let e : Some (get_or clause_names c.place_spelled-place.result DnsDomain) ≡ o = ap (λ (i : ℕ). Some (get_or clause_names i DnsDomain)) p ∙ sym (place_some o h) in
+    e

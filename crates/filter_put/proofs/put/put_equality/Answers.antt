@@ -1,6 +1,6 @@
+use Rattle.std.proofs.Common.{Option, Some}
 use mathlib.Core.Path.{◌≡◌, refl, sym, ap, ◌∙◌}
 use mathlib.Core.List.{List}
-use mathlib.Core.Option.{Option, some}
 use Prim.Native.Nat.{ℕ, ◌+◌}
 use native.Mathlib.Omega.{arith}
 use lib.ListN.{length}
@@ -17,7 +17,7 @@ use Rattle.filter_put.proofs.put.put_equality.Goals.{After-element_size-2}
 -- what the pair is to be: its contents' size, its own, and the octets of the clause
 module _ (c : After-element_size-2) where
   abbrev octets : List ℕ
-  octets = c.part-value.result.now
+  octets = c.of-value.result.now
 
   abbrev name : ClauseName
   name = c.args.name
@@ -27,8 +27,8 @@ module _ (c : After-element_size-2) where
       let n : c.element_size.result ≡ element_size (length (spelling name)) = c.element_size.ensures.value ∙ ap element_size c.name_size.ensures.value in
       λ i. n i + c.element_size-2.ensures.value i
 
-  clause-octets : some octets ≡ octets_of c.args.source.now c.args.clause
-  clause-octets = ap some c.part-value.ensures ∙ ap (octets_of c.args.source.now) (sym c.in-Present.is)
+  clause-octets : Some octets ≡ octets_of c.args.source.now c.args.clause
+  clause-octets = ap Some c.of-value.ensures ∙ ap (octets_of c.args.source.now) (sym c.in-Some.is)
 
   pair-length : element_size (c.element_size.result + c.element_size-2.result) ≡ length (equality_for name (octets_of c.args.source.now c.args.clause))
   pair-length = ap element_size pair_size ∙ sym (equality-length name octets) ∙ ap (λ (o : Option (List ℕ)). length (equality_for name o)) clause-octets

@@ -6,4 +6,4 @@ use Rattle.filter_read.specs.Value.{is_number}
 use Rattle.filter_read.proofs.wrong_value.is_wrong_number.Goals as goal
 
 pub returns : goal.returns
-returns c = rw c.in-Present.is (ap (λ (x : List ℕ). not (is_number x)) c.part-value.ensures)
+returns c = rw c.in-Some.is (ap (λ (x : List ℕ). not (is_number x)) c.of.ensures)

@@ -7,5 +7,5 @@ use Rattle.filter_read.proofs.wrong_value.is_wrong_user.Goals as goal
 
 pub returns : goal.returns
 returns c =
-    rw c.in-Present.is
-    (ap not c.is_user_name.ensures ∙ ap (λ (x : List ℕ). not (is_user_name x)) c.part-value.ensures)
+    rw c.in-Some.is
+    (ap not c.is_user_name.ensures ∙ ap (λ (x : List ℕ). not (is_user_name x)) c.of.ensures)

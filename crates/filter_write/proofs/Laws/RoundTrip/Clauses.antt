@@ -1,16 +1,17 @@
 -- The clauses of a written filter, found again one after the other, and what document 01 says of them.
+use Rattle.std.proofs.Common.{Option, None, Some, is_some}
 use mathlib.Core.Path.{◌≡◌, refl, sym, ap, ◌∙◌}
 use mathlib.Core.Bool.{Bool, true, false, not, ◌||◌, ◌&&◌}
 use mathlib.Core.List.{List, [], ◌∷◌, ◌++◌, flat_map}
-use mathlib.Core.Option.{Option, none, some, bind}
 use Prim.Native.Nat.{ℕ, zero, suc, ◌+◌, ◌≤◌, ◌<◌}
 use native.Mathlib.Decide.{dec_le}
 use native.Mathlib.Nat.{not-suc-le-zero}
 use native.Mathlib.Omega.{arith}
 use borrow.Author.Tests.{eq-eqb, ne_eqb, not-true}
 use lib.ListN.{length, drop, length-append}
-use Rattle.octets.specs.Lists.{any, first, first_or, unique, is_some, cut}
+use Rattle.octets.specs.Lists.{any, first, first_or, unique}
 use Rattle.octets.proofs.Laws.Lists.{first_any, any_ext, both_left, both_right, neither_left, neither_right}
+use Rattle.octets.specs.Stretch.{stretch_of}
 use Rattle.octets.specs.Text.{same_folded}
 use Rattle.octets.proofs.Laws.Text.{folded_sym}
 use Rattle.filter_position.specs.declared.position.RawClause.{RawClause}
@@ -31,11 +32,11 @@ module _ (s : List ℕ) (value : ClauseName → Option (List ℕ)) where
   -- clauses that were found tell the names that have a value, in order
   pub data Tells : List ClauseName → List RawClause → Type 0 where
     nothing : Tells [] []
-    skips : {n : ClauseName} {ns : List ClauseName} {fs : List RawClause} → value n ≡ none → Tells ns fs → Tells (n ∷ ns) fs
-    finds : {n : ClauseName} {ns : List ClauseName} {fs : List RawClause} (f : RawClause) (v : List ℕ) → value n ≡ some v → name_octets s f ≡ spelling n → cut s f.start f.len ≡ v → Tells ns fs → Tells (n ∷ ns) (f ∷ fs)
+    skips : {n : ClauseName} {ns : List ClauseName} {fs : List RawClause} → value n ≡ None → Tells ns fs → Tells (n ∷ ns) fs
+    finds : {n : ClauseName} {ns : List ClauseName} {fs : List RawClause} (f : RawClause) (v : List ℕ) → value n ≡ Some v → name_octets s f ≡ spelling n → stretch_of s f.value ≡ v → Tells ns fs → Tells (n ∷ ns) (f ∷ fs)
 
   -- an equality takes octets
-  pub some-length : (n : ClauseName) (v : List ℕ) → 0 < length (equality_for n (some v))
+  pub some-length : (n : ClauseName) (v : List ℕ) → 0 < length (equality_for n (Some v))
   some-length n v =
       let l = equality-length n v in
       let b = head_bounds (length (spelling n)) in
@@ -48,19 +49,19 @@ module _ (s : List ℕ) (value : ClauseName → Option (List ℕ)) where
   none_left (n ∷ ns) e = by (value n) refl e (none_left ns)
     where
       by : (o : Option (List ℕ)) → value n ≡ o → length (equality_for n o ++ written ns) ≡ 0 → (length (written ns) ≡ 0 → Tells ns []) → Tells (n ∷ ns) []
-      by none q l rest = skips q (rest l)
-      by (some v) q l rest =
-          let a = length-append (equality_for n (some v)) (written ns) in
+      by None q l rest = skips q (rest l)
+      by (Some v) q l rest =
+          let a = length-append (equality_for n (Some v)) (written ns) in
           let b = some-length n v in
           absurd (omega arith)
 
   -- what is found of the equalities from `at` to the end of the octets
   pub record AllAgain (d k at end : ℕ) (ns : List ClauseName) : Type 0 where
     pub clauses : List RawClause
-    pub reads : siblings (and_of d) k s at end ≡ some clauses
+    pub reads : siblings (and_of d) k s at end ≡ Some clauses
     pub tells : Tells ns clauses
 
-  one_again : (d at end : ℕ) (n : ClauseName) (v : List ℕ) (a : Again s at end n v) → one (and_of d) s a.element ≡ some (a.clause ∷ [])
+  one_again : (d at end : ℕ) (n : ClauseName) (v : List ℕ) (a : Again s at end n v) → one (and_of d) s a.element ≡ Some (a.clause ∷ [])
   unfolding one
   one_again d at end n v a = rw (one, eq-eqb a.element.tag equality_tag a.tagged, a.reads)
 
@@ -69,12 +70,12 @@ module _ (s : List ℕ) (value : ClauseName → Option (List ℕ)) where
       (k at end : ℕ) → drop at s ≡ written ns → at + length (written ns) ≡ end → end < 65536 → 0 < length (written ns) → length (written ns) ≤ k → AllAgain d k at end ns
 
   -- one equality, and those after it
-  module _ (d : ℕ) (n : ClauseName) (ns : List ClauseName) (v : List ℕ) (q : value n ≡ some v) where
+  module _ (d : ℕ) (n : ClauseName) (ns : List ClauseName) (v : List ℕ) (q : value n ≡ Some v) where
     abbrev eq : List ℕ
-    eq = equality_for n (some v)
+    eq = equality_for n (Some v)
 
     back_one : Back d ns → (k at end : ℕ) → drop at s ≡ eq ++ written ns → at + length (eq ++ written ns) ≡ end → end < 65536 → length (eq ++ written ns) ≤ k → AllAgain d k at end (n ∷ ns)
-    unfolding siblings bind
+    unfolding siblings
     back_one rest zero at end h f below u =
         let l = length-append eq (written ns) in
         let b = some-length n v in
@@ -115,8 +116,8 @@ module _ (s : List ℕ) (value : ClauseName → Option (List ℕ)) where
     where
       by : (o : Option (List ℕ)) → value n ≡ o → drop at s ≡ equality_for n o ++ written ns → at + length (equality_for n o ++ written ns) ≡ end → 0 < length (equality_for n o ++ written ns) → length (equality_for n o ++ written ns) ≤ k
           → Back d ns → AllAgain d k at end (n ∷ ns)
-      by none q h f l u rest = let r = rest k at end h f below l u in record { clauses = r.clauses; reads = r.reads; tells = skips q r.tells }
-      by (some v) q h f l u rest = back_one d n ns v q rest k at end h f below u
+      by None q h f l u rest = let r = rest k at end h f below l u in record { clauses = r.clauses; reads = r.reads; tells = skips q r.tells }
+      by (Some v) q h f l u rest = back_one d n ns v q rest k at end h f below u
 
   -- what such clauses make: none unknown, none twice, and each name's own octets
 
@@ -141,7 +142,7 @@ module _ (s : List ℕ) (value : ClauseName → Option (List ℕ)) where
   abbrev among : ClauseName → List ClauseName → Bool
   among m ns = any (λ n. is_same_name n m) ns
 
-  absent : (m : ClauseName) {ns : List ClauseName} {fs : List RawClause} → Tells ns fs → among m ns ≡ false → first (is_named s m) fs ≡ none
+  absent : (m : ClauseName) {ns : List ClauseName} {fs : List RawClause} → Tells ns fs → among m ns ≡ false → first (is_named s m) fs ≡ None
   unfolding first any
   absent m nothing e = refl
   absent m (skips {n = n} {ns = ns} q t) e = absent m t (neither_right (is_same_name n m) (among m ns) e)
@@ -168,13 +169,13 @@ module _ (s : List ℕ) (value : ClauseName → Option (List ℕ)) where
       by : (b : Bool) → is_same_name n m ≡ b → (b || among m ns) ≡ true → (among m ns ≡ true → octets_of s (as_clause (first (is_named s m) fs)) ≡ value m) → octets_of s (as_clause (first (is_named s m) fs)) ≡ value m
       by true h g rest =
           let i : n ≡ m = same-name n m h in
-          let o : first (is_named s m) fs ≡ none = absent m t (ap (λ (k : ClauseName). among k ns) (sym i) ∙ not_again n ns a) in
+          let o : first (is_named s m) fs ≡ None = absent m t (ap (λ (k : ClauseName). among k ns) (sym i) ∙ not_again n ns a) in
           ap (λ (x : Option RawClause). octets_of s (as_clause x)) o ∙ sym q ∙ ap value i
       by false h g rest = rest g
   octets-back m (finds {n = n} {ns = ns} {fs = fs} f v q p c t) a e = ap (λ (b : Bool). octets_of s (as_clause (first_or b f (first (is_named s m) fs)))) (named_as m n f p) ∙ by (is_same_name n m) refl e (octets-back m t (rest_distinct n ns a))
     where
       by : (b : Bool) → is_same_name n m ≡ b → (b || among m ns) ≡ true → (among m ns ≡ true → octets_of s (as_clause (first (is_named s m) fs)) ≡ value m) → octets_of s (as_clause (first_or b f (first (is_named s m) fs))) ≡ value m
-      by true h g rest = ap some c ∙ sym q ∙ ap value (same-name n m h)
+      by true h g rest = ap Some c ∙ sym q ∙ ap value (same-name n m h)
       by false h g rest = rest g
 
   pub none_duplicate : {ns : List ClauseName} {fs : List RawClause} → Tells ns fs → distinct ns ≡ true → has_duplicate s fs ≡ false

@@ -1,7 +1,7 @@
 -- Elements that were written, read back where they stand.
+use Rattle.std.proofs.Common.{Some}
 use mathlib.Core.Path.{◌≡◌, refl, sym, ap, ◌∙◌}
 use mathlib.Core.List.{List, [], ◌∷◌, ◌++◌, append_assoc}
-use mathlib.Core.Option.{some, bind}
 use Prim.Native.Nat.{ℕ, ◌+◌, ◌-◌, ◌/◌, ◌%◌, ◌≤◌, ◌<◌}
 use native.Mathlib.Nat.{add-zero}
 use native.Mathlib.Omega.{arith}
@@ -10,13 +10,14 @@ use lib.ListN.{length, get_or, take, drop, length-append}
 use lib.Seq.{get_or-drop, drop-drop, drop-append_seam, take-append_seam}
 use Rattle.octets.specs.Lists.{cut}
 use Rattle.octets.specs.Number.{little, big}
-use Rattle.filter_position.specs.declared.position.ElementLength.TheVariants as element_length
+use Rattle.octets.specs.Stretch.{stretch_of}
+use Rattle.filter_position.specs.declared.position.Element.{Element}
 use Rattle.filter_position.specs.declared.position.RawClause.{RawClause}
 use Rattle.filter.specs.declared.request.ClauseName.{ClauseName}
 use Rattle.filter.specs.Request.{spelling}
-use Rattle.filter_position.specs.Filter.{equality_tag, string_tag, Element, element_at, equality, length_width}
-use Rattle.filter_position.specs.Internal.Position.{length_at}
-use Rattle.filter_position.proofs.Laws.Position.{width_one, width_two, length_of_lem, value-at, element_known, ends-within}
+use Rattle.filter_position.specs.Filter.{equality_tag, string_tag, element_at, equality, length_width}
+use Rattle.filter_position.specs.Internal.Position.{contents_at}
+use Rattle.filter_position.proofs.Laws.Position.{width_one, width_two, contents_are, value-at, element_known, ends-within}
 use Rattle.filter_octets.specs.Octets.{length_octets, element, equality_for}
 use Rattle.filter_octets.proofs.Laws.Octets.{octets-one, octets-two, octets_three}
 use Rattle.filter_octets.specs.Internal.Size.{head_size, element_size}
@@ -49,34 +50,34 @@ module _ (s : List ℕ) (at end tag : ℕ) (xs rest : List ℕ) (here : drop at 
       (octet s (tag ∷ first ∷ (more ++ (xs ++ rest))) at 1 d, after s (tag ∷ first ∷ []) (more ++ (xs ++ rest)) at 2 d refl)
 
   -- the length is read as it was written
-  pub length_back : n < 65536 → at + head_size n ≤ end → length_at s at end ≡ element_length.Of (at + head_size n) n
+  pub length_back : n < 65536 → at + head_size n ≤ end → contents_at s at end ≡ Some (record { start = at + head_size n; len = n })
   unfolding big little
   length_back below fits =
-      by_size n (length_at s at end ≡ element_length.Of (at + head_size n) n)
+      by_size n (contents_at s at end ≡ Some (record { start = at + head_size n; len = n }))
       (λ h.
       let o = by_octets n [] (octets-one n h) in
-      let w : length_width (get_or s (at + 1) 0) ≡ some 0 = ap length_width o.0 ∙ rw (lt-ltb n 0x80 h) in
+      let w : length_width (get_or s (at + 1) 0) ≡ Some 0 = ap length_width o.0 ∙ rw (lt-ltb n 0x80 h) in
       let z = head_two n h in
-      length_of_lem s at end 0 (at + head_size n) n w (omega arith) o.0 fits)
+      contents_are s at end 0 (at + head_size n) n w (omega arith) o.0 fits)
       (λ h k.
       let o = by_octets 0x81 (n ∷ []) (octets-two n h k) in
       let v : big (cut s (at + 2) 1) ≡ n = ap big (stands s (n ∷ []) (xs ++ rest) (at + 2) 1 o.1 refl) ∙ omega arith in
       let z = head_three n h k in
-      length_of_lem s at end 1 (at + head_size n) n (width_one o.0) (omega arith) (value-at s at end 0 ∙ v) fits)
+      contents_are s at end 1 (at + head_size n) n (width_one o.0) (omega arith) (value-at s at end 0 ∙ v) fits)
       (λ h.
       let o = by_octets 0x82 ((n / 256 % 256) ∷ (n % 256) ∷ []) (octets_three n h) in
       let v : big (cut s (at + 2) 2) ≡ n = ap big (stands s ((n / 256 % 256) ∷ (n % 256) ∷ []) (xs ++ rest) (at + 2) 2 o.1 refl) ∙ omega arith in
       let z = head_four n h in
-      length_of_lem s at end 2 (at + head_size n) n (width_two o.0) (omega arith) (value-at s at end 1 ∙ v) fits)
+      contents_are s at end 2 (at + head_size n) n (width_two o.0) (omega arith) (value-at s at end 1 ∙ v) fits)
 
   -- and so is the element
-  pub element-back : n < 65536 → at + element_size n ≤ end → element_at s at end ≡ some (record { tag = tag; start = at + head_size n; next = at + head_size n + n })
+  pub element-back : n < 65536 → at + element_size n ≤ end → element_at s at end ≡ Some (record { tag = tag; start = at + head_size n; next = at + head_size n + n })
   element-back below fits =
       let b = head_bounds n in
       let t : get_or s at 0 ≡ tag = ap (λ (k : ℕ). get_or s k 0) (sym (add-zero at)) ∙ octet s ((tag ∷ length_octets n) ++ (xs ++ rest)) at 0 opened in
       element_known s at end (at + head_size n) n (omega arith) (length_back below (omega arith))
       ∙ ends-within (get_or s at 0) (at + head_size n) n end (omega arith)
-      ∙ (λ i. some (record { tag = t i; start = at + head_size n; next = at + head_size n + n }))
+      ∙ (λ i. Some (record { tag = t i; start = at + head_size n; next = at + head_size n + n }))
 
   -- the contents, and what stands after them
   pub contents-back : drop (at + head_size n) s ≡ xs ++ rest
@@ -86,22 +87,22 @@ module _ (s : List ℕ) (at end tag : ℕ) (xs rest : List ℕ) (here : drop at 
 pub record Again (s : List ℕ) (at end : ℕ) (name : ClauseName) (value : List ℕ) : Type 0 where
   pub element : Element
   pub clause : RawClause
-  pub there : element_at s at end ≡ some element
+  pub there : element_at s at end ≡ Some element
   pub tagged : element.tag ≡ equality_tag
-  pub ends : element.next ≡ at + length (equality_for name (some value))
-  pub reads : equality s element.start element.next ≡ some clause
-  pub named : cut s clause.name_start clause.name_len ≡ spelling name
-  pub valued : cut s clause.start clause.len ≡ value
+  pub ends : element.next ≡ at + length (equality_for name (Some value))
+  pub reads : equality s element.start element.next ≡ Some clause
+  pub named : stretch_of s clause.name ≡ spelling name
+  pub valued : stretch_of s clause.value ≡ value
 
-pub equality-back : (s : List ℕ) (at end : ℕ) (name : ClauseName) (value rest : List ℕ) → drop at s ≡ equality_for name (some value) ++ rest → at + length (equality_for name (some value)) ≤ end → end < 65536 → Again s at end name value
-unfolding equality bind
+pub equality-back : (s : List ℕ) (at end : ℕ) (name : ClauseName) (value rest : List ℕ) → drop at s ≡ equality_for name (Some value) ++ rest → at + length (equality_for name (Some value)) ≤ end → end < 65536 → Again s at end name value
+unfolding equality
 equality-back s at end name value rest here fits below =
     let x : List ℕ = element string_tag (spelling name) in
     let y : List ℕ = element string_tag value in
     let lx : length x ≡ element_size (length (spelling name)) = element-length string_tag (spelling name) in
     let ly : length y ≡ element_size (length value) = element-length string_tag value in
     let lxy : length (x ++ y) ≡ length x + length y = length-append x y in
-    let l : length (equality_for name (some value)) ≡ element_size (length (x ++ y)) = element-length equality_tag (x ++ y) in
+    let l : length (equality_for name (Some value)) ≡ element_size (length (x ++ y)) = element-length equality_tag (x ++ y) in
     let b = head_bounds (length (spelling name)) in
     let c = head_bounds (length value) in
     let start : ℕ = at + head_size (length (x ++ y)) in
@@ -120,7 +121,7 @@ equality-back s at end name value rest here fits below =
     let vl : vs + length value - vs ≡ length value = omega arith in
     record {
       element = record { tag = equality_tag; start = start; next = next };
-      clause = record { name_start = ns; name_len = ns + length (spelling name) - ns; start = vs; len = vs + length value - vs };
+      clause = record { name = record { start = ns; len = ns + length (spelling name) - ns }; value = record { start = vs; len = vs + length value - vs } };
       there = e;
       tagged = refl;
       ends = omega arith;

@@ -1,15 +1,10 @@
-use borrow.Author.Rules.{rules}
-use mathlib.Core.Path.{refl}
-use Prim.Native.Nat.{◌/◌, ◌%◌}
-use native.Mathlib.Omega.{arith}
+use mathlib.Core.Path.{ap, ◌∙◌}
+use mathlib.Core.List.{List}
+use Prim.Native.Nat.{ℕ}
+use Rattle.octets.specs.Buffer.{over}
 use Rattle.octets.specs.Number.{little_octets}
-use Rattle.octets.proofs.Laws.Buffer.{stored-two}
 use Rattle.lent.proofs.put.put_u16.Goals as goal
 
-pub returns : goal.returns
+pub returns-clause-out_after : goal.returns-clause-out_after
 unfolding little_octets
-returns c = let a = c.args in
-    record {
-      value = refl;
-      out_after = stored-two a.out.now (a.n % 256) (a.n / 256 % 256) (omega arith);
-    }
+returns-clause-out_after c = c.put_octets.ensures.out_after ∙ ap (λ (x : List ℕ). over x c.args.out.now) c.to_le_bytes.ensures

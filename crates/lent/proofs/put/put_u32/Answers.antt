@@ -1,23 +1,19 @@
-use borrow.Author.Rules.{rules}
-use mathlib.Core.Path.{refl}
-use Prim.Native.Nat.{◌/◌, ◌%◌}
+use mathlib.Core.Path.{◌≡◌, ap, ◌∙◌}
+use mathlib.Core.List.{List}
+use Prim.Native.Nat.{ℕ, ◌/◌}
 use native.Mathlib.Omega.{arith}
-use lib.ListN.{length-set}
+use Rattle.std.specs.Int.{to_le_bytes}
+use mir.Syntax.{w32}
+use Rattle.octets.specs.Buffer.{over}
 use Rattle.octets.specs.Number.{little_octets}
-use Rattle.octets.proofs.Laws.Buffer.{stored_four}
 use Rattle.lent.proofs.put.put_u32.Goals as goal
 
-pub bounds-out-1 : goal.bounds-out-1
-bounds-out-1 c = simp length-set (omega arith)
-
-pub bounds-out-2 : goal.bounds-out-2
-bounds-out-2 c = simp length-set (omega arith)
-
-pub returns : goal.returns
+four : (n : ℕ) → to_le_bytes w32 n ≡ little_octets 4 n
 unfolding little_octets
-returns c =
-    let a = c.args in
-    record {
-      value = refl;
-      out_after = stored_four a.out.now (a.n % 256) (a.n / 256 % 256) (a.n / 256 / 256 % 256) (a.n / 256 / 256 / 256 % 256) (omega arith);
-    }
+four n =
+    let third : n / 65536 ≡ n / 256 / 256 = omega arith in
+    let fourth : n / 16777216 ≡ n / 256 / 256 / 256 = omega arith in
+    rw (third, fourth)
+
+pub returns-clause-out_after : goal.returns-clause-out_after
+returns-clause-out_after c = c.put_octets.ensures.out_after ∙ ap (λ (x : List ℕ). over x c.args.out.now) (c.to_le_bytes.ensures ∙ four c.args.n)

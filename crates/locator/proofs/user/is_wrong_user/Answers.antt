@@ -19,10 +19,10 @@ pub has_empty_label-requires : goal.has_empty_label-requires
 has_empty_label-requires c =
     let p = c.args in
     let e = c.requires in
-    let f = rw c.in-Present.is at e in
-    rw c.part.ensures (user-name-short _ (not-false _ f))
+    let f = rw c.in-Some.is at e in
+    rw c.of.ensures (user-name-short _ (not-false _ f))
 
 pub returns : goal.returns
 returns c =
-    rw (sym c.is_ex.ensures ∙ not-false _ c.if-not-is_ex.false-raw, c.in-Present.is)
-    (c.has_empty_label.ensures ∙ ap (λ (x : List ℕ). any (λ l. eqb (length l) 0) (labels x)) c.part.ensures)
+    rw (sym c.is_ex.ensures ∙ not-false _ c.if-not-is_ex.false-raw, c.in-Some.is)
+    (c.has_empty_label.ensures ∙ ap (λ (x : List ℕ). any (λ l. eqb (length l) 0) (labels x)) c.of.ensures)

@@ -9,8 +9,8 @@ pub returns : goal.returns
 returns c =
     let a = c.args in
     rw (
-      c.is_computer_name.ensures ∙ ap is_computer_name c.part.ensures,
-      c.is_message_user.ensures ∙ ap is_message_user c.part-2.ensures,
-      c.is_mailslot_name.ensures ∙ ap is_mailslot_name c.part-3.ensures,
-      c.is_message_sid.ensures ∙ ap is_message_sid c.part-4.ensures,
+      c.is_computer_name.ensures ∙ ap is_computer_name c.of.ensures,
+      c.is_message_user.ensures ∙ ap is_message_user c.of-2.ensures,
+      c.is_mailslot_name.ensures ∙ ap is_mailslot_name c.of-3.ensures,
+      c.is_message_sid.ensures ∙ ap is_message_sid c.of-4.ensures,
     ) (good_by_parts a.source.now a.message (omega arith) (omega arith) (omega arith))

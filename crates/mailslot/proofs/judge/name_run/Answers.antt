@@ -1,11 +1,11 @@
-use mathlib.Core.Path.{◌≡◌, sym, ◌∙◌}
+use mathlib.Core.Path.{◌≡◌, sym, subst, ◌∙◌}
 use mathlib.Core.Bool.{true}
 use Prim.Native.Nat.{◌-◌, ◌≤◌}
 use native.Mathlib.Omega.{arith}
 use lib.ListN.{length, get_or}
 use borrow.Author.Tests.{not-true, not-false}
 use Rattle.octets.specs.Lists.{all, cut}
-use Rattle.mailslot.specs.Internal.Runs.{of_name}
+use Rattle.mailslot.specs.Internal.Runs.{of_name, NameRun}
 use Rattle.mailslot.proofs.Laws.Name.{name_octet, name_starts, name_goes}
 use Rattle.mailslot.proofs.judge.name_run.Goals as goal
 
@@ -22,9 +22,6 @@ returns-then-octet c =
     let x = get_or a.s.now l.at 0 in
     record { from = l.invariant.0; to = l.invariant.1; octets = l.invariant.2; next = λ h. not-true (of_name x) (sym (name_octet x) ∙ c.if-octet.true) }
 
-pub overflow_add-at : goal.overflow_add-at
-overflow_add-at c = omega arith
-
 pub loop-at-smaller : goal.loop-at-smaller
 loop-at-smaller c = omega arith
 
@@ -38,4 +35,5 @@ loop-at-preserved c =
 pub returns : goal.returns
 returns c =
     let l = c.loop-at in
-    record { from = l.invariant.0; to = l.invariant.1; octets = l.invariant.2; next = λ h. absurd (omega arith) }
+    let e : l.at ≡ length c.args.s.now = omega arith in
+    subst (NameRun c.args.s.now c.args.start) e (record { from = l.invariant.0; to = l.invariant.1; octets = l.invariant.2; next = λ h. absurd (omega arith) })

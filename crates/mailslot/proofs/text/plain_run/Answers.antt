@@ -35,4 +35,7 @@ loop-i-preserved c =
     )
 
 pub returns : goal.returns
-returns c = c.loop-i.invariant.1
+returns c =
+    let l = c.loop-i in
+    let e : l.i ≡ c.min-units.result = omega arith in
+    subst (λ n. Running c.args.s.now c.args.start (c.args.start + 2 * n) n) e l.invariant.1

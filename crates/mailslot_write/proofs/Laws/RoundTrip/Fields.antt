@@ -1,4 +1,5 @@
 -- Fields of a message that were written, read back where they stand.
+use Rattle.std.proofs.Common.{Ok}
 use mathlib.Core.Path.{◌≡◌, refl, ap, ◌∙◌, subst}
 use mathlib.Core.Bool.{true}
 use mathlib.Core.List.{List, [], ◌∷◌, ◌++◌, append_assoc}
@@ -7,11 +8,12 @@ use native.Mathlib.Omega.{arith}
 use lib.Dec.{eqb, leb}
 use lib.ListN.{length, drop, replicate, length-append, length-replicate}
 use lib.Seq.{drop_at}
-use Rattle.answers.specs.Try.{Try, good}
+use Rattle.answers.specs.Try.{Try}
 use Rattle.octets.specs.{Lists.all, Number.little_octets}
 use Rattle.octets.proofs.Laws.Lists.{both_right}
-use Rattle.reader.specs.declared.field.Stretch.{Stretch}
-use Rattle.reader.specs.Field.{Read, stretch_of}
+use Rattle.octets.specs.declared.part.Stretch.{Stretch}
+use Rattle.octets.specs.Stretch.{stretch_of}
+use Rattle.reader.specs.declared.field.Read.{Read}
 use Rattle.reader.specs.Text.{read_text}
 use Rattle.reader.proofs.Laws.Field.{Left, left_after, left-next, left_cut, left-length, octets_here, stretch_here}
 use Rattle.reader.proofs.Laws.Text.{text-after}
@@ -26,7 +28,7 @@ use Rattle.mailslot_write.proofs.Laws.Text16.{text16_here}
 pub record Back (s : List ℕ) (reading : Try (Read Stretch)) (octets rest : List ℕ) : Type 0 where
   pub at : Stretch
   pub next : ℕ
-  pub reads : reading ≡ good (record { value = at; next = next })
+  pub reads : reading ≡ Ok (record { value = at; next = next })
   pub stretch : stretch_of s at ≡ octets
   pub left : Left s next rest
 

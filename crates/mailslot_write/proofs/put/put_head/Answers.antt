@@ -8,7 +8,7 @@ use Rattle.answers.specs.Wire.{logon_sam_logon_request}
 use Rattle.octets.specs.Number.{little_octets}
 use Rattle.lent.specs.Internal.OverAt.{over_at}
 use Rattle.lent.proofs.Laws.OverAt.{laid_none, laid_number, over_laid, length_laid}
-use Rattle.reader.specs.Field.{stretch_of}
+use Rattle.octets.specs.Stretch.{stretch_of}
 use Rattle.reply.specs.Reply.{u16}
 use Rattle.mailslot.specs.Message.{message_head}
 use Rattle.mailslot_write.proofs.Laws.Put.{laid_two}
@@ -50,10 +50,10 @@ put_ended_at-at-requires-3 c = (omega arith, omega (arith, room (goal.at.put_end
 pub put_u32_at-at-requires : goal.put_u32_at-at-requires
 put_u32_at-at-requires c = omega (arith, room (goal.at.put_u32_at-at-requires c).Start)
 
-pub overflow_cast-stretch_octets : goal.overflow_cast-stretch_octets
-overflow_cast-stretch_octets c =
+pub overflow_cast-of : goal.overflow_cast-of
+overflow_cast-of c =
     let s = c in
-    omega (arith, ap length c.stretch_octets.ensures, message_length s.args.source.now s.args.message, s.requires.message_len_bound)
+    omega (arith, ap length c.of.ensures, message_length s.args.source.now s.args.message, s.requires.message_len_bound)
 
 pub put_u32_at-requires : goal.put_u32_at-requires
 put_u32_at-requires c = omega (arith, room (goal.at.put_u32_at-requires c).Start)
@@ -69,7 +69,7 @@ returns c =
     let y = c.put_ended_at-at-2 in
     let z = c.put_ended_at-at-3 in
     let b = c.put_u32_at-at in
-    let n : length c.stretch_octets.result.now ≡ length (sid (goal.at.returns s).Start) = ap length c.stretch_octets.ensures in
+    let n : length c.of.result.now ≡ length (sid (goal.at.returns s).Start) = ap length c.of.ensures in
     let v = c.put_u32_at in
     let l = laid_number 2 logon_sam_logon_request (laid_none 0 a.out.now (omega arith)) o.ensures.value o.ensures.out_after in
     let m = laid_number 2 a.message.repeat l r.ensures.value r.ensures.out_after in

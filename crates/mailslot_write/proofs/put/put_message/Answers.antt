@@ -5,13 +5,13 @@ use Prim.Native.Nat.{ℕ, ◌+◌, ◌≤◌}
 use native.Mathlib.Omega.{arith}
 use lib.ListN.{length}
 use Rattle.lent.proofs.Laws.OverAt.{laid_over, laid_more, over_laid}
-use Rattle.reader.specs.Field.{stretch_of}
+use Rattle.octets.specs.Stretch.{stretch_of}
 use Rattle.reply.specs.Reply.{ending}
 use Rattle.mailslot.specs.Message.{message_head, message_octets, padded_sid}
 use Rattle.mailslot_write.proofs.Laws.Put.{laid_as}
 use Rattle.mailslot_write.proofs.Laws.Size.{message_parts, message_length}
 use Rattle.mailslot_write.proofs.put.put_message.Goals as goal
-use Rattle.mailslot_write.proofs.put.put_message.Goals.{After-stretch_octets, Start}
+use Rattle.mailslot_write.proofs.put.put_message.Goals.{After-of, Start}
 
 module _ (c : Start) where
   abbrev head : List ℕ
@@ -24,9 +24,9 @@ module _ (c : Start) where
   room = omega (arith, message_parts c.args.source.now c.args.message, c.requires.message_in_bounds)
 
 -- the SID that is written, at the offset where it is
-module _ (c : After-stretch_octets) where
-  padded-is : padded_sid c.put_head-at.result c.stretch_octets.result.now ≡ padded_sid (length (message_head c.args.source.now c.args.message)) (stretch_of c.args.source.now c.args.message.sid)
-  padded-is = ap₂ padded_sid c.put_head-at.ensures.value c.stretch_octets.ensures
+module _ (c : After-of) where
+  padded-is : padded_sid c.put_head-at.result c.of.result.now ≡ padded_sid (length (message_head c.args.source.now c.args.message)) (stretch_of c.args.source.now c.args.message.sid)
+  padded-is = ap₂ padded_sid c.put_head-at.ensures.value c.of.ensures
 
 pub put_head-at-requires : goal.put_head-at-requires
 put_head-at-requires c =
@@ -39,14 +39,14 @@ put_head-at-requires c =
 pub put_sid_at-at-requires : goal.put_sid_at-at-requires
 put_sid_at-at-requires c =
     let s = c in
-    let n = ap length c.stretch_octets.ensures in (
+    let n = ap length c.of.ensures in (
       omega (arith, message_length s.args.source.now s.args.message, s.requires.message_len_bound),
-      omega (arith, room (goal.at.put_sid_at-at-requires s).Start, c.put_head-at.ensures.value, ap length (padded-is (goal.at.put_sid_at-at-requires c).After-stretch_octets)),
+      omega (arith, room (goal.at.put_sid_at-at-requires s).Start, c.put_head-at.ensures.value, ap length (padded-is (goal.at.put_sid_at-at-requires c).After-of)),
     )
 
 pub put_ending_at-requires : goal.put_ending_at-requires
 put_ending_at-requires c =
-    omega (arith, room (goal.at.put_ending_at-requires c).Start, c.put_head-at.ensures.value, c.put_sid_at-at.ensures.value, ap length (padded-is (goal.at.put_ending_at-requires c).After-stretch_octets))
+    omega (arith, room (goal.at.put_ending_at-requires c).Start, c.put_head-at.ensures.value, c.put_sid_at-at.ensures.value, ap length (padded-is (goal.at.put_ending_at-requires c).After-of))
 
 pub returns : goal.returns
 unfolding message_octets
@@ -54,5 +54,5 @@ returns c =
     let s = c in
     let h = c.put_head-at in
     let d = c.put_sid_at-at in
-    let l = laid_as (padded (goal.at.returns s).Start) (padded-is (goal.at.returns c).After-stretch_octets) (laid_over h.ensures.out_after h.ensures.value) d.ensures.value d.ensures.out_after in
+    let l = laid_as (padded (goal.at.returns s).Start) (padded-is (goal.at.returns c).After-of) (laid_over h.ensures.out_after h.ensures.value) d.ensures.value d.ensures.out_after in
     over_laid (laid_more (ending s.args.message.version) l refl c.put_ending_at.ensures)

@@ -3,7 +3,7 @@ use mathlib.Core.Path.{ap}
 use Prim.Native.Nat.{ℕ, ◌+◌, ◌≤◌}
 use native.Mathlib.Omega.{arith}
 use lib.ListN.{length}
-use Rattle.reader.specs.Field.{stretch_of}
+use Rattle.octets.specs.Stretch.{stretch_of}
 use Rattle.mailslot_write.proofs.Laws.Size.{head_length, message_length}
 use Rattle.mailslot_write.proofs.size.head_size.Goals as goal
 use Rattle.mailslot_write.proofs.size.head_size.Goals.{Start}
@@ -20,16 +20,16 @@ module _ (c : Start) where
   few = omega (arith, head_length c.args.source.now c.args.message, message_length c.args.source.now c.args.message, c.requires)
 
 pub overflow_add-result-2 : goal.overflow_add-result-2
-overflow_add-result-2 c = omega (arith, few (goal.at.overflow_add-result-2 c).Start, ap length c.stretch_octets.ensures, ap length c.stretch_octets-2.ensures)
+overflow_add-result-2 c = omega (arith, few (goal.at.overflow_add-result-2 c).Start, ap length c.of.ensures, ap length c.of-2.ensures)
 
 pub overflow_add-result-3 : goal.overflow_add-result-3
 overflow_add-result-3 c =
     omega (
       arith,
       few (goal.at.overflow_add-result-3 c).Start,
-      ap length c.stretch_octets.ensures,
-      ap length c.stretch_octets-2.ensures,
-      ap length c.stretch_octets-3.ensures,
+      ap length c.of.ensures,
+      ap length c.of-2.ensures,
+      ap length c.of-3.ensures,
     )
 
 pub returns : goal.returns
@@ -38,7 +38,7 @@ returns c =
     omega (
       arith,
       head_length a.source.now a.message,
-      ap length c.stretch_octets.ensures,
-      ap length c.stretch_octets-2.ensures,
-      ap length c.stretch_octets-3.ensures,
+      ap length c.of.ensures,
+      ap length c.of-2.ensures,
+      ap length c.of-3.ensures,
     )

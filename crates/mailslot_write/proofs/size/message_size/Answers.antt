@@ -11,18 +11,18 @@ use Rattle.mailslot_write.proofs.size.message_size.Goals.{After-sid_padding}
 
 -- the sum that is returned
 module _ (c : After-sid_padding) where
-  sum : c.head_size-head.result + c.sid_padding.result + length c.stretch_octets-size.result.now + 8
+  sum : c.head_size-head.result + c.sid_padding.result + length c.of-size.result.now + 8
       ≡ length (message_octets c.args.source.now c.args.message)
   sum =
       let a = c.args in
-      let n = ap length c.stretch_octets-size.ensures in
+      let n = ap length c.of-size.ensures in
       let p = c.sid_padding.ensures.0 ∙ ap₂ sid_padding n c.head_size-head.ensures in
       omega (arith, message_length a.source.now a.message, c.head_size-head.ensures)
 
 pub overflow_cast-size : goal.overflow_cast-size
 overflow_cast-size c =
     let s = c in
-    omega (arith, ap length c.stretch_octets-size.ensures, message_length s.args.source.now s.args.message, s.requires)
+    omega (arith, ap length c.of-size.ensures, message_length s.args.source.now s.args.message, s.requires)
 
 pub overflow_add-result : goal.overflow_add-result
 overflow_add-result c = omega (arith, sum (goal.at.overflow_add-result c).After-sid_padding)

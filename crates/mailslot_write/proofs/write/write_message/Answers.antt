@@ -2,10 +2,10 @@ use borrow.Author.Rules.{rules}
 use borrow.Author.Tests.{not-true, not-false}
 use mathlib.Core.Path.{◌≡◌, refl, sym, ap, ◌∙◌}
 use mathlib.Core.Bool.{true}
-use Prim.Native.Nat.{◌≤◌}
+use Prim.Native.Nat.{ℕ, ◌≤◌}
 use native.Mathlib.Omega.{arith}
 use lib.ListN.{length}
-use Rattle.answers.specs.declared.written.Written.TheVariants.{Length, Refused}
+use Rattle.std.proofs.Common.{Ok, Err}
 use Rattle.answers.specs.declared.Refusal.TheVariants.{MailslotShape, NoRoom}
 use Rattle.answers.proofs.Laws.Written.{written_promised}
 use Rattle.octets.proofs.Laws.Buffer.{over_none}
@@ -28,7 +28,7 @@ module _ (c : Else-not-is_good_message) where
 pub returns-then-not-is_good_message : goal.returns-then-not-is_good_message
 returns-then-not-is_good_message c =
     let a = c.args in
-    let w : WriteMessageReturns a.source.now a.message a.out.now (Refused MailslotShape) × WriteMessageLeaves a.source.now a.message a.out.now a.out.now =
+    let w : WriteMessageReturns a.source.now a.message a.out.now (Err MailslotShape) × WriteMessageLeaves a.source.now a.message a.out.now a.out.now =
     written_promised _ _
     (rw (answer_shape a.source.now a.message (length a.out.now) (sym c.is_good_message.ensures ∙ not-true _ c.if-not-is_good_message.true-raw)) (refl, sym (over_none a.out.now))) in
     record { write_message_returns = w.0; write_message_leaves = w.1 }
@@ -39,7 +39,7 @@ message_size-size-requires c = short (goal.at.message_size-size-requires c).Else
 pub returns-then-out-size : goal.returns-then-out-size
 returns-then-out-size c =
     let a = c.args in
-    let w : WriteMessageReturns a.source.now a.message a.out.now (Refused NoRoom) × WriteMessageLeaves a.source.now a.message a.out.now a.out.now =
+    let w : WriteMessageReturns a.source.now a.message a.out.now (Err NoRoom) × WriteMessageLeaves a.source.now a.message a.out.now a.out.now =
     written_promised _ _
     (rw (answer_room a.source.now a.message (length a.out.now) (is-good (goal.at.returns-then-out-size c).Else-not-is_good_message) (rw c.message_size-size.ensures at c.if-out-size.true)) (refl, sym (over_none a.out.now))) in
     record { write_message_returns = w.0; write_message_leaves = w.1 }
@@ -55,7 +55,7 @@ pub returns : goal.returns
 returns c =
     let a = c.args in
     let n = c.message_size-size.ensures in
-    let w : WriteMessageReturns a.source.now a.message a.out.now (Length c.message_size-size.result) × WriteMessageLeaves a.source.now a.message a.out.now c.put_message.new.out =
+    let w : WriteMessageReturns a.source.now a.message a.out.now (Ok c.message_size-size.result) × WriteMessageLeaves a.source.now a.message a.out.now c.put_message.new.out =
     written_promised _ _
-    (rw (answer_good a.source.now a.message (length a.out.now) (is-good (goal.at.returns c).Else-not-is_good_message) (rw n at c.if-out-size.false)) (ap Length n, c.put_message.ensures)) in
+    (rw (answer_good a.source.now a.message (length a.out.now) (is-good (goal.at.returns c).Else-not-is_good_message) (rw n at c.if-out-size.false)) (λ i. Ok (n i), c.put_message.ensures)) in
     record { write_message_returns = w.0; write_message_leaves = w.1 }

@@ -1,17 +1,21 @@
-use Rattle.octets.specs.NameRule.{is_dns_name}
-use borrow.Author.Tests.{not-true, not-false}
-use mathlib.Core.Path.{sym, ◌∙◌}
-use borrow.Author.Rules.{rules}
+use mathlib.Core.Path.{◌≡◌, sym, ◌∙◌}
+use mathlib.Core.Bool.{◌&&◌}
+use Rattle.octets.specs.NameRule.{sized, printable, is_dns_name, dns_name_most}
 use Rattle.name_rules.proofs.name_rule.is_dns_name.Goals as goal
+use Rattle.name_rules.proofs.name_rule.is_dns_name.Goals.{then-is_sized, else-is_sized, Joined-is_sized}
 
-pub returns-then-not-is_sized : goal.returns-then-not-is_sized
-unfolding is_dns_name
-returns-then-not-is_sized c = rw (sym c.is_sized.ensures ∙ not-true _ c.if-not-is_sized.true-raw)
+-- both tests, where they join
+both : (c : Joined-is_sized) → c.if-is_sized.value ≡ (sized 1 dns_name_most c.args.s.now && printable c.args.s.now)
+both c =
+    elim c.if-is_sized.branch [
+      | then-is_sized w ↦ rw (sym c.is_sized.ensures ∙ w.if-is_sized.true) (w.value-is ∙ w.is_printable.ensures)
+      | else-is_sized w ↦ rw (sym c.is_sized.ensures ∙ w.if-is_sized.false) (w.value-is ∙ w.if-is_sized.false)
+    ]
 
-pub returns-then-not-is_printable : goal.returns-then-not-is_printable
+pub returns-then-is_printable : goal.returns-then-is_printable
 unfolding is_dns_name
-returns-then-not-is_printable c = rw (sym c.is_sized.ensures ∙ not-false _ c.if-not-is_sized.false-raw, sym c.is_printable.ensures ∙ not-true _ c.if-not-is_printable.true-raw)
+returns-then-is_printable c = rw (sym (both (goal.at.returns-then-is_printable c).Joined-is_sized) ∙ c.if-is_printable.true) c.has_good_labels.ensures
 
-pub returns : goal.returns
+pub returns-else-is_printable : goal.returns-else-is_printable
 unfolding is_dns_name
-returns c = c.has_good_labels.ensures ∙ rw (sym c.is_sized.ensures ∙ not-false _ c.if-not-is_sized.false-raw, sym c.is_printable.ensures ∙ not-false _ c.if-not-is_printable.false-raw)
+returns-else-is_printable c = rw (sym (both (goal.at.returns-else-is_printable c).Joined-is_sized) ∙ c.if-is_printable.false) c.if-is_printable.false

@@ -3,7 +3,6 @@ use lib.ListN.{length}
 use lib.Dec.{eqb}
 use Prim.Native.Nat.{ℕ, ◌+◌, ◌*◌, ◌<◌, ◌≤◌}
 use mathlib.Core.Path.{ap, subst, ◌∙◌}
-use borrow.Author.Rules.{rules}
 use Rattle.name_rules.proofs.name_rule.is_sid.Goals as goal
 
 pub returns-then-s-lt8 : goal.returns-then-s-lt8

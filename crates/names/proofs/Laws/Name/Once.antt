@@ -1,8 +1,8 @@
 -- A tail is literally written at most once, so the first that fits is the only one, and the lowest.
+use Rattle.std.proofs.Common.{Option, None, Some}
 use mathlib.Core.Path.{◌≡◌, refl, sym, ap, ◌∙◌}
 use mathlib.Core.Bool.{Bool, true, false}
 use mathlib.Core.List.{List, [], ◌∷◌, ◌++◌, append_assoc, append-nil}
-use mathlib.Core.Option.{Option, none, some}
 use Prim.Native.Nat.{ℕ, ◌+◌, ◌<◌, ◌≤◌}
 use native.Mathlib.Omega.{arith}
 use lib.ListN.{length}
@@ -38,8 +38,8 @@ labels_fresh earlier at (l ∷ ls) plain =
     less = joined_shorter l ls plain.0.0
 
     go : (f : Option Tail) → first (λ t. same t.text (joined (l ∷ ls))) earlier ≡ f → Fresh earlier ls rest.tails → Fresh earlier (l ∷ ls) (pointer_or f here).tails
-    go (some t) q r = (tt, tt)
-    go none q r =
+    go (Some t) q r = (tt, tt)
+    go None q r =
         let P : Tail → Type 0 = λ u. (length u.text ≤ length (joined ls)) × Every (λ t. alike t u ≡ false) earlier in
         let m : length (joined ls) < length (joined (l ∷ ls)) = less in
         let a : Every (λ u. (length u.text ≤ length (joined (l ∷ ls))) × Every (λ t. alike t u ≡ false) earlier) rest.tails =
@@ -63,7 +63,7 @@ pub written_once : (texts : List (List ℕ)) (at : ℕ) → Every (λ text. Plai
 written_once texts at plain = names-unique texts [] at plain tt
 
 -- where no two tails are alike, the first that fits is the only one, and so the lowest
-pub first-lowest : (tails : List Tail) (text : List ℕ) (t : Tail) → Unique alike tails → first (λ u. same u.text text) tails ≡ some t
+pub first-lowest : (tails : List Tail) (text : List ℕ) (t : Tail) → Unique alike tails → first (λ u. same u.text text) tails ≡ Some t
     → Every (λ u. same u.text text ≡ true → t.offset ≤ u.offset) tails
 unfolding first
 first-lowest [] text t h e = tt
@@ -77,9 +77,9 @@ first-lowest (x ∷ xs) text t h e = go (same x.text text) refl (λ q. first-low
         let a : x.text ≡ u.text = same_equal x.text text q ∙ sym (same_equal u.text text p) in
         true_not_false (sym (same_self x.text) ∙ ap (same x.text) a ∙ n)
 
-    go : (b : Bool) → same x.text text ≡ b → (first (λ u. same u.text text) xs ≡ some t → Every Low xs) → Every Low (x ∷ xs)
+    go : (b : Bool) → same x.text text ≡ b → (first (λ u. same u.text text) xs ≡ Some t → Every Low xs) → Every Low (x ∷ xs)
     go true q f =
-        let s : some x ≡ some t = rw q at e in
+        let s : Some x ≡ Some t = rw q at e in
         let k : x ≡ t = cc in
         let here : x.offset ≡ t.offset = ap (λ (u : Tail). u.offset) k in
         ((λ p. omega arith), every_weaken (λ u. alike x u ≡ false) Low (λ u n p. absurd (other u q n p)) xs h.0)

@@ -1,13 +1,19 @@
 -- What two texts have in common at their ends decides for every tail of the one whether the other ends with it.
-use mathlib.Core.Path.{◌≡◌, refl, sym, ap, ◌∙◌}
+use mathlib.Core.Path.{◌≡◌, refl, sym, ap, ap₂, subst, ◌∙◌}
 use mathlib.Core.Bool.{Bool, true, false, ◌&&◌}
-use mathlib.Core.List.{List, ◌∷◌}
-use Prim.Native.Nat.{ℕ, suc, ◌+◌, ◌-◌, ◌≤◌, ◌<◌}
+use mathlib.Core.List.{List, ◌∷◌, reverse}
+use Prim.Native.Nat.{ℕ, zero, suc, ◌+◌, ◌-◌, ◌≤◌, ◌<◌}
 use native.Mathlib.Omega.{arith}
-use borrow.Author.Tests.{lt-leb, leb-true, leb-false}
+use borrow.Author.Tests.{lt-leb, leb-true, leb-false, eqb-true, eqb-false}
 use lib.Dec.{leb, ltb}
-use lib.ListN.{length, get_or, drop, length-drop}
+use lib.ListN.{length, get_or, drop, length-drop, drop_of_length-le}
 use lib.Seq.{drop-cons, drop-drop, get_or-drop}
+use Rattle.std.proofs.Common.{nat_eq, zip, take_while, min}
+use Rattle.std.specs.List.{prefix_len}
+use Rattle.std.proofs.lemmas.List.{get_or-reverse, length-reverse}
+use Rattle.std.proofs.lemmas.List.Folds.{length-prefix_len}
+use Rattle.std.proofs.lemmas.List.Sums.{prefix_len-le-length, prefix_len_passes, prefix_len_stops}
+use Rattle.std.proofs.lemmas.Slice.Zip.{get_or-zip, length-zip}
 use Rattle.octets.specs.Text.{same}
 use Rattle.octets.proofs.Laws.Text.{same_equal, same_self}
 use Rattle.names.specs.Internal.Plan.{starts_label, offers_tail, offers_size, CommonTail}
@@ -18,6 +24,65 @@ tail_more a n h =
     let i : length a - (n + 1) ≡ length a - 1 - n = omega arith in
     let j : suc (length a - 1 - n) ≡ length a - n = omega arith in
     ap (λ (k : ℕ). drop k a) i ∙ drop-cons a (length a - 1 - n) 0 (omega arith) ∙ ap (λ (k : ℕ). get_or a (length a - 1 - n) 0 ∷ drop k a) j
+
+-- ---- pairs from the ends on, as long as they agree
+
+abbrev agree : ℕ × ℕ → Bool
+agree x = nat_eq x.0 x.1
+
+module _ (a b : List ℕ) where
+  abbrev pairs : List (ℕ × ℕ)
+  pairs = zip (reverse a) (reverse b)
+
+  abbrev size : ℕ
+  size = prefix_len agree pairs
+
+  pair_at : (k : ℕ) → k < length a → k < length b → get_or pairs k (0, 0) ≡ (get_or a (length a - 1 - k) 0, get_or b (length b - 1 - k) 0)
+  pair_at k h l =
+      let p : k < length (reverse a) = rw (length-reverse a) h in
+      let q : k < length (reverse b) = rw (length-reverse b) l in
+      get_or-zip (reverse a) (reverse b) k (0, 0) p q ∙ ap₂ (λ (x y : ℕ). (x, y)) (get_or-reverse a k 0 h) (get_or-reverse b k 0 l)
+
+  pairs-length : length pairs ≡ min (length a) (length b)
+  pairs-length = length-zip (reverse a) (reverse b) ∙ ap₂ min (length-reverse a) (length-reverse b)
+
+  within_both : (size ≤ length a) × (size ≤ length b)
+  within_both =
+      let h : size ≤ length pairs = prefix_len-le-length agree pairs in
+      let m : length pairs ≡ min (length a) (length b) = pairs-length in
+      (omega arith, omega arith)
+
+  tails_agree : (k : ℕ) → k ≤ size → drop (length a - k) a ≡ drop (length b - k) b
+  tails_agree zero h =
+      let i : length a ≤ length a - 0 = omega arith in
+      let j : length b ≤ length b - 0 = omega arith in
+      drop_of_length-le a i ∙ sym (drop_of_length-le b j)
+  tails_agree (suc k) h =
+      let p : k < length a = omega (arith, within_both.0) in
+      let q : k < length b = omega (arith, within_both.1) in
+      let i : length a - suc k ≡ length a - (k + 1) = omega arith in
+      let j : length b - (k + 1) ≡ length b - suc k = omega arith in
+      let e : get_or a (length a - 1 - k) 0 ≡ get_or b (length b - 1 - k) 0 =
+      eqb-true _ _ (ap agree (sym (pair_at k p q)) ∙ prefix_len_passes agree pairs k (0, 0) h) in
+      let t : drop (length a - k) a ≡ drop (length b - k) b = tails_agree k (omega arith) in
+      ap (λ (n : ℕ). drop n a) i
+      ∙ tail_more a k p
+      ∙ ap₂ (λ (x : ℕ) (xs : List ℕ). x ∷ xs) e t
+      ∙ sym (tail_more b k q)
+      ∙ ap (λ (n : ℕ). drop n b) j
+
+  -- they are what the two have in common
+  pub common_tail : (n : ℕ) → n ≡ length (take_while agree pairs) → CommonTail a b n
+  common_tail n s =
+      subst (CommonTail a b) (sym (s ∙ length-prefix_len agree pairs))
+      (record {
+        first = within_both.0;
+        second = within_both.1;
+        common = tails_agree size (omega arith);
+        most = λ p q e.
+            let h : size < length pairs = omega (arith, pairs-length) in
+            eqb-false _ _ (ap agree (sym (pair_at size p q)) ∙ prefix_len_stops agree pairs (0, 0) h) e;
+      })
 
 below : (n k m : ℕ) → n < k → k ≤ m → n < m
 below n k m h l = omega arith

@@ -1,15 +1,16 @@
 -- A text's labels by offsets in the text: where each starts and ends, and its octets written out.
+use Rattle.std.proofs.Common.{nat_eq, not, take_while}
+use Rattle.std.specs.List.{prefix_len}
+use Rattle.std.proofs.lemmas.List.Folds.{length-prefix_len}
 use mathlib.Core.Path.{◌≡◌, refl, sym, ap, ◌∙◌}
 use mathlib.Core.Bool.{Bool, true, false, cond}
 use mathlib.Core.List.{List, [], ◌∷◌, ◌++◌, flat_map}
 use Prim.Native.Nat.{ℕ, zero, suc, ◌+◌, ◌-◌, ◌≤◌, ◌<◌}
 use native.Mathlib.Nat.{not-suc-le-zero, le_of_suc-le-suc, zero-add, suc-add}
 use native.Mathlib.Omega.{arith}
-use native.Mathlib.Numerals.{add-one}
 use lib.Dec.{eqb}
-use lib.ListN.{length, get_or, take, drop, drop_of_length-le}
-use lib.Seq.{length-take-le, drop-cons}
-use borrow.Author.Tests.{eq-eqb, ne_eqb}
+use lib.ListN.{length, get_or, take, drop}
+use lib.Seq.{length-take-le}
 use Rattle.octets.specs.Label.{to_first, on_dot, parts, labels, joined}
 use Rattle.octets.proofs.Laws.Label.{dot, joined-parts}
 use Rattle.names.specs.Name.{literal_label}
@@ -30,18 +31,21 @@ dot_within (x ∷ xs) = go (eqb x dot) (dot_within xs)
     go true h = omega arith
     go false h = omega arith
 
-module _ (s : List ℕ) (i : ℕ) (h : i < length s) where
-  pub dot_here : get_or s i 0 ≡ 46 → to_dot (drop i s) ≡ 0
-  unfolding to_dot
-  dot_here e = rw (drop-cons s i 0 h, eq-eqb (get_or s i 0) 46 e)
+abbrev no_dot : ℕ → Bool
+no_dot x = not (nat_eq x 46)
 
-  pub dot_next : (get_or s i 0 ≡ 46 → ⊥) → to_dot (drop i s) ≡ suc (to_dot (drop (i + 1) s))
-  unfolding to_dot
-  dot_next e = rw (add-one, drop-cons s i 0 h, ne_eqb (get_or s i 0) 46 e)
-
-pub dot_end : (s : List ℕ) (i : ℕ) → length s ≤ i → to_dot (drop i s) ≡ 0
+-- they are those that are no dot
+pub to_dot_taken : (s : List ℕ) → length (take_while no_dot s) ≡ to_dot s
 unfolding to_dot
-dot_end s i h = rw (drop_of_length-le s h)
+to_dot_taken s = length-prefix_len no_dot s ∙ run s
+  where
+    run : (s : List ℕ) → prefix_len no_dot s ≡ to_dot s
+    run [] = refl
+    run (x ∷ xs) = go (eqb x dot) (run xs)
+      where
+        go : (t : Bool) → prefix_len no_dot xs ≡ to_dot xs → cond (not t) (1 + prefix_len no_dot xs) 0 ≡ cond t 0 (suc (to_dot xs))
+        go true e = refl
+        go false e = let k : 1 + prefix_len no_dot xs ≡ suc (to_dot xs) = omega arith in k
 
 -- what comes before an offset that is not the front
 pub after_front : (s : List ℕ) (i : ℕ) → (i ≡ 0 → ⊥) → get_or s (i - 1) 0 ≡ get_or (46 ∷ s) i 0

@@ -1,8 +1,8 @@
 -- The search for a tail: it says what a name writes, goes name by name, and label by label.
+use Rattle.std.proofs.Common.{Option, None, Some}
 use mathlib.Core.Path.{◌≡◌, refl, sym, ap, ap₂, ◌∙◌}
 use mathlib.Core.Bool.{Bool, true, false, cond}
 use mathlib.Core.List.{List, [], ◌∷◌, ◌++◌, flat_map, append_assoc}
-use mathlib.Core.Option.{Option, none, some}
 use Prim.Native.Nat.{ℕ, suc, ◌+◌, ◌-◌, ◌≤◌, ◌<◌}
 use native.Mathlib.Omega.{arith}
 use lib.Dec.{ltb}
@@ -15,31 +15,28 @@ use Rattle.octets.proofs.Laws.Lists.{or_else, first-append}
 use Rattle.octets.specs.Text.{same}
 use Rattle.names.specs.Name.{Tail, Writing, literal_label, literally, pointer_or, write_labels}
 use Rattle.names.specs.declared.plan.Aim.{Aim}
-use Rattle.names.specs.declared.plan.Aim.TheVariants.{At, Nothing}
-use Rattle.names.specs.declared.plan.Ending.{Ending}
-use Rattle.names.specs.declared.plan.Ending.TheVariants.{Zero, Pointer}
-use Rattle.names.specs.Internal.Plan.{tails_from, offers_tail, first_aim, shift, aim_or, better_aim, AimWithin, ending_octets, to_dot, literal_octets}
+use Rattle.names.specs.Internal.Plan.{tails_from, offers_tail, aimed, first_aim, shift, aim_or, better_aim, AimWithin, ending_octets, to_dot, literal_octets}
 use Rattle.names.proofs.Laws.Plan.Labels.{rest_from, rest_step, rest_text, rest_past, first-length, some-labels}
 use Rattle.names.proofs.Laws.Plan.Tails.{aim-found}
 
 -- ---- what a name writes by its aim
 
-abbrev pub literal_of : Aim → List (List ℕ) → ℕ
-literal_of (At before offset) ls = before
-literal_of Nothing ls = length (flat_map literal_label ls)
+abbrev pub literal_of : Option Aim → List (List ℕ) → ℕ
+literal_of (Some a) ls = a.before
+literal_of None ls = length (flat_map literal_label ls)
 
-abbrev pub ending_of : Aim → Ending
-ending_of (At before offset) = Pointer offset
-ending_of Nothing = Zero
+abbrev pub pointer_of : Option Aim → Option ℕ
+pointer_of (Some a) = Some a.offset
+pointer_of None = None
 
-abbrev pub written_out : ℕ → ℕ → Ending → List (List ℕ) → Writing
+abbrev pub written_out : ℕ → ℕ → Option ℕ → List (List ℕ) → Writing
 written_out at literal ending ls = record { octets = take literal (flat_map literal_label ls) ++ ending_octets ending; tails = tails_from at literal ls }
 
-abbrev pub written : ℕ → Aim → List (List ℕ) → Writing
-written at aim ls = written_out at (literal_of aim ls) (ending_of aim) ls
+abbrev pub written : ℕ → Option Aim → List (List ℕ) → Writing
+written at aim ls = written_out at (literal_of aim ls) (pointer_of aim) ls
 
 -- one label more before it
-label-more : (at literal : ℕ) (ending : Ending) (l : List ℕ) (ls : List (List ℕ))
+label-more : (at literal : ℕ) (ending : Option ℕ) (l : List ℕ) (ls : List (List ℕ))
     → literally at (joined (l ∷ ls)) l (written_out (at + (1 + length l)) literal ending ls) ≡ written_out at (1 + length l + literal) ending (l ∷ ls)
 unfolding flat_map literal_label tails_from
 label-more at literal ending l ls =
@@ -55,13 +52,13 @@ label-more at literal ending l ls =
     ∙ ap (λ (n : ℕ). tails_from at n (l ∷ ls)) b in
     ap₂ (λ (x : List ℕ) (y : List Tail). record { octets = x; tails = y }) o t
 
-aim-more : (at : ℕ) (aim : Aim) (l : List ℕ) (ls : List (List ℕ))
+aim-more : (at : ℕ) (aim : Option Aim) (l : List ℕ) (ls : List (List ℕ))
     → literally at (joined (l ∷ ls)) l (written (at + (1 + length l)) aim ls) ≡ written at (shift (1 + length l) aim) (l ∷ ls)
 unfolding flat_map literal_label
-aim-more at (At before offset) l ls = label-more at before (Pointer offset) l ls
-aim-more at Nothing l ls =
+aim-more at (Some a) l ls = label-more at a.before (Some a.offset) l ls
+aim-more at None l ls =
     let e : 1 + length l + length (flat_map literal_label ls) ≡ length (literal_label l ++ flat_map literal_label ls) = simp length-append (omega arith) in
-    label-more at (length (flat_map literal_label ls)) Zero l ls ∙ ap (λ (n : ℕ). written_out at n Zero (l ∷ ls)) e
+    label-more at (length (flat_map literal_label ls)) None l ls ∙ ap (λ (n : ℕ). written_out at n None (l ∷ ls)) e
 
 -- a name is written as the search says
 pub written_by_search : (earlier : List Tail) (at : ℕ) (ls : List (List ℕ)) → write_labels earlier at ls ≡ written at (first_aim earlier ls) ls
@@ -74,29 +71,29 @@ written_by_search earlier at (l ∷ ls) = go (first (λ t. same t.text (joined (
 
     go : (f : Option Tail) → rest ≡ written (at + (1 + length l)) (first_aim earlier ls) ls
         → pointer_or f (literally at (joined (l ∷ ls)) l rest) ≡ written at (aim_or f (shift (1 + length l) (first_aim earlier ls))) (l ∷ ls)
-    go none e = ap (literally at (joined (l ∷ ls)) l) e ∙ aim-more at (first_aim earlier ls) l ls
-    go (some t) e = refl
+    go None e = ap (literally at (joined (l ∷ ls)) l) e ∙ aim-more at (first_aim earlier ls) l ls
+    go (Some t) e = refl
 
 -- ---- name by name
 
-better_shift : (n : ℕ) (a b : Aim) → better_aim (shift n a) (shift n b) ≡ shift n (better_aim a b)
-better_shift n Nothing b = refl
-better_shift n (At before offset) Nothing = refl
-better_shift n (At before offset) (At other lower) = go (ltb other before) refl
+better_shift : (n : ℕ) (a b : Option Aim) → better_aim (shift n a) (shift n b) ≡ shift n (better_aim a b)
+better_shift n None b = refl
+better_shift n (Some a) None = refl
+better_shift n (Some a) (Some b) = go (ltb b.before a.before) refl
   where
-    go : (t : Bool) → ltb other before ≡ t
-        → cond (ltb (n + other) (n + before)) (At (n + other) lower) (At (n + before) offset) ≡ shift n (cond t (At other lower) (At before offset))
-    go true e = let h : other < before = ltb-true other before e in rw (lt-ltb (n + other) (n + before) (omega arith))
-    go false e = let h : before ≤ other = ltb-false other before e in rw (le-ltb (n + other) (n + before) (omega arith))
+    go : (t : Bool) → ltb b.before a.before ≡ t
+        → cond (ltb (n + b.before) (n + a.before)) (shift n (Some b)) (shift n (Some a)) ≡ shift n (cond t (Some b) (Some a))
+    go true e = let h : b.before < a.before = ltb-true b.before a.before e in rw (lt-ltb (n + b.before) (n + a.before) (omega arith))
+    go false e = let h : a.before ≤ b.before = ltb-false b.before a.before e in rw (le-ltb (n + b.before) (n + a.before) (omega arith))
 
 -- nothing is better than no octets before it, nor as good where it comes later
-better_none : (offset : ℕ) (b : Aim) → better_aim (At 0 offset) b ≡ At 0 offset
-better_none offset Nothing = refl
-better_none offset (At other lower) = rw (le-ltb other 0 (omega arith))
+better_none : (offset : ℕ) (b : Option Aim) → better_aim (aimed 0 offset) b ≡ aimed 0 offset
+better_none offset None = refl
+better_none offset (Some b) = rw (le-ltb b.before 0 (omega arith))
 
-better_later : (n offset : ℕ) (a : Aim) → better_aim (shift (1 + n) a) (At 0 offset) ≡ At 0 offset
-better_later n offset Nothing = refl
-better_later n offset (At before other) = rw (lt-ltb 0 (1 + n + before) (omega arith))
+better_later : (n offset : ℕ) (a : Option Aim) → better_aim (shift (1 + n) a) (aimed 0 offset) ≡ aimed 0 offset
+better_later n offset None = refl
+better_later n offset (Some a) = rw (lt-ltb 0 (1 + n + a.before) (omega arith))
 
 pub search_append : (ts us : List Tail) (ls : List (List ℕ)) → first_aim (ts ++ us) ls ≡ better_aim (first_aim ts ls) (first_aim us ls)
 unfolding first_aim
@@ -108,39 +105,39 @@ search_append ts us (l ∷ ls) =
     go : (f g : Option Tail) → first_aim (ts ++ us) ls ≡ better_aim (first_aim ts ls) (first_aim us ls)
         → aim_or (or_else f g) (shift (1 + length l) (first_aim (ts ++ us) ls))
         ≡ better_aim (aim_or f (shift (1 + length l) (first_aim ts ls))) (aim_or g (shift (1 + length l) (first_aim us ls)))
-    go (some t) g e = sym (better_none t.offset (aim_or g (shift (1 + length l) (first_aim us ls))))
-    go none (some u) e = sym (better_later (length l) u.offset (first_aim ts ls))
-    go none none e = ap (shift (1 + length l)) e ∙ sym (better_shift (1 + length l) (first_aim ts ls) (first_aim us ls))
+    go (Some t) g e = sym (better_none t.offset (aim_or g (shift (1 + length l) (first_aim us ls))))
+    go None (Some u) e = sym (better_later (length l) u.offset (first_aim ts ls))
+    go None None e = ap (shift (1 + length l)) e ∙ sym (better_shift (1 + length l) (first_aim ts ls) (first_aim us ls))
 
-pub search_none : (ls : List (List ℕ)) → first_aim [] ls ≡ Nothing
+pub search_none : (ls : List (List ℕ)) → first_aim [] ls ≡ None
 unfolding first_aim first
 search_none [] = refl
 search_none (l ∷ ls) = ap (shift (1 + length l)) (search_none ls)
 
-pub better_within : (n : ℕ) (a b : Aim) → AimWithin n a → AimWithin n b → AimWithin n (better_aim a b)
-better_within n Nothing b h k = k
-better_within n (At before offset) Nothing h k = h
-better_within n (At before offset) (At other lower) h k = go (ltb other before)
+pub better_within : (n : ℕ) (a b : Option Aim) → AimWithin n a → AimWithin n b → AimWithin n (better_aim a b)
+better_within n None b h k = k
+better_within n (Some a) None h k = h
+better_within n (Some a) (Some b) h k = go (ltb b.before a.before)
   where
-    go : (t : Bool) → AimWithin n (cond t (At other lower) (At before offset))
+    go : (t : Bool) → AimWithin n (cond t (Some b) (Some a))
     go true = k
     go false = h
 
 -- ---- label by label, in the tails of one name
 
-shift-shift : (m n : ℕ) (a : Aim) → shift m (shift n a) ≡ shift (m + n) a
-shift-shift m n (At before offset) = let e : m + (n + before) ≡ m + n + before = omega arith in ap (λ (k : ℕ). At k offset) e
-shift-shift m n Nothing = refl
+shift-shift : (m n : ℕ) (a : Option Aim) → shift m (shift n a) ≡ shift (m + n) a
+shift-shift m n (Some a) = let e : m + (n + a.before) ≡ m + n + a.before = omega arith in ap (λ (k : ℕ). aimed k a.offset) e
+shift-shift m n None = refl
 
-shift_none : (a : Aim) → shift 0 a ≡ a
-shift_none (At before offset) = let e : 0 + before ≡ before = omega arith in ap (λ (k : ℕ). At k offset) e
-shift_none Nothing = refl
+shift_none : (a : Option Aim) → shift 0 a ≡ a
+shift_none (Some a) = let e : 0 + a.before ≡ a.before = omega arith in ap (λ (k : ℕ). aimed k a.offset) e
+shift_none None = refl
 
 -- what the labels from an offset of a text on give
-abbrev pub search_from : List Tail → List ℕ → ℕ → Aim
+abbrev pub search_from : List Tail → List ℕ → ℕ → Option Aim
 search_from ts text n = shift n (first_aim ts (rest_from n text))
 
-pub search_empty : (ts : List Tail) (text : List ℕ) → length text ≡ 0 → Nothing ≡ first_aim ts (labels text)
+pub search_empty : (ts : List Tail) (text : List ℕ) → length text ≡ 0 → None ≡ first_aim ts (labels text)
 unfolding first_aim labels
 search_empty ts [] h = refl
 search_empty ts (x ∷ xs) h = absurd (omega arith)
@@ -148,7 +145,7 @@ search_empty ts (x ∷ xs) h = absurd (omega arith)
 pub search_start : (ts : List Tail) (text : List ℕ) → (length text ≡ 0 → ⊥) → search_from ts text 0 ≡ first_aim ts (labels text)
 search_start ts text h = shift_none (first_aim ts (parts text)) ∙ ap (first_aim ts) (sym (some-labels text (omega arith)))
 
-pub search_end : (ts : List Tail) (text : List ℕ) (n : ℕ) → length text < n → Nothing ≡ search_from ts text n
+pub search_end : (ts : List Tail) (text : List ℕ) (n : ℕ) → length text < n → None ≡ search_from ts text n
 unfolding first_aim
 search_end ts text n h = rw (rest_past n text h)
 
@@ -159,10 +156,10 @@ module _ (at literal : ℕ) (earlier : List ℕ) (fit : literal ≤ length (lite
   abbrev x : List ℕ
   x = drop n text
 
-  abbrev here : Aim
-  here = At n (at + (length earlier - length x))
+  abbrev here : Option Aim
+  here = aimed n (at + (length earlier - length x))
 
-  abbrev next : Aim
+  abbrev next : Option Aim
   next = search_from ts text (n + to_dot x + 1)
 
   search_step : search_from ts text n ≡ cond (offers_tail earlier literal x) here next
@@ -180,8 +177,8 @@ module _ (at literal : ℕ) (earlier : List ℕ) (fit : literal ≤ length (lite
       ls : List (List ℕ)
       ls = rest_from (n + to_dot x + 1) text
 
-      go : (b : Bool) → shift n (cond b (At 0 (at + (length earlier - length x))) (shift (1 + length l) (first_aim ts ls))) ≡ cond b here next
-      go true = let k : n + 0 ≡ n = omega arith in ap (λ (m : ℕ). At m (at + (length earlier - length x))) k
+      go : (b : Bool) → shift n (cond b (aimed 0 (at + (length earlier - length x))) (shift (1 + length l) (first_aim ts ls))) ≡ cond b here next
+      go true = let k : n + 0 ≡ n = omega arith in ap (λ (m : ℕ). aimed m (at + (length earlier - length x))) k
       go false =
           let k : n + (1 + length l) ≡ n + to_dot x + 1 = omega (arith, first-length x) in
           shift-shift n (1 + length l) (first_aim ts ls) ∙ ap (λ (m : ℕ). shift m (first_aim ts ls)) k

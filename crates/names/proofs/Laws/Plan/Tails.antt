@@ -1,8 +1,8 @@
 -- The tails that one name offers, and the one test that finds a tail among them.
+use Rattle.std.proofs.Common.{Option, None, Some}
 use mathlib.Core.Path.{◌≡◌, refl, sym, ap, ap₂, ◌∙◌}
 use mathlib.Core.Bool.{Bool, true, false, cond, ◌&&◌, and-false}
 use mathlib.Core.List.{List, [], ◌∷◌}
-use mathlib.Core.Option.{Option, none, some}
 use Prim.Native.Nat.{ℕ, zero, suc, ◌+◌, ◌-◌, ◌≤◌, ◌<◌}
 use native.Mathlib.Omega.{arith}
 use lib.Dec.{eqb, ltb, leb}
@@ -15,9 +15,8 @@ use Rattle.octets.proofs.Laws.Label.{dot, parts_made, joined-parts}
 use Rattle.octets.proofs.Laws.Lists.{both_left}
 use Rattle.octets.proofs.Laws.Text.{same_lengths}
 use Rattle.names.specs.Name.{Tail}
-use Rattle.names.specs.Internal.Plan.{tails_from, offers_tail, literal_octets, starts_label, aim_or}
+use Rattle.names.specs.Internal.Plan.{tails_from, offers_tail, literal_octets, starts_label, aimed, aim_or}
 use Rattle.names.specs.declared.plan.Aim.{Aim}
-use Rattle.names.specs.declared.plan.Aim.TheVariants.{At}
 use Rattle.names.proofs.Laws.Plan.Labels.{literal_length}
 
 -- ---- tails octet by octet
@@ -98,21 +97,21 @@ module _ (x : List ℕ) where
   pass true at s rest h = rw (same_lengths s x h)
   pass false at s rest h = refl
 
-  none_longer : (y at m : ℕ) (s : List ℕ) → length s < length x → first is_tail (tails_after y at m s) ≡ none
+  none_longer : (y at m : ℕ) (s : List ℕ) → length s < length x → first is_tail (tails_after y at m s) ≡ None
   unfolding first
   none_longer y at zero s h = refl
   none_longer y at (suc m) [] h = pass (eqb y 46) at [] [] (λ e. omega arith)
   none_longer y at (suc m) (z ∷ zs) h = pass (eqb y 46) at (z ∷ zs) (tails_after z (at + 1) m zs) (λ e. omega arith) ∙ none_longer z (at + 1) m zs (omega arith)
 
   abbrev found_if : Bool → ℕ → List ℕ → Option Tail
-  found_if t at s = cond t (some (tail_at at s)) none
+  found_if t at s = cond t (Some (tail_at at s)) None
 
-  found_here : (t : Bool) (at : ℕ) (s : List ℕ) (rest : List Tail) → first is_tail rest ≡ none → first is_tail (keep_if t (tail_at at s) rest) ≡ found_if (t && same s x) (at + 0) s
+  found_here : (t : Bool) (at : ℕ) (s : List ℕ) (rest : List Tail) → first is_tail rest ≡ None → first is_tail (keep_if t (tail_at at s) rest) ≡ found_if (t && same s x) (at + 0) s
   unfolding first
   found_here true at s rest e = go (same s x)
     where
       go : (b : Bool) → first_or b (tail_at at s) (first is_tail rest) ≡ found_if b (at + 0) s
-      go true = let k : at ≡ at + 0 = omega arith in ap (λ (n : ℕ). some (tail_at n s)) k
+      go true = let k : at ≡ at + 0 = omega arith in ap (λ (n : ℕ). Some (tail_at n s)) k
       go false = e
   found_here false at s rest e = e
 
@@ -141,8 +140,8 @@ module _ (x : List ℕ) where
       leb-true (length x) (length earlier) (both_left fits out (both_left (fits && out) starts (both_left (fits && out && starts) (same (drop start earlier) x) e)))
 
   -- one test says whether a name offers the tail, and where
-  pub aim-found : (at literal : ℕ) (earlier : List ℕ) (rest : Aim) → literal ≤ length (literal_octets earlier)
-      → aim_or (first is_tail (tails_from at literal (labels earlier))) rest ≡ cond (offers_tail earlier literal x) (At 0 (at + (length earlier - length x))) rest
+  pub aim-found : (at literal : ℕ) (earlier : List ℕ) (rest : Option Aim) → literal ≤ length (literal_octets earlier)
+      → aim_or (first is_tail (tails_from at literal (labels earlier))) rest ≡ cond (offers_tail earlier literal x) (aimed 0 (at + (length earlier - length x))) rest
   unfolding offers_tail labels tails_from first
   aim-found at literal [] rest h =
       let z : literal ≤ 0 - length x = omega (arith, literal_length []) in
@@ -154,12 +153,12 @@ module _ (x : List ℕ) where
       q : ℕ
       q = length (y ∷ ys) - length x
 
-      picked : (b : Bool) → aim_or (found_if b (at + q) (drop q (y ∷ ys))) rest ≡ cond b (At 0 (at + q)) rest
+      picked : (b : Bool) → aim_or (found_if b (at + q) (drop q (y ∷ ys))) rest ≡ cond b (aimed 0 (at + q)) rest
       picked true = refl
       picked false = refl
 
       go : (b : Bool) → leb (length x) (length (y ∷ ys)) ≡ b → aim_or (first is_tail (tails_after 46 at literal (y ∷ ys))) rest
-          ≡ cond (b && ltb q literal && starts_label (y ∷ ys) q && same (drop q (y ∷ ys)) x) (At 0 (at + q)) rest
+          ≡ cond (b && ltb q literal && starts_label (y ∷ ys) q && same (drop q (y ∷ ys)) x) (aimed 0 (at + q)) rest
       go true e =
           let k : length x ≤ length (y ∷ ys) = leb-true (length x) (length (y ∷ ys)) e in
           ap (λ (o : Option Tail). aim_or o rest) (found_at q 46 at literal (y ∷ ys) (omega arith))

@@ -5,9 +5,8 @@ use Prim.Native.Nat.{ℕ, ◌+◌, ◌-◌, ◌≤◌}
 use native.Mathlib.Omega.{arith}
 use lib.ListN.{length, drop, length-drop}
 use Rattle.octets.specs.Label.{labels}
-use Rattle.names.specs.Internal.Plan.{tails_from, offers_tail}
-use Rattle.names.specs.declared.plan.Aim.TheVariants.{At}
-use Rattle.names.proofs.Laws.Plan.CommonTail.{offers_common}
+use Rattle.names.specs.Internal.Plan.{tails_from, offers_tail, aimed}
+use Rattle.names.proofs.Laws.Plan.CommonTail.{common_tail, offers_common}
 use Rattle.names.proofs.Laws.Plan.Tails.{offers_length}
 use Rattle.names.proofs.Laws.Plan.Search.{search_from, search_empty, search_start, search_end, search_here, search_next}
 use Rattle.names.proofs.plan.aim_in.Goals as goal
@@ -24,7 +23,7 @@ module _ (c : After-offers_tail) where
   offered : c.offers_tail.result ≡ offers_tail c.args.earlier.now c.args.literal (drop before text)
   offered =
       let p = c.args in
-      c.offers_tail.ensures ∙ offers_common p.earlier.now text p.literal c.common_tail-common.result before c.common_tail-common.ensures (omega arith)
+      c.offers_tail.ensures ∙ offers_common p.earlier.now text p.literal c.common_tail-common.result before (common_tail p.earlier.now text _ c.common_tail-common.ensures) (omega arith)
 
 -- it is no longer than the name that offers it
 fits : (c : After-offers_tail) → c.offers_tail.result ≡ true → length (text c) - before c ≤ length c.args.earlier.now
@@ -50,7 +49,7 @@ pub overflow_sub-size : goal.overflow_sub-size
 overflow_sub-size c = omega arith
 
 pub offers_tail-requires : goal.offers_tail-requires
-offers_tail-requires c = c.common_tail-common.ensures.first
+offers_tail-requires c = (common_tail c.args.earlier.now c.args.text.now _ c.common_tail-common.ensures).first
 
 pub overflow_sub-result : goal.overflow_sub-result
 overflow_sub-result c = fits (goal.at.overflow_sub-result c).After-offers_tail c.if-offers_tail.true
@@ -64,7 +63,7 @@ returns-then-offers_tail c =
     let l = c.loop-before in
     let e : length p.text.now - l.before ≡ length (drop l.before p.text.now) = sym (length-drop l.before p.text.now) in
     record {
-      value = ap (λ (n : ℕ). At l.before (p.offset + (length p.earlier.now - n))) e
+      value = ap (λ (n : ℕ). aimed l.before (p.offset + (length p.earlier.now - n))) e
           ∙ search_here p.offset p.literal p.earlier.now c.requires.2 p.text.now l.before (omega arith) (sym (offered (goal.at.returns-then-offers_tail c).After-offers_tail) ∙ c.if-offers_tail.true)
           ∙ l.invariant.1;
       aim_within = (omega arith, omega arith);

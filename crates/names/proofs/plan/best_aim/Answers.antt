@@ -1,58 +1,35 @@
-use mathlib.Core.Path.{◌≡◌, sym, ap, ap₂, ◌∙◌, subst}
+use mathlib.Core.Path.{sym, ap, ap₂, subst, ◌∙◌}
 use mathlib.Core.List.{List, flat_map}
 use Prim.Native.Nat.{ℕ}
-use native.Mathlib.Omega.{arith}
-use lib.ListN.{length, take}
+use lib.ListN.{length}
 use Rattle.octets.specs.Label.{labels}
-use Rattle.names.specs.Internal.Plan.{first_aim, better_aim, AimWithin, names_tails}
+use Rattle.names.specs.declared.plan.PlannedName.{PlannedName}
+use Rattle.names.specs.Internal.Plan.{first_aim, better_aim, AimWithin, name_tails, Fit}
 use Rattle.names.proofs.Laws.Plan.{fit_at, search_more}
 use Rattle.names.proofs.Laws.Plan.Search.{search_none, better_within}
 use Rattle.names.proofs.plan.best_aim.Goals as goal
 
-pub loop-i-init : goal.loop-i-init
+pub loop-name-init : goal.loop-name-init
 unfolding flat_map
-loop-i-init c = (omega arith, sym (search_none (labels c.args.text.now)), tt)
+loop-name-init c = (sym (search_none (labels c.args.text.now)), tt)
 
-pub offset_bounds-names-i : goal.offset_bounds-names-i
-offset_bounds-names-i c = omega arith
-
-pub bounds-names-i : goal.bounds-names-i
-bounds-names-i c = omega arith
-
-pub aim_at-requires : goal.aim_at-requires
-aim_at-requires c =
+pub aim-requires : goal.aim-requires
+aim-requires c =
     let p = c.args in
-    let fit = c.requires.1 in
-    fit_at p.table.now p.request.now p.names p.count c.loop-i.i fit c.loop-i-test.true (omega arith)
+    let n = c.name-item in
+    subst (Fit p.lent.table.now p.lent.request.now) (sym n.is)
+    (fit_at p.lent.table.now p.lent.request.now p.names.now c.loop-name.name-index n.result c.requires c.loop-name-test.true)
 
-pub better-aim-requires : goal.better-aim-requires
-better-aim-requires c = tt
-
-pub overflow_add-i : goal.overflow_add-i
-overflow_add-i c = omega arith
-
-pub loop-i-smaller : goal.loop-i-smaller
-loop-i-smaller c = omega arith
-
-pub loop-i-preserved : goal.loop-i-preserved
-loop-i-preserved c =
+pub loop-name-preserved : goal.loop-name-preserved
+loop-name-preserved c =
     let p = c.args in
-    let l = c.loop-i in
-    let a = c.aim_at in
-    let s : List ℕ = p.text.now in (
-      omega arith,
+    let l = c.loop-name in
+    let n = c.name-item in
+    let ls : List (List ℕ) = labels p.text.now in
+    let e = ap (λ (name : PlannedName). first_aim (name_tails p.lent.table.now p.lent.request.now name) ls) n.is in
+    let w = better_within (length p.text.now) l.aim c.aim.result l.invariant.1 c.aim.ensures.aim_within in (
       c.better-aim.ensures
-          ∙ ap₂ better_aim l.invariant.1 a.ensures.value
-          ∙ sym (search_more p.table.now p.request.now p.names l.i (labels s) (omega arith)),
-      subst (AimWithin (length s)) (sym c.better-aim.ensures) (better_within (length s) l.aim a.result l.invariant.2 a.ensures.aim_within),
+          ∙ ap₂ better_aim l.invariant.0 (c.aim.ensures.value ∙ e)
+          ∙ sym (search_more p.lent.table.now p.lent.request.now p.names.now l.name-index n.result c.loop-name-test.true ls),
+      subst (AimWithin (length p.text.now)) (sym c.better-aim.ensures) w,
     )
-
-pub returns : goal.returns
-returns c =
-    let p = c.args in
-    let l = c.loop-i in
-    let e : l.i ≡ p.count = omega arith in
-    record {
-      value = l.invariant.1 ∙ ap (λ (n : ℕ). first_aim (names_tails p.table.now p.request.now (take n p.names)) (labels p.text.now)) e;
-      aim_within = l.invariant.2;
-    }

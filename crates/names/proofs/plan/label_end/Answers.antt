@@ -1,31 +1,15 @@
-use mathlib.Core.Path.{refl}
+use Rattle.std.proofs.Common.{◌≡◌, ◌+◌, ◌-◌, length, List, ℕ, take, drop}
+use mathlib.Core.Path.{sym, ap, ◌∙◌}
 use native.Mathlib.Omega.{arith}
-use Rattle.names.proofs.Laws.Plan.Labels.{dot_here, dot_next, dot_end}
+use lib.ListN.{length-drop}
+use lib.Seq.{take-length}
+use Rattle.names.specs.Internal.Plan.{to_dot}
+use Rattle.names.proofs.Laws.Plan.Labels.{dot_within, to_dot_taken}
 use Rattle.names.proofs.plan.label_end.Goals as goal
 
-pub loop-end-init : goal.loop-end-init
-loop-end-init c = (omega arith, c.requires, refl)
-
-pub bounds-text-end : goal.bounds-text-end
-bounds-text-end c = omega arith
-
-pub returns-then-text-end-eq-DOT : goal.returns-then-text-end-eq-DOT
-returns-then-text-end-eq-DOT c =
-    let l = c.loop-end in
-    let s = c.args.text.now in
-    (omega (arith, dot_here s l.end (omega arith) c.if-text-end-eq-DOT.true), omega arith)
-
-pub overflow_add-end : goal.overflow_add-end
-overflow_add-end c = omega arith
-
-pub loop-end-smaller : goal.loop-end-smaller
-loop-end-smaller c = omega arith
-
-pub loop-end-preserved : goal.loop-end-preserved
-loop-end-preserved c =
-    let l = c.loop-end in
-    let s = c.args.text.now in
-    (omega arith, omega arith, omega (arith, dot_next s l.end (omega arith) c.if-text-end-eq-DOT.false))
-
 pub returns : goal.returns
-returns c = (omega (arith, dot_end c.args.text.now c.loop-end.end (omega arith)), omega arith)
+returns c =
+    let s : List ℕ = drop c.args.start c.args.text.now in
+    let w : take (length c.args.text.now - c.args.start) s ≡ s = ap (λ (n : ℕ). take n s) (sym (length-drop c.args.start c.args.text.now)) ∙ take-length s in
+    let e : c.label_size.result ≡ to_dot s = c.label_size.ensures ∙ to_dot_taken (take (length c.args.text.now - c.args.start) s) ∙ ap to_dot w in
+    (ap (λ (n : ℕ). c.args.start + n) e, omega (arith, dot_within s, length-drop c.args.start c.args.text.now))

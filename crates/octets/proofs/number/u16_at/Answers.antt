@@ -1,6 +1,5 @@
 use Rattle.octets.proofs.Laws.Number.{u16-octets}
 use native.Mathlib.Omega.{arith}
-use borrow.Author.Rules.{rules}
 use Rattle.octets.proofs.number.u16_at.Goals as goal
 
 pub returns : goal.returns

@@ -5,7 +5,6 @@ use Prim.Native.Nat.{◌+◌, ◌-◌, ◌≤◌}
 use Rattle.octets.proofs.Laws.Lists.{cut-past, cut_rest}
 use native.Mathlib.Omega.{arith}
 use mathlib.Core.Path.{◌≡◌, sym, ◌∙◌}
-use borrow.Author.Rules.{rules}
 use Rattle.octets.proofs.part.part.Goals as goal
 
 pub returns-then-s-start : goal.returns-then-s-start

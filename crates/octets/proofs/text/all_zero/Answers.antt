@@ -1,41 +1,42 @@
-use mathlib.Core.Path.{◌≡◌, refl, sym, ap, ◌∙◌}
+use mathlib.Core.Path.{sym, ◌∙◌}
 use mathlib.Core.Bool.{◌&&◌}
-use Prim.Native.Nat.{◌+◌, ◌-◌, ◌≤◌}
+use borrow.Author.Rules.{rules}
+use borrow.Author.Tests.{tests}
+use lib.Dec.{eqb}
+use lib.ListN.{replicate}
+use lib.Pointwise.{pointwise}
+use Rattle.std.proofs.lemmas.Iterator.{YieldsList-from_slice}
+use Rattle.std.proofs.lemmas.Iterator.Search.{all_from_yields_List}
+use Rattle.octets.proofs.Laws.Lists.{list_all_is}
+use Rattle.octets.proofs.Laws.Text.{eights_zero}
+use mathlib.Core.Path.{◌≡◌, ap}
+use mathlib.Core.Bool.{Bool}
+use mathlib.Core.List.{List}
+use Prim.Native.Nat.{ℕ, ◌/◌, ◌*◌}
 use native.Mathlib.Omega.{arith}
 use lib.ListN.{length, drop}
-use lib.Dec.{eqb}
-use borrow.Author.Rules.{rules}
-use borrow.Author.Tests.{not-true, not-false}
-use Rattle.octets.specs.Lists.{cut}
+use Rattle.std.specs.List.{list_all}
+use Rattle.std.specs.Simd.{first_chunks}
 use Rattle.octets.specs.Text.{all_zero}
-use Rattle.octets.proofs.Laws.Lists.{all-parts, cut_rest}
 use Rattle.octets.proofs.text.all_zero.Goals as goal
-use Rattle.octets.proofs.text.all_zero.Goals.{After-are_eight_zero}
+use Rattle.octets.proofs.text.all_zero.Goals.{After-all}
 
--- the eight octets at i, and what is left after them
-front : (c : After-are_eight_zero)
-    → (let s = c.args.s.now in let i = c.loop-i.i in all_zero s ≡ (all_zero (cut s i 8) && all_zero (drop (i + 8) s)))
-front c =
-    let l = c.loop-i in
-    sym l.invariant.1 ∙ all-parts (λ x. eqb x 0) c.args.s.now l.i 8
+-- eight zeros
+abbrev are_zero : List ℕ → Bool
+are_zero e = pointwise eqb e (replicate 8 0)
 
-pub loop-i-init : goal.loop-i-init
-loop-i-init c = (omega arith, refl)
+front : (c : After-all) → c.all.result ≡ list_all are_zero (first_chunks 8 (length c.args.s.now / 8) c.args.s.now)
+front c = all_from_yields_List are_zero _ _ _ c.all.ensures.ran (YieldsList-from_slice _ (c.iter.ensures.rest ∙ c.as_chunks.ensures.front)) (λ x b q k. search (rules, tests))
 
-pub returns-then-not-are_eight_zero : goal.returns-then-not-are_eight_zero
-returns-then-not-are_eight_zero c =
+pub returns-then-all : goal.returns-then-all
+returns-then-all c =
     let s = c.args.s.now in
-    let l = c.loop-i in
-    sym (front (goal.at.returns-then-not-are_eight_zero c).After-are_eight_zero ∙ ap (λ b. b && all_zero (drop (l.i + 8) s)) (sym c.are_eight_zero.ensures ∙ not-true _ c.if-not-are_eight_zero.true-raw))
+    let rest = all_from_yields_List (λ x. eqb x 0) _ _ _ c.all-then-all.ensures.ran (YieldsList-from_slice _ (c.iter-then-all.ensures.rest ∙ c.as_chunks.ensures.back)) (λ x b q k. search (rules, tests)) in
+    let eights = sym (front (goal.at.returns-then-all c).After-all) ∙ c.if-all.true in
+    rest ∙ list_all_is (λ x. eqb x 0) _ ∙ ap (λ (b : Bool). b && all_zero (drop (length s / 8 * 8) s)) (sym eights) ∙ eights_zero (length s / 8) s (omega arith)
 
-pub loop-i-preserved : goal.loop-i-preserved
-loop-i-preserved c =
+pub returns-else-all : goal.returns-else-all
+returns-else-all c =
     let s = c.args.s.now in
-    let l = c.loop-i in
-    (omega arith, sym (front (goal.at.loop-i-preserved c).After-are_eight_zero ∙ ap (λ b. b && all_zero (drop (l.i + 8) s)) (sym c.are_eight_zero.ensures ∙ not-false _ c.if-not-are_eight_zero.false-raw)))
-
-pub returns : goal.returns
-returns c =
-    let s = c.args.s.now in
-    let l = c.loop-i in
-    c.all_of.ensures ∙ ap all_zero (cut_rest s l.i (length s - l.i) (omega arith)) ∙ l.invariant.1
+    let eights = front (goal.at.returns-else-all c).After-all in
+    c.if-all.false ∙ ap (λ (b : Bool). b && all_zero (drop (length s / 8 * 8) s)) (sym c.if-all.false ∙ eights) ∙ eights_zero (length s / 8) s (omega arith)

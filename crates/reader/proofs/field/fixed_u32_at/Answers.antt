@@ -1,6 +1,15 @@
+use mathlib.Core.Path.{◌≡◌, ◌∙◌, subst}
+use mathlib.Core.List.{List}
+use Prim.Native.Nat.{ℕ}
+use lib.ListN.{length}
+use Rattle.octets.specs.Lists.{cut}
 use Rattle.octets.specs.Number.{little_octets}
+use Rattle.reader.specs.Field.{read_fixed, valued}
+use Rattle.reader.proofs.Laws.Field.{four-octets}
 use Rattle.reader.proofs.field.fixed_u32_at.Goals as goal
 
-pub returns : goal.returns
+pub returns-clause-field : goal.returns-clause-field
 unfolding little_octets
-returns c = c.fixed_at.ensures
+returns-clause-field c =
+    let a = c.args in
+    subst (λ (x : List ℕ). valued (cut a.reply.now a.at (length x)) c.fixed_at.result ≡ read_fixed a.reply.now a.at x) (c.to_le_bytes.ensures ∙ four-octets a.number) c.fixed_at.ensures.field

@@ -1,9 +1,5 @@
-use Prim.Native.Nat.{◌-◌}
 use Rattle.reader_names.proofs.Laws.NamesRead.{NamesLeft}
 use Rattle.reader_names.proofs.list.read_names.Given as goal
 
 abbrev pub invariant-loop-i : goal.invariant-loop-i
-invariant-loop-i l = NamesLeft l.reply l.start l.count l.names l.next l.i
-
-abbrev pub decreases-loop-i : goal.decreases-loop-i
-decreases-loop-i l = l.count - l.i
+invariant-loop-i g l = NamesLeft l.reply l.start g.row.N l.names l.next l.i

@@ -1,43 +1,56 @@
-use mathlib.Core.Path.{sym, ap, ◌∙◌, subst}
-use Rattle.reader.specs.Reader as reader
-use Rattle.reader.specs.Reader.{read_response}
-use Rattle.reader.proofs.Laws.Field.{told}
-use Rattle.reader_forms.specs.declared.reading.ResponseFields.{ResponseFields}
-use Rattle.reader_forms.specs.declared.reading.Fields.TheVariants.{Response}
-use Rattle.reader_forms.specs.declared.reading.Reading.TheVariants.{Read}
-use Rattle.reader_forms.specs.Reading.{reading_as}
-use Rattle.reader_forms.specs.Internal.Ending.{ending_in}
-use Rattle.reader_older.specs.Internal.Response.{HeadOf, BodyOf}
-use Rattle.reader_older.proofs.Laws.Response.{said, parts-read, parts_said}
-use lib.ListN.{length}
+use Rattle.std.proofs.Common.{rules}
+use mathlib.Core.List.{List}
+use Prim.Native.Nat.{ℕ}
+use Rattle.answers.specs.Wire.{response_version}
+use Rattle.octets.specs.declared.part.Stretch.{Stretch}
+use Rattle.reader.specs.Reader.{NameRead, Fields, response, read_response}
+use Rattle.reader_older.specs.declared.opening.Opening.{Opening}
 use Rattle.reader_older.proofs.response.read_response.Goals as goal
 
-pub returns-in-Refused : goal.returns-in-Refused
-returns-in-Refused c =
-    let s = c.args.reply.now in
-    sym (ap (reading_as s) (subst (HeadOf s) c.in-Refused.is c.read_head.ensures))
+-- the fields that the parts make
+abbrev fields_of : Opening → Stretch → List NameRead → Stretch → ℕ → Fields
+fields_of o guid names ipv4 flags =
+    response
+    (record {
+      opcode = o.opcode;
+      server = o.server;
+      user = o.user;
+      domain = o.domain;
+      guid = guid;
+      names = names;
+      ipv4 = ipv4;
+      flags = flags;
+      version = response_version;
+    })
 
-pub returns-in-Refused-read_body : goal.returns-in-Refused-read_body
+pub returns-in_err-ending_at : goal.returns-in_err-ending_at
 unfolding read_response
-returns-in-Refused-read_body c =
-    let s = c.args.reply.now in
-    let i = subst (HeadOf s) c.in-Head.is c.read_head.ensures in
-    let b = subst (BodyOf s c.in-Head.head.next) c.in-Refused-read_body.is c.read_body.ensures in
-    rw (i.opening, i.guid, i.fixed) (sym (ap (reading_as s) (b _)))
+returns-in_err-ending_at c =
+    let (given, names, same) = c.in_ok-names.ensures in
+    let f = fields_of c.in_ok-opening.opening.value c.in_ok-guid.guid.value given c.in_ok-ipv4.ipv4.value c.in_ok-flags.flags.value in
+    rw (
+      ← c.in_ok-opening.ensures,
+      ← c.in_ok-guid.ensures,
+      ← c.in_ok-names_at.ensures.field,
+      names,
+      ← c.in_ok-ipv4.ensures,
+      ← c.in_ok-flags.ensures,
+      ← c.in_err-ending_at.ensures f,
+    )
+    (search rules)
 
-pub returns-in-Whole : goal.returns-in-Whole
-returns-in-Whole c =
-    let s = c.args.reply.now in
-    let i = subst (HeadOf s) c.in-Head.is c.read_head.ensures in
-    let j = subst (BodyOf s c.in-Head.head.next) c.in-Body.is c.read_body.ensures in
-    let f = reader.response (said i j) in
-    ap (λ (x : ResponseFields). Read (length s) (Response x)) (c.fields_of.ensures ∙ parts_said i j)
-    ∙ sym (ap (reading_as s) (parts-read i j ∙ told (ending_in f) c.in-Whole.is (c.ending_at.ensures f)))
-
-pub returns-in-Refused-ending_at : goal.returns-in-Refused-ending_at
-returns-in-Refused-ending_at c =
-    let s = c.args.reply.now in
-    let i = subst (HeadOf s) c.in-Head.is c.read_head.ensures in
-    let j = subst (BodyOf s c.in-Head.head.next) c.in-Body.is c.read_body.ensures in
-    let f = reader.response (said i j) in
-    sym (ap (reading_as s) (parts-read i j ∙ told (ending_in f) c.in-Refused-ending_at.is (c.ending_at.ensures f)))
+pub returns : goal.returns
+unfolding read_response
+returns c =
+    let (given, names, same) = c.in_ok-names.ensures in
+    let f = fields_of c.in_ok-opening.opening.value c.in_ok-guid.guid.value given c.in_ok-ipv4.ipv4.value c.in_ok-flags.flags.value in
+    rw (
+      ← c.in_ok-opening.ensures,
+      ← c.in_ok-guid.ensures,
+      ← c.in_ok-names_at.ensures.field,
+      names,
+      ← c.in_ok-ipv4.ensures,
+      ← c.in_ok-flags.ensures,
+      ← c.in_ok-ending_at.ensures f,
+      same,
+    )

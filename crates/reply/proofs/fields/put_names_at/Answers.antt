@@ -3,7 +3,6 @@ use Prim.Native.Nat.{ℕ, ◌+◌}
 use Rattle.octets.proofs.Laws.Buffer.{lent_back}
 use Rattle.lent.specs.Internal.OverAt.{over_at}
 use Rattle.names.specs.Internal.Plan.{names_octets}
-use lib.ListN.{take}
 use Rattle.reply.proofs.fields.put_names_at.Goals as goal
 
 pub returns : goal.returns
@@ -13,5 +12,5 @@ returns c =
     let w = c.put_names in
     record {
       value = ap (λ (k : ℕ). a.at + k) w.ensures.value;
-      out_after = lent_back (names_octets a.table.now a.request.now (take a.count a.plan.«names»)) w.new.out a.out.now a.at w.ensures.out_after;
+      out_after = lent_back (names_octets a.lent.table.now a.lent.request.now a.names.now) w.new.out a.out.now a.at w.ensures.out_after;
     }

@@ -5,7 +5,6 @@ use Prim.Native.Nat.{ℕ, ◌+◌, ◌≤◌}
 use native.Mathlib.Nat.{add-zero}
 use native.Mathlib.Omega.{arith}
 use lib.ListN.{length}
-use borrow.Author.Tests.{not-true, not-false}
 use Rattle.answers.specs.Wire.{DcSockAddrSize, sin_family, sin_zero}
 use Rattle.lent.specs.Internal.OverAt.{over_at}
 use Rattle.lent.specs.Internal.Stretch.{octets_at}
@@ -16,10 +15,10 @@ use Rattle.reply_ex.proofs.ex.put_address_at.Goals as goal
 use Rattle.reply_ex.proofs.ex.put_address_at.Goals.{Else-not-raw}
 
 abbrev ipv4 : Else-not-raw → List ℕ
-ipv4 c = octets_at c.args.table.now c.args.request.now c.args.raw.«ipv4»
+ipv4 c = octets_at c.args.lent.table.now c.args.lent.request.now c.args.raw.now.«ipv4»
 
-asked : (c : Else-not-raw) → true ≡ c.args.raw.with_address
-asked c = sym (not-false c.args.raw.with_address c.if-not-raw.false)
+asked : (c : Else-not-raw) → true ≡ c.args.raw.now.with_address
+asked c = sym c.if-not-raw.false
 
 room : (c : Else-not-raw) → c.args.at + length (ipv4 c) + 13 ≤ length c.args.out.now
 room c =
@@ -29,7 +28,7 @@ room c =
 pub returns-then-not-raw : goal.returns-then-not-raw
 returns-then-not-raw c =
     let a = c.args in
-    let e : a.raw.with_address ≡ false = not-true a.raw.with_address c.if-not-raw.true in
+    let e : a.raw.now.with_address ≡ false = c.if-not-raw.true in
     rw e (record { value = sym (add-zero a.at); out_after = (laid_none a.at a.out.now (omega arith)).buffer })
 
 pub put_octets_at-at-requires : goal.put_octets_at-at-requires
@@ -38,8 +37,8 @@ put_octets_at-at-requires c = omega (arith, room (goal.at.put_octets_at-at-requi
 pub put_u32_at-at-requires : goal.put_u32_at-at-requires
 put_u32_at-at-requires c = omega (arith, room (goal.at.put_u32_at-at-requires c).Else-not-raw)
 
-pub put_ipv4_at-at-requires : goal.put_ipv4_at-at-requires
-put_ipv4_at-at-requires c = omega (arith, room (goal.at.put_ipv4_at-at-requires c).Else-not-raw)
+pub put_stretch_at-at-requires : goal.put_stretch_at-at-requires
+put_stretch_at-at-requires c = omega (arith, room (goal.at.put_stretch_at-at-requires c).Else-not-raw)
 
 pub put_octets_at-requires : goal.put_octets_at-requires
 put_octets_at-requires c = omega (arith, room (goal.at.put_octets_at-requires c).Else-not-raw)
@@ -51,7 +50,7 @@ returns c =
     let x : List ℕ = ipv4 (goal.at.returns b).Else-not-raw in
     let s = c.put_octets_at-at in
     let n = c.put_u32_at-at in
-    let i = c.put_ipv4_at-at in
+    let i = c.put_stretch_at-at in
     let z = c.put_octets_at in
     let l = laid_more (DcSockAddrSize ∷ []) (laid_none a.at a.out.now (omega (arith, room (goal.at.returns b).Else-not-raw))) s.ensures.value s.ensures.out_after in
     let m = laid_more x (laid_number 4 sin_family l n.ensures.value n.ensures.out_after) i.ensures.value i.ensures.out_after in

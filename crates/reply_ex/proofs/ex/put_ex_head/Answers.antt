@@ -11,7 +11,7 @@ use Rattle.reply_ex.proofs.ex.put_ex_head.Goals.{Start}
 
 module _ (c : Start) where
   abbrev reply : Reply
-  reply = reply_in c.args.table.now c.args.request.now c.args.raw
+  reply = reply_in c.args.lent.table.now c.args.lent.request.now c.args.raw.now
 
   room : 8 + length reply.guid ≤ length c.args.out.now
   room = omega (arith, ex_head_length reply, c.requires)
@@ -25,8 +25,8 @@ put_u16_at-at-requires-2 c = omega (arith, room (goal.at.put_u16_at-at-requires-
 pub put_u32_at-at-requires : goal.put_u32_at-at-requires
 put_u32_at-at-requires c = omega (arith, room (goal.at.put_u32_at-at-requires c).Start)
 
-pub put_guid_at-requires : goal.put_guid_at-requires
-put_guid_at-requires c = omega (arith, room (goal.at.put_guid_at-requires c).Start)
+pub put_stretch_at-requires : goal.put_stretch_at-requires
+put_stretch_at-requires c = omega (arith, room (goal.at.put_stretch_at-requires c).Start)
 
 pub returns : goal.returns
 unfolding ex_head
@@ -35,7 +35,7 @@ returns c =
     let o = c.put_u16_at-at in
     let z = c.put_u16_at-at-2 in
     let n = c.put_u32_at-at in
-    let g = c.put_guid_at in
+    let g = c.put_stretch_at in
     let l = laid_number 2 (reply (goal.at.returns s).Start).opcode (laid_none 0 s.args.out.now (omega arith)) o.ensures.value o.ensures.out_after in
     let m = laid_number 4 (reply (goal.at.returns s).Start).flags (laid_number 2 Sbz l z.ensures.value z.ensures.out_after) n.ensures.value n.ensures.out_after in
     let k = laid_more (reply (goal.at.returns s).Start).guid m g.ensures.value g.ensures.out_after in

@@ -12,17 +12,13 @@ use Rattle.reply_older.proofs.older.put_nt40.Goals.{Start}
 
 module _ (c : Start) where
   abbrev reply : Reply
-  reply = reply_in c.args.table.now c.args.request.now c.args.raw
+  reply = reply_in c.args.lent.table.now c.args.lent.request.now c.args.raw.now
 
   room : length (opening reply) + 8 ≤ length c.args.out.now
-  room = omega (arith, nt40-length reply, c.requires.raw_in_bounds)
+  room = omega (arith, nt40-length reply, c.requires)
 
 pub put_opening-at-requires : goal.put_opening-at-requires
-put_opening-at-requires c =
-    record {
-      short = c.requires.short;
-      raw_in_bounds = omega (arith, room (goal.at.put_opening-at-requires c).Start);
-    }
+put_opening-at-requires c = omega (arith, room (goal.at.put_opening-at-requires c).Start)
 
 pub put_ending_at-requires : goal.put_ending_at-requires
 put_ending_at-requires c = omega (arith, room (goal.at.put_ending_at-requires c).Start)

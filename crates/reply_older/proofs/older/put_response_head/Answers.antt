@@ -11,20 +11,16 @@ use Rattle.reply_older.proofs.older.put_response_head.Goals.{Start}
 
 module _ (c : Start) where
   abbrev reply : Reply
-  reply = reply_in c.args.table.now c.args.request.now c.args.raw
+  reply = reply_in c.args.lent.table.now c.args.lent.request.now c.args.raw.now
 
   room : length (opening reply) + length reply.guid + 16 ≤ length c.args.out.now
-  room = omega (arith, response_head_length reply, c.requires.raw_in_bounds)
+  room = omega (arith, response_head_length reply, c.requires)
 
 pub put_opening-at-requires : goal.put_opening-at-requires
-put_opening-at-requires c =
-    record {
-      short = c.requires.short;
-      raw_in_bounds = omega (arith, room (goal.at.put_opening-at-requires c).Start);
-    }
+put_opening-at-requires c = omega (arith, room (goal.at.put_opening-at-requires c).Start)
 
-pub put_guid_at-at-requires : goal.put_guid_at-at-requires
-put_guid_at-at-requires c = omega (arith, room (goal.at.put_guid_at-at-requires c).Start)
+pub put_stretch_at-at-requires : goal.put_stretch_at-at-requires
+put_stretch_at-at-requires c = omega (arith, room (goal.at.put_stretch_at-at-requires c).Start)
 
 pub put_octets_at-requires : goal.put_octets_at-requires
 put_octets_at-requires c = omega (arith, room (goal.at.put_octets_at-requires c).Start)
@@ -34,7 +30,7 @@ unfolding response_head
 returns c =
     let r = reply (goal.at.returns c).Start in
     let o = c.put_opening-at in
-    let g = c.put_guid_at-at in
+    let g = c.put_stretch_at-at in
     let z = c.put_octets_at in
     let l = laid_more r.guid (laid_over o.ensures.out_after o.ensures.value) g.ensures.value g.ensures.out_after in
     let m = laid_more NullGuid l z.ensures.value z.ensures.out_after in

@@ -6,4 +6,4 @@ use Rattle.reply_plan.proofs.plan.plan_nt40.Goals as goal
 pub returns : goal.returns
 returns c =
     let a = c.args in
-    record { short = c.requires; names = tt; whole = omega (arith, nt40-length (reply_in a.table.now a.request.now a.raw)) }
+    record { names = tt; whole = omega (arith, nt40-length (reply_in a.lent.table.now a.lent.request.now a.raw.now)) }

@@ -4,7 +4,6 @@ use mathlib.Core.List.{List}
 use Prim.Native.Nat.{ℕ, ◌+◌}
 use native.Mathlib.Omega.{arith}
 use lib.ListN.{length}
-use borrow.Author.Tests.{not-true, not-false}
 use Rattle.lent.specs.Internal.Stretch.{octets_at}
 use Rattle.reply.specs.Reply.{address_if}
 use Rattle.reply.proofs.Laws.Reply.{address-length}
@@ -13,11 +12,11 @@ use Rattle.reply_plan.proofs.size.address_size.Goals as goal
 pub returns-then-not-asked : goal.returns-then-not-asked
 returns-then-not-asked c =
     let a = c.args in
-    (ap (λ b. length (address_if b (octets_at a.table.now a.request.now a.ipv4))) (sym (not-true a.asked c.if-not-asked.true-raw)), omega arith)
+    (ap (λ b. length (address_if b (octets_at a.lent.table.now a.lent.request.now a.ipv4))) (sym c.if-not-asked.true), omega arith)
 
 pub returns : goal.returns
 returns c =
     let a = c.args in
-    let x : List ℕ = octets_at a.table.now a.request.now a.ipv4 in
-    let e : true ≡ a.asked = sym (not-false a.asked c.if-not-asked.false-raw) in
+    let x : List ℕ = octets_at a.lent.table.now a.lent.request.now a.ipv4 in
+    let e : true ≡ a.asked = sym c.if-not-asked.false in
     (ap (λ (k : ℕ). k + 13) c.stretch_size.ensures.0 ∙ sym (address-length x) ∙ ap (λ b. length (address_if b x)) e, omega arith)

@@ -7,5 +7,5 @@ use Rattle.reply_plan.proofs.size.stretch_size.Goals as goal
 pub returns : goal.returns
 returns c =
     let a = c.args in
-    let e = ap length c.slot_text-octets.ensures in
-    (e, omega (arith, stretch_short a.table.now a.request.now a.stretch))
+    let e = ap length c.text.ensures in
+    (e, omega (arith, stretch_short a.lent.table.now a.lent.request.now a.stretch))

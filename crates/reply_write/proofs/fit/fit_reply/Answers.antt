@@ -1,4 +1,4 @@
-use mathlib.Core.Path.{sym}
+use mathlib.Core.Path.{refl, sym}
 use native.Mathlib.Omega.{arith}
 use Rattle.octets.proofs.Laws.Buffer.{over_none}
 use Rattle.reply_write.proofs.fit.fit_reply.Goals as goal
@@ -7,7 +7,7 @@ pub returns-then-out-length : goal.returns-then-out-length
 returns-then-out-length c =
     let p = c.plan_reply-plan.ensures.whole in
     record {
-      fitted_to = omega (arith, p, c.if-out-length.true);
+      fitted_to = (omega (arith, p, c.if-out-length.true), refl);
       out_after = sym (over_none _);
     }
 

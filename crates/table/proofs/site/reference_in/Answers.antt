@@ -1,5 +1,5 @@
+use Rattle.std.proofs.Common.{Some}
 use Prim.Native.Nat.{ℕ}
-use mathlib.Core.Option.{some}
 use mathlib.Core.Path.{sym, ap, ◌∙◌}
 use Rattle.table.specs.Countings.{site_number}
 use borrow.Author.Tests.{eq-eqb, ne_eqb}
@@ -11,4 +11,4 @@ returns-then-number-eq0 c = rw (eq-eqb _ _ (sym c.u16_in-number.ensures ∙ c.if
 pub returns : goal.returns
 returns c =
     let e = c.u16_in-number.ensures in
-    rw (ne_eqb _ _ (λ q. c.if-number-eq0.false (e ∙ q))) (ap (λ (n : ℕ). some (site_number n)) e)
+    rw (ne_eqb _ _ (λ q. c.if-number-eq0.false (e ∙ q))) (ap (λ (n : ℕ). Some (site_number n)) e)

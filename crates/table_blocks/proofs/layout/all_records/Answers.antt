@@ -28,9 +28,6 @@ judged c =
     ∙ ap (record_layout p.kind) (sym c.part.ensures)
     ∙ sym c.record_layout.ensures
 
-pub loop-i-init : goal.loop-i-init
-loop-i-init c = (omega arith, refl)
-
 pub overflow_mul-width : goal.overflow_mul-width
 overflow_mul-width c =
     let k = c.args.kind in
@@ -45,27 +42,19 @@ returns-then-not-record_layout c =
     let l = c.loop-i in
     all_piece_fails (record_layout p.kind) (format_of p.kind).count (format_of p.kind).width p.b.now l.i (omega (arith, count-is (goal.at.returns-then-not-record_layout c).After-format_of-format))
     (judged (goal.at.returns-then-not-record_layout c).After-record_layout ∙ not-true _ c.if-not-record_layout.true-raw)
-    ∙ l.invariant.1
-
-pub overflow_add-i : goal.overflow_add-i
-overflow_add-i c = omega (arith, count-is (goal.at.overflow_add-i c).After-format_of-format)
-
-pub loop-i-smaller : goal.loop-i-smaller
-loop-i-smaller c = omega (arith, count-is (goal.at.loop-i-smaller c).After-format_of-format)
+    ∙ l.invariant
 
 pub loop-i-preserved : goal.loop-i-preserved
 loop-i-preserved c =
     let p = c.args in
     let l = c.loop-i in
-    let h : l.i < (format_of p.kind).count = omega (arith, count-is (goal.at.loop-i-preserved c).After-format_of-format) in (
-      omega arith,
-      all_piece_next (record_layout p.kind) (format_of p.kind).count (format_of p.kind).width p.b.now l.i h
-          (judged (goal.at.loop-i-preserved c).After-record_layout ∙ not-false _ c.if-not-record_layout.false-raw)
-          ∙ l.invariant.1,
-    )
+    let h : l.i < (format_of p.kind).count = omega (arith, count-is (goal.at.loop-i-preserved c).After-format_of-format) in
+    all_piece_next (record_layout p.kind) (format_of p.kind).count (format_of p.kind).width p.b.now l.i h
+    (judged (goal.at.loop-i-preserved c).After-record_layout ∙ not-false _ c.if-not-record_layout.false-raw)
+    ∙ l.invariant
 
 pub returns : goal.returns
 returns c =
     let p = c.args in
     let l = c.loop-i in
-    all-pieces-end (record_layout p.kind) (format_of p.kind).count (format_of p.kind).width p.b.now l.i (omega (arith, count-is (goal.at.returns c).After-format_of-format)) ∙ l.invariant.1
+    all-pieces-end (record_layout p.kind) (format_of p.kind).count (format_of p.kind).width p.b.now l.i (omega (arith, count-is (goal.at.returns c).After-format_of-format)) ∙ l.invariant

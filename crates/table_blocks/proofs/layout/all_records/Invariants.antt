@@ -1,5 +1,4 @@
 use mathlib.Core.Path.{◌≡◌}
-use Prim.Native.Nat.{◌-◌, ◌≤◌}
 use lib.ListN.{drop}
 use Rattle.octets.specs.Lists.{all}
 use Rattle.table.specs.Format.{format_of, records_in}
@@ -7,9 +6,4 @@ use Rattle.table_layout.specs.Layout.{record_layout}
 use Rattle.table_blocks.proofs.layout.all_records.Given as goal
 
 abbrev pub invariant-loop-i : goal.invariant-loop-i
-invariant-loop-i l =
-    (l.i ≤ (format_of l.kind).count)
-    × (all (record_layout l.kind) (drop l.i (records_in (format_of l.kind) l.b)) ≡ all (record_layout l.kind) (records_in (format_of l.kind) l.b))
-
-abbrev pub decreases-loop-i : goal.decreases-loop-i
-decreases-loop-i l = (format_of l.kind).count - l.i
+invariant-loop-i l = all (record_layout l.kind) (drop l.i (records_in (format_of l.kind) l.b)) ≡ all (record_layout l.kind) (records_in (format_of l.kind) l.b)

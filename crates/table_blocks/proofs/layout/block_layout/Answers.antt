@@ -6,6 +6,7 @@ unfolding block_layout
 returns c =
     rw (
       c.version_of.ensures,
+      c.eq.ensures,
       c.place_of-own.ensures,
       c.body_layout.ensures,
       c.kind_of.ensures,

@@ -17,9 +17,6 @@ judged : (c : After-block_layout)
     → block_layout (block_place c.loop-i.i) (block_at c.args.image.now (block_place c.loop-i.i)) ≡ c.block_layout.result
 judged c = ap (block_layout (block_place c.loop-i.i)) (sym c.block_at.ensures) ∙ sym c.block_layout.ensures
 
-pub loop-i-init : goal.loop-i-init
-loop-i-init c = (omega arith, refl)
-
 pub overflow_cast-place : goal.overflow_cast-place
 overflow_cast-place c = omega arith
 
@@ -30,21 +27,19 @@ returns-then-not-block_layout c =
     layouts_fail (block_place l.i) (block_at s (block_place l.i)) (drop (l.i + 1) (blocks_of s))
     (judged (goal.at.returns-then-not-block_layout c).After-block_layout ∙ not-true _ c.if-not-block_layout.true-raw)
     ∙ ap (layouts_from (block_place l.i)) (sym (blocks_step s l.i (omega arith)))
-    ∙ l.invariant.1
+    ∙ l.invariant
 
 pub loop-i-preserved : goal.loop-i-preserved
 loop-i-preserved c =
     let s = c.args.image.now in
-    let l = c.loop-i in (
-      omega arith,
-      layouts_next (block_place l.i) (block_at s (block_place l.i)) (drop (l.i + 1) (blocks_of s))
-          (judged (goal.at.loop-i-preserved c).After-block_layout ∙ not-false _ c.if-not-block_layout.false-raw)
-          ∙ ap (layouts_from (block_place l.i)) (sym (blocks_step s l.i (omega arith)))
-          ∙ l.invariant.1,
-    )
+    let l = c.loop-i in
+    layouts_next (block_place l.i) (block_at s (block_place l.i)) (drop (l.i + 1) (blocks_of s))
+    (judged (goal.at.loop-i-preserved c).After-block_layout ∙ not-false _ c.if-not-block_layout.false-raw)
+    ∙ ap (layouts_from (block_place l.i)) (sym (blocks_step s l.i (omega arith)))
+    ∙ l.invariant
 
 pub returns : goal.returns
 returns c =
     let s = c.args.image.now in
     let l = c.loop-i in
-    layouts_end (block_place l.i) ∙ ap (layouts_from (block_place l.i)) (sym (blocks_end s l.i (omega arith))) ∙ l.invariant.1
+    layouts_end (block_place l.i) ∙ ap (layouts_from (block_place l.i)) (sym (blocks_end s l.i (omega arith))) ∙ l.invariant

@@ -1,35 +1,32 @@
 use mathlib.Core.Path.{◌≡◌, refl, sym, ap, subst, ◌∙◌}
-use Prim.Native.Nat.{ℕ, ◌+◌, ◌-◌, ◌<◌}
+use mathlib.Core.List.{List}
+use Prim.Native.Nat.{ℕ, ◌<◌}
 use native.Mathlib.Omega.{arith}
-use lib.ListN.{length, drop}
-use Rattle.table_check.proofs.Laws.Step.{step_below, step_as_singly, grown-cut}
-use Rattle.octets.proofs.Laws.Lists.{cut_rest}
+use lib.ListN.{length, take, drop}
 use Rattle.octets.specs.Lists.{cut}
+use Rattle.table_check.proofs.Laws.Step.{step_below, step_as_singly, grown-cut}
 use Rattle.table_check.specs.declared.check.Check.{Check}
 use Rattle.table_check.specs.Step.{step}
 use Rattle.table_check.specs.Check.{grown, check_of_lem}
 use Rattle.table_check.proofs.check.check_of.Goals as goal
 
-pub loop-i-init : goal.loop-i-init
+pub loop-front-init : goal.loop-front-init
 unfolding check_of_lem
-loop-i-init c = (omega arith, omega arith, omega arith, refl)
+loop-front-init c = (omega arith, omega arith, refl)
 
-pub loop-i-preserved : goal.loop-i-preserved
-loop-i-preserved c =
-    let l = c.loop-i in
-    let s = c.args.octets.now in
-    let sixteen : l.i + 16 - l.i ≡ 16 = omega arith in
-    let q : c.step-check.result ≡ step l.check (cut s l.i 16) = c.step-check.ensures ∙ ap (λ (k : ℕ). step l.check (cut s l.i k)) sixteen in
-    let below = step_below l.check (cut s l.i 16) in (
-      omega arith,
+pub loop-front-preserved : goal.loop-front-preserved
+loop-front-preserved c =
+    let l = c.loop-front in
+    let s = l.left.now in
+    let parts = c.in-Some.ensures.cases in
+    let q : c.step-check.result ≡ step l.check (cut s 0 16) = c.step-check.ensures ∙ ap (step l.check) parts.1 in
+    let below = step_below l.check (cut s 0 16) in (
       subst (λ (k : Check). k.a < 65536) (sym q) below.0,
       subst (λ (k : Check). k.b < 65536) (sym q) below.1,
-      ap (λ (k : Check). grown k (drop (l.i + 16) s)) (q ∙ step_as_singly l.check (cut s l.i 16) l.invariant.1 l.invariant.2) ∙ grown-cut l.check s l.i 16 ∙ l.invariant.3,
+      ap (grown c.step-check.result) parts.2 ∙ ap (λ (k : Check). grown k (drop 16 s)) (q ∙ step_as_singly l.check (cut s 0 16) l.invariant.0 l.invariant.1) ∙ grown-cut l.check s 0 16 ∙ l.invariant.2,
     )
 
 pub returns : goal.returns
 returns c =
-    let l = c.loop-i in
-    let s = c.args.octets.now in
-    let rest : cut s l.i (length s - l.i) ≡ drop l.i s = cut_rest s l.i (length s - l.i) (omega arith) in
-    c.step.ensures ∙ ap (step l.check) rest ∙ step_as_singly l.check (drop l.i s) l.invariant.1 l.invariant.2 ∙ l.invariant.3
+    let l = c.loop-front in
+    c.step.ensures ∙ step_as_singly l.check l.left.now l.invariant.0 l.invariant.1 ∙ l.invariant.2

@@ -1,14 +1,16 @@
-use mathlib.Core.Option.{map}
-use mathlib.Core.Path.{ap, ◌∙◌}
-use Rattle.table.specs.Context.{context_of}
-use Rattle.table_lookup.specs.Lookup.{context_by_dns_name}
+use Rattle.std.proofs.Common.{rules, ap, ◌∙◌, option_map}
+use mathlib.Core.Bool.{Bool}
+use Rattle.table_find.specs.Find.{is_named_by}
+use Rattle.table.specs.Context.{Context, context_of}
 use Rattle.table_find.proofs.Laws.Find.{context_search}
+use Rattle.table_lookup.specs.Lookup.{context_by_dns_name}
 use Rattle.table_lookup.proofs.lookup.context_by_dns_name.Goals as goal
 
 pub returns : goal.returns
 unfolding context_by_dns_name
 returns c =
+    let p : Context → Bool = is_named_by c.args.name.now in
     record {
-      result_value = ap (map context_of) c.first_record.ensures.result_value ∙ context_search _ _ _;
+      result_value = ap (option_map context_of) (c.first_record.ensures.result_value (λ r. p (context_of r)) (λ r b says. search rules)) ∙ context_search _ p;
       lies_in = c.first_record.ensures.lies_in;
     }

@@ -1,14 +1,16 @@
-use mathlib.Core.Option.{map}
-use mathlib.Core.Path.{ap, ◌∙◌}
-use Rattle.table.specs.Context.{context_of}
-use Rattle.table_lookup.specs.Lookup.{context_by_sid}
+use Rattle.std.proofs.Common.{rules, ap, ◌∙◌, option_map}
+use mathlib.Core.Bool.{Bool}
+use Rattle.table_find.specs.Find.{holds_sid}
+use Rattle.table.specs.Context.{Context, context_of}
 use Rattle.table_find.proofs.Laws.Find.{context_search}
+use Rattle.table_lookup.specs.Lookup.{context_by_sid}
 use Rattle.table_lookup.proofs.lookup.context_by_sid.Goals as goal
 
 pub returns : goal.returns
 unfolding context_by_sid
 returns c =
+    let p : Context → Bool = holds_sid c.args.sid.now in
     record {
-      result_value = ap (map context_of) c.first_record.ensures.result_value ∙ context_search _ _ _;
+      result_value = ap (option_map context_of) (c.first_record.ensures.result_value (λ r. p (context_of r)) (λ r b says. search rules)) ∙ context_search _ p;
       lies_in = c.first_record.ensures.lies_in;
     }

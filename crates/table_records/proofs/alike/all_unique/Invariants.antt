@@ -1,12 +1,6 @@
-use mathlib.Core.Path.{◌≡◌}
-use Prim.Native.Nat.{◌-◌, ◌≤◌}
-use lib.ListN.{length, drop}
+use Rattle.std.proofs.Common.{◌≡◌, drop}
 use Rattle.octets.specs.Lists.{unique}
-use Rattle.table_records.specs.Internal.Alike.{alike_at}
 use Rattle.table_records.proofs.alike.all_unique.Given as goal
 
 abbrev pub invariant-loop-i : goal.invariant-loop-i
-invariant-loop-i l = let t = alike_at l.likeness l.image in (l.i ≤ length l.offsets) × (unique t (drop l.i l.offsets) ≡ unique t l.offsets)
-
-abbrev pub decreases-loop-i : goal.decreases-loop-i
-decreases-loop-i l = length l.offsets - l.i
+invariant-loop-i g l = let alike = g.R.Alike.alike l.records in unique alike (drop l.i l.offsets) ≡ unique alike l.offsets

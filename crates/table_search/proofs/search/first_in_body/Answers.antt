@@ -1,63 +1,48 @@
-use Prim.Native.Nat.{ℕ, ◌+◌, ◌*◌, ◌≤◌}
-use mathlib.Core.Bool.{true, false}
-use mathlib.Core.Option.{some}
-use mathlib.Core.Path.{◌≡◌, sym, ap, ◌∙◌}
-use native.Mathlib.Omega.{arith}
-use lib.ListN.{length, drop}
+use Rattle.std.proofs.Common.{◌≡◌, refl, sym, ap, subst, ◌∙◌, rules, true, false, ◌+◌, ◌*◌, ◌<◌, ◌≤◌, Some}
+use Rattle.octets.specs.Lists.{cut}
 use Rattle.table.specs.declared.record.RecordFormat.{RecordFormat}
-use Rattle.table.specs.Block.{body_size}
-use Rattle.table.proofs.Laws.Format.{format_fills}
-use Rattle.octets.specs.Lists.{first, cut, pieces}
-use Rattle.table_search.proofs.Laws.Search.{less_one, left-found, left-next, left_none, body_records}
-use Rattle.table_find.specs.Internal.Key.{kind_for, is_found_by}
+use Rattle.table.specs.Format.{format_of}
+use Rattle.table_find.specs.Internal.Search.{passes, first_in_body}
+use Rattle.table_search.proofs.Laws.Record.{record_there}
+use Rattle.table_search.proofs.Laws.Search.{passed, failed, unused_fails, found_there, left_next, left_none}
 use Rattle.table_search.proofs.search.first_in_body.Goals as goal
-use Rattle.table_search.proofs.search.first_in_body.Goals.{In-loop-left}
+use Rattle.table_search.proofs.search.first_in_body.Goals.{else-test-via-then-test+else-not-all_zero, else-test-via-else-test}
 
--- a whole record stands at the offset
-room : (c : In-loop-left)
-    → c.loop-left.offset + c.format_for-format.result.width ≤ length c.args.image.now
-room c = omega (arith, less_one c.loop-left.left c.format_for-format.result.width c.loop-left-test.true, c.loop-left.invariant.0)
+pub loop-i-init : goal.loop-i-init
+unfolding first_in_body
+loop-i-init g c = λ t says. refl
 
-pub loop-left-init : goal.loop-left-init
-loop-left-init c =
+pub returns-then-not-all_zero-clause-result_value : goal.returns-then-not-all_zero-clause-result_value
+returns-then-not-all_zero-clause-result_value g c = λ t says.
     let a = c.args in
-    let s = c.format_for-format.result in
-    let e = c.format_for-format.ensures in
-    let n : s.count * s.width ≡ body_size = ap (λ (f : RecordFormat). f.count * f.width) e ∙ format_fills (kind_for a.key) in (
-      omega arith,
-      ap (λ (f : RecordFormat). f.width) e,
-      ap (λ (f : RecordFormat). first (is_found_by a.key a.asked.now) (pieces f.count f.width (drop a.body a.image.now))) e ∙ body_records a.key a.asked.now a.image.now a.body,
-    )
+    let i = c.loop-i.i in
+    let r = c.part-octets.result.now in
+    let e = c.format_of-format.ensures in
+    let there : r ≡ record_there a.kind a.image.now a.body i = c.part-octets.ensures ∙ ap (λ (f : RecordFormat). cut a.image.now (a.body + f.width * i) f.width) e in
+    let told : c.test.result ≡ t r = says r c.test.result (search rules) in
+    let yes : passes t r ≡ true = passed t r c.test.result told c.all_zero.result c.all_zero.ensures c.if-not-all_zero.true c.if-test.true in
+    ap (λ (f : RecordFormat). Some (cut a.image.now (a.body + f.width * i) (format_of a.kind).width)) e
+    ∙ found_there a.kind t a.image.now a.body i (subst (λ (f : RecordFormat). i < f.count) e c.loop-i-test.true) (ap (passes t) (sym there) ∙ yes)
+    ∙ c.loop-i.invariant t says
 
-pub returns-then-is_found_by : goal.returns-then-is_found_by
-returns-then-is_found_by c =
+pub loop-i-preserved : goal.loop-i-preserved
+loop-i-preserved g c = λ t says.
     let a = c.args in
-    let l = c.loop-left in
-    let w = c.format_for-format.result.width in
-    let fits : l.offset + w ≤ length a.image.now = room (goal.at.returns-then-is_found_by c).In-loop-left in
-    let e : is_found_by a.key a.asked.now (cut a.image.now l.offset w) ≡ true = ap (is_found_by a.key a.asked.now) (sym c.part.ensures) ∙ sym c.is_found_by.ensures ∙ c.if-is_found_by.true in
-    record {
-      result_value = ap (λ (n : ℕ). some (cut a.image.now l.offset n)) (sym l.invariant.1) ∙ left-found (is_found_by a.key a.asked.now) a.image.now w l.left l.offset c.loop-left-test.true e ∙ l.invariant.2;
-      lies_in = omega (arith, l.invariant.1);
-    }
+    let i = c.loop-i.i in
+    let r = c.part-octets.result.now in
+    let e = c.format_of-format.ensures in
+    let there : r ≡ record_there a.kind a.image.now a.body i = c.part-octets.ensures ∙ ap (λ (f : RecordFormat). cut a.image.now (a.body + f.width * i) f.width) e in
+    let told : c.test.result ≡ t r = says r c.test.result (search rules) in
+    let no : passes t r ≡ false =
+    elim c.else-test.branch [
+      | else-test-via-then-test+else-not-all_zero w ↦ unused_fails t r w.all_zero.result w.all_zero.ensures w.if-not-all_zero.false
+      | else-test-via-else-test w ↦ failed t r c.test.result told w.if-test.false
+    ] in
+    left_next a.kind t a.image.now a.body i (subst (λ (f : RecordFormat). i < f.count) e c.loop-i-test.true) (ap (passes t) (sym there) ∙ no)
+    ∙ c.loop-i.invariant t says
 
-pub overflow_add-offset : goal.overflow_add-offset
-overflow_add-offset c = omega (arith, room (goal.at.overflow_add-offset c).In-loop-left)
-
-pub loop-left-preserved : goal.loop-left-preserved
-loop-left-preserved c =
+pub returns-clause-result_value : goal.returns-clause-result_value
+returns-clause-result_value g c = λ t says.
     let a = c.args in
-    let l = c.loop-left in
-    let w = c.format_for-format.result.width in
-    let t = c.loop-left-test.true in
-    let e : is_found_by a.key a.asked.now (cut a.image.now l.offset w) ≡ false = ap (is_found_by a.key a.asked.now) (sym c.part.ensures) ∙ sym c.is_found_by.ensures ∙ c.if-is_found_by.false in
-    (omega (arith, less_one l.left w t, l.invariant.0), l.invariant.1, left-next (is_found_by a.key a.asked.now) a.image.now w l.left l.offset t e ∙ l.invariant.2)
-
-pub returns : goal.returns
-returns c =
-    let a = c.args in
-    let l = c.loop-left in
-    record {
-      result_value = left_none _ _ _ l.left l.offset c.loop-left-test.false ∙ l.invariant.2;
-      lies_in = tt;
-    }
+    let i = c.loop-i.i in
+    left_none a.kind t a.image.now a.body i (subst (λ (f : RecordFormat). f.count ≤ i) c.format_of-format.ensures c.loop-i-test.false) ∙ c.loop-i.invariant t says

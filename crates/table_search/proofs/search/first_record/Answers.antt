@@ -1,49 +1,30 @@
-use Prim.Native.Nat.{◌≤◌}
-use native.Mathlib.Omega.{arith}
-use mathlib.Core.Option.{none, some}
-use mathlib.Core.Path.{refl, sym, ap, subst, ◌∙◌}
-use lib.ListN.{length}
+use Rattle.std.proofs.Common.{◌≡◌, sym, ap, subst, ◌∙◌, arith, List, ℕ, ◌≤◌, length, None, Some}
+use Rattle.table.specs.Block.{blocks_of}
+use Rattle.table_whole.specs.Judgement.{Accepted}
 use Rattle.table_whole.proofs.Laws.Judgement.{accepted_bounds}
+use Rattle.table_find.specs.Internal.Found.{record_found}
+use Rattle.table_find.specs.Internal.Search.{first_in}
 use Rattle.table_search.proofs.Laws.Search.{search_step, search_end}
-use Rattle.table_find.specs.Internal.Found.{record_found, LiesIn}
-use Rattle.table_find.specs.Internal.Key.{kind_for}
 use Rattle.table_search.proofs.search.first_record.Goals as goal
 
-pub loop-i-init : goal.loop-i-init
-loop-i-init c = refl
-
 pub overflow_cast-i : goal.overflow_cast-i
-overflow_cast-i c =
-    let s = c.args.image.now in
-    let most : length s ≤ 65536 = (accepted_bounds s c.requires).1 in
-    omega arith
+overflow_cast-i g c =
+    let s = c.octets-octets.result.now in
+    let most : length s ≤ 65536 = (accepted_bounds s (subst Accepted (sym c.octets-octets.ensures.same) c.octets-octets.ensures.accepted)).1 in
+    omega (arith, most)
 
-pub returns-in-At : goal.returns-in-At
-returns-in-At c =
+pub returns-in-Some-clause-result_value : goal.returns-in-Some-clause-result_value
+returns-in-Some-clause-result_value g c = λ t says.
     let a = c.args in
-    let l = c.loop-i in
-    let b = c.first_in_block in
-    let k = kind_for a.key in
-    let e = c.in-At.is in
-    record {
-      result_value = search_step a.key a.asked.now a.image.now l.i (some _) c.loop-i-test.true (ap (record_found a.image.now k) (sym e) ∙ b.ensures.result_value) ∙ l.invariant;
-      lies_in = subst (LiesIn a.image.now k) e b.ensures.lies_in;
-    }
+    let found = search_step a.kind t c.octets-octets.result.now c.loop-i.i (Some _) c.loop-i-test.true (c.in-Some.ensures.result_value t says) ∙ c.loop-i.invariant t says in
+    subst (λ (s : List ℕ). record_found s a.kind (Some c.in-Some.offset) ≡ first_in a.kind t (blocks_of s)) c.octets-octets.ensures.same found
 
 pub loop-i-preserved : goal.loop-i-preserved
-loop-i-preserved c =
-    let a = c.args in
-    let l = c.loop-i in
-    let b = c.first_in_block in
-    let k = kind_for a.key in
-    let e = c.in-Nothing.is in
-    search_step a.key a.asked.now a.image.now l.i none c.loop-i-test.true (ap (record_found a.image.now k) (sym e) ∙ b.ensures.result_value) ∙ l.invariant
+loop-i-preserved g c = λ t says.
+    search_step c.args.kind t c.octets-octets.result.now c.loop-i.i None c.loop-i-test.true (c.in_default.ensures.result_value t says) ∙ c.loop-i.invariant t says
 
-pub returns : goal.returns
-returns c =
+pub returns-clause-result_value : goal.returns-clause-result_value
+returns-clause-result_value g c = λ t says.
     let a = c.args in
-    let l = c.loop-i in
-    record {
-      result_value = search_end a.key a.asked.now a.image.now l.i c.loop-i-test.false ∙ l.invariant;
-      lies_in = tt;
-    }
+    search_end a.kind t c.octets-octets.result.now c.loop-i.i c.loop-i-test.false
+    ∙ c.loop-i.invariant t says ∙ ap (λ (s : List ℕ). first_in a.kind t (blocks_of s)) c.octets-octets.ensures.same

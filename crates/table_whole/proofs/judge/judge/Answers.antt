@@ -7,9 +7,6 @@ use Rattle.table_whole.proofs.judge.judge.Goals as goal
 pub returns-then-not-has_good_length : goal.returns-then-not-has_good_length
 returns-then-not-has_good_length c = judge_promised _ _ (refused-length _ (sym c.has_good_length.ensures ∙ not-true _ c.if-not-has_good_length.true-raw))
 
-pub good_checks-requires : goal.good_checks-requires
-good_checks-requires c = (length_bounds _ (sym c.has_good_length.ensures ∙ not-false _ c.if-not-has_good_length.false-raw)).1
-
 pub returns-then-not-good_checks : goal.returns-then-not-good_checks
 returns-then-not-good_checks c = judge_promised _ _ (refused_check _ (sym c.has_good_length.ensures ∙ not-false _ c.if-not-has_good_length.false-raw) (sym c.good_checks.ensures ∙ not-true _ c.if-not-good_checks.true-raw))
 

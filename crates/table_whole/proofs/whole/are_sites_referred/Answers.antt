@@ -13,5 +13,5 @@ returns c =
     let marks = s.args.marks.now in
     let own = c.own_site.ensures ∙ ap (λ (v : Server). v.site) c.server_of.ensures in
     ap₂ (λ (p q : Bool). p && q)
-    (ap₂ (λ (p q : Bool). p && q) (c.is_marked.ensures ∙ ap (is_marked marks) own ∙ s.requires.all_of.1.say _) (c.all_sites_refer.ensures ∙ sites_refer s.args.image.now s.args.sites.now s.requires.all_of.0 marks s.requires.all_of.1))
+    (ap₂ (λ (p q : Bool). p && q) (c.is_marked.ensures ∙ ap (is_marked marks) own ∙ s.requires.all_of.1 _) (c.all_sites_refer.ensures ∙ sites_refer s.args.image.now s.args.sites.now s.requires.all_of.0 marks s.requires.all_of.1))
     (c.all_subnets_refer.ensures ∙ subnets_refer_lem marks s.args.image.now s.requires.all_of.1)

@@ -1,4 +1,3 @@
-use borrow.Author.Rules.{rules}
 use native.Mathlib.Omega.{arith}
 use Rattle.transcode.proofs.Laws.Texts.{are_octets_lem}
 use Rattle.transcode.proofs.octet.first_octet.Goals as goal

@@ -1,4 +1,3 @@
-use borrow.Author.Rules.{rules}
 use native.Mathlib.Omega.{arith}
 use Rattle.transcode.proofs.Laws.Point16.{outside, inside, half_unit, plain_unit, low_unit_lem, high-alone, high-lone, pair_unit}
 use Rattle.transcode.proofs.point16.point16_at.Goals as goal

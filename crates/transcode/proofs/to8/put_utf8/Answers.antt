@@ -1,8 +1,7 @@
-use borrow.Author.Rules.{rules}
+use Rattle.std.proofs.Common.{Option, Some, unwrap_or}
 use mathlib.Core.Path.{◌≡◌, refl, sym, ap, ◌∙◌, subst}
 use mathlib.Core.List.{List, [], ◌++◌}
-use mathlib.Core.Option.{Option, some, get_or}
-use Prim.Native.Nat.{ℕ, ◌+◌, ◌-◌, ◌≤◌}
+use Prim.Native.Nat.{ℕ, ◌+◌, ◌≤◌}
 use native.Mathlib.Omega.{arith}
 use lib.ListN.{length, drop, length-take, length-drop, length-append}
 use Rattle.octets.specs.Buffer.{over}
@@ -40,10 +39,10 @@ module _ (c : After-put_point-arg-1) where
   fits : length before-it + length (utf8_of point) ≤ length (utf8_text text)
   fits = written_fits utf8_of before-it (utf8_text text) point (points_of16 (drop next text)) left
 
-pub returns-in-NoText : goal.returns-in-NoText
-returns-in-NoText c =
+pub returns-in_default : goal.returns-in_default
+returns-in_default c =
     let a = c.args in
-    let e : utf8_text a.s.now ≡ [] = ap (λ (x : Option (List ℕ)). get_or x []) (subst (SizeTold a.s.now) c.in-NoText.is c.utf8_size-told.ensures) in
+    let e : utf8_text a.s.now ≡ [] = ap (λ (x : Option (List ℕ)). unwrap_or x []) (subst (SizeTold a.s.now) c.in_default.is c.utf8_size.ensures) in
     record {
       value = sym (ap length e);
       out_after = sym (ap (λ (x : List ℕ). over x a.out.now) e ∙ over_none a.out.now);
@@ -53,8 +52,8 @@ pub loop-written-init : goal.loop-written-init
 unfolding utf8_from16
 loop-written-init c =
     let a = c.args in
-    let p = subst (SizeTold a.s.now) c.in-Takes.is c.utf8_size-told.ensures in
-    ([], omega arith, refl, refl, refl, sym (over_none a.out.now), sym (length-told (utf8_from16 a.s.now) (some c.in-Takes.size) p.0))
+    let p = subst (SizeTold a.s.now) c.in-Some.is c.utf8_size.ensures in
+    ([], omega arith, refl, refl, refl, sym (over_none a.out.now), sym (length-told (utf8_from16 a.s.now) (Some c.in-Some.size) p.0))
 
 pub returns-in-End : goal.returns-in-End
 returns-in-End c =

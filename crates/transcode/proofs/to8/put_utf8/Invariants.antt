@@ -1,17 +1,11 @@
-use borrow.Author.Rules.{rules}
-use mathlib.Core.Path.{◌≡◌, refl, sym, ap, ◌∙◌, subst}
-use mathlib.Core.List.{List, [], ◌++◌}
-use mathlib.Core.Option.{Option, some, get_or}
-use Prim.Native.Nat.{ℕ, ◌+◌, ◌-◌, ◌≤◌}
-use native.Mathlib.Omega.{arith}
-use lib.ListN.{length, drop, length-take, length-drop, length-append}
+use mathlib.Core.Path.{◌≡◌}
+use mathlib.Core.List.{List, ◌++◌}
+use Prim.Native.Nat.{ℕ, ◌-◌, ◌≤◌}
+use lib.ListN.{length, drop}
 use Rattle.octets.specs.Buffer.{over}
-use Rattle.octets.proofs.Laws.Buffer.{over_none, over-length, over_lent}
-use Rattle.unicode_text.specs.declared.utf8.PointAt.TheVariants.{Point}
-use Rattle.unicode_text.specs.{Utf8.utf8_of, Utf16.points_of16, Utf16.utf8_from16}
-use Rattle.transcode.specs.Internal.{Point16.PointRead16, Text8.utf8_text, Text8.SizeTold}
-use Rattle.transcode.proofs.Laws.Point16.{end-points}
-use Rattle.unicode_text.proofs.Laws.Writing.{octets_left, left_end, written_all, written_enough, written_next, written_fits, length-told}
+use Rattle.unicode_text.specs.{Utf8.utf8_of, Utf16.points_of16}
+use Rattle.transcode.specs.Internal.{Text8.utf8_text}
+use Rattle.unicode_text.proofs.Laws.Writing.{octets_left}
 use Rattle.transcode.proofs.to8.put_utf8.Given as goal
 
 abbrev pub invariant-loop-written : goal.invariant-loop-written

@@ -1,7 +1,5 @@
-use borrow.Author.Rules.{rules}
-use mathlib.Core.Path.{◌≡◌, sym, ap, ◌∙◌, subst}
-use mathlib.Core.Option.{map, map-eq-none_iff}
-use Prim.Native.Nat.{◌*◌, ◌-◌, ◌≤◌}
+use mathlib.Core.Path.{sym, ap, ◌∙◌, subst}
+use Rattle.octets.proofs.Laws.Option.{mapped_none}
 use native.Mathlib.Omega.{arith}
 use lib.ListN.{length, drop}
 use Rattle.unicode_text.specs.{Utf8.utf8_of, Utf16.points_of16, Utf16.utf8_from16}
@@ -27,7 +25,7 @@ returns-in-Bad c =
     let s = c.args.s.now in
     let l = c.loop-point in
     let p = subst (PointRead16 s l.at) c.in-Bad.is c.point16_at-here.ensures in
-    (map-eq-none_iff length (utf8_from16 s)).0 (sym l.invariant.2 ∙ ap (size_left utf8_of l.size) p)
+    mapped_none length (utf8_from16 s) (sym l.invariant.2 ∙ ap (size_left utf8_of l.size) p)
 
 pub loop-point-smaller : goal.loop-point-smaller
 loop-point-smaller c =

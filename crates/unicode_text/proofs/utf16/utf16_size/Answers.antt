@@ -1,6 +1,6 @@
+use Rattle.std.proofs.Common.{option_map, None, Some}
 use borrow.Author.Rules.{rules}
 use mathlib.Core.Path.{◌≡◌, sym, ap, ◌∙◌, subst}
-use mathlib.Core.Option.{map, none, some}
 use Prim.Native.Nat.{◌*◌, ◌-◌, ◌≤◌}
 use native.Mathlib.Omega.{arith}
 use lib.ListN.{length, drop}
@@ -20,7 +20,7 @@ returns-in-End c =
     let s = c.args.s.now in
     let l = c.loop-point in
     let p = subst (PointRead s l.at) c.in-End.is c.point_at-here.ensures in
-    (sym (length-told (map points_octets (points s)) (some l.size) (sym l.invariant.2 ∙ size-end point_octets l.size (points (drop l.at s)) (end-points s l.at p))), omega arith)
+    (sym (length-told (option_map points_octets (points s)) (Some l.size) (sym l.invariant.2 ∙ size-end point_octets l.size (points (drop l.at s)) (end-points s l.at p))), omega arith)
 
 pub returns-in-Bad : goal.returns-in-Bad
 unfolding utf16
@@ -28,7 +28,7 @@ returns-in-Bad c =
     let s = c.args.s.now in
     let l = c.loop-point in
     let p = subst (PointRead s l.at) c.in-Bad.is c.point_at-here.ensures in
-    (sym (length-told (map points_octets (points s)) none (sym l.invariant.2 ∙ ap (size_left point_octets l.size) p.0)), omega arith)
+    (sym (length-told (option_map points_octets (points s)) None (sym l.invariant.2 ∙ ap (size_left point_octets l.size) p.0)), omega arith)
 
 pub loop-point-smaller : goal.loop-point-smaller
 loop-point-smaller c =

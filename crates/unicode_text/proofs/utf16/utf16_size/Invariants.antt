@@ -1,6 +1,6 @@
+use Rattle.std.proofs.Common.{option_map, None, Some}
 use borrow.Author.Rules.{rules}
 use mathlib.Core.Path.{◌≡◌, sym, ap, ◌∙◌, subst}
-use mathlib.Core.Option.{map, none, some}
 use Prim.Native.Nat.{◌*◌, ◌-◌, ◌≤◌}
 use native.Mathlib.Omega.{arith}
 use lib.ListN.{length, drop}
@@ -12,7 +12,7 @@ use Rattle.unicode_text.proofs.Laws.Writing.{size_left, size-start, size-next, s
 use Rattle.unicode_text.proofs.utf16.utf16_size.Given as goal
 
 abbrev pub invariant-loop-point : goal.invariant-loop-point
-invariant-loop-point l = (l.at ≤ length l.s) × (l.size ≤ 4 * l.at) × (size_left point_octets l.size (points (drop l.at l.s)) ≡ map length (map points_octets (points l.s)))
+invariant-loop-point l = (l.at ≤ length l.s) × (l.size ≤ 4 * l.at) × (size_left point_octets l.size (points (drop l.at l.s)) ≡ option_map length (option_map points_octets (points l.s)))
 
 abbrev pub decreases-loop-point : goal.decreases-loop-point
 decreases-loop-point l = length l.s - l.at

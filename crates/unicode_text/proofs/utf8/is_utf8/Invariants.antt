@@ -1,9 +1,9 @@
+use Rattle.std.proofs.Common.{is_some}
 use mathlib.Core.Path.{◌≡◌, refl, sym, ap, ◌∙◌, subst}
 use Prim.Native.Nat.{◌-◌, ◌≤◌}
 use native.Mathlib.Omega.{arith}
 use borrow.Author.Rules.{rules}
 use lib.ListN.{length, drop}
-use Rattle.octets.specs.Lists.{is_some}
 use Rattle.unicode_text.specs.Utf8.{points, is_utf8}
 use Rattle.unicode_text.specs.Internal.Point.{PointRead}
 use Rattle.unicode_text.proofs.Laws.Point.{end-points, some_more}

@@ -1,51 +1,28 @@
-use mathlib.Core.Path.{refl, sym, ap, ◌∙◌}
-use Prim.Native.Nat.{◌+◌, ◌≤◌}
+use mathlib.Core.Path.{sym, ◌∙◌}
 use native.Mathlib.Omega.{arith}
 use lib.ListN.{get_or}
-use Rattle.filter_position.specs.Internal.Position.{tagged_as}
-use Rattle.filter_position.proofs.Laws.Position.{element-short, element_known, element-unknown, ends-past, ends-within}
+use Rattle.filter_position.proofs.Laws.Position.{element-short, element_known, element_unknown, ends-past, ends-within}
 use Rattle.filter_position.proofs.position.Position.element.Goals as goal
 
-pub returns-then-end-at-lt2 : goal.returns-then-end-at-lt2
-returns-then-end-at-lt2 c =
-    let p = c.args in
-    record {
-      value = sym (ap (tagged_as p.self.end) (element-short p.s.now p.self.at p.self.end (omega arith)));
-      tagged_within = tt;
-    }
+pub returns-then-end-at-lt2-clause-value : goal.returns-then-end-at-lt2-clause-value
+returns-then-end-at-lt2-clause-value c = sym (element-short c.args.s.now c.args.self.at c.args.self.end (omega arith))
 
-pub returns-in_default : goal.returns-in_default
-returns-in_default c =
+pub returns-in_err-contents-clause-value : goal.returns-in_err-contents-clause-value
+returns-in_err-contents-clause-value c =
     let p = c.args in
-    let e = sym c.length_at.ensures.value ∙ c.in_default.is in
-    record {
-      value = sym (ap (tagged_as p.self.end) (element-unknown p.s.now p.self.at p.self.end (omega arith) e));
-      tagged_within = tt;
-    }
+    c.from_residual.ensures ∙ sym (element_unknown p.s.now p.self.at p.self.end (omega arith) (sym c.in_err-contents.ensures.value))
 
-pub overflow_sub-end-2 : goal.overflow_sub-end-2
-overflow_sub-end-2 c =
-    let w = rw c.in-Of.is at c.length_at.ensures.length_within in
-    omega arith
-
-pub returns-then-end-start : goal.returns-then-end-start
-returns-then-end-start c =
+pub returns-then-end-start-clause-value : goal.returns-then-end-start-clause-value
+returns-then-end-start-clause-value c =
     let p = c.args in
-    let e = sym c.length_at.ensures.value ∙ c.in-Of.is in
-    let h : p.self.at + 2 ≤ p.self.end = omega arith in
-    record {
-      value = sym (ap (tagged_as p.self.end) (element_known p.s.now p.self.at p.self.end c.in-Of.start c.in-Of.len h e ∙ ends-past (get_or p.s.now p.self.at 0) c.in-Of.start c.in-Of.len p.self.end (omega arith)));
-      tagged_within = tt;
-    }
+    let n = c.in_ok-contents.contents in
+    sym
+    (element_known p.s.now p.self.at p.self.end n.start n.len (omega arith) (sym c.in_ok-contents.ensures.value) ∙ ends-past (get_or p.s.now p.self.at 0) n.start n.len p.self.end (omega arith))
 
-pub returns : goal.returns
-returns c =
+pub returns-clause-value : goal.returns-clause-value
+returns-clause-value c =
     let p = c.args in
-    let e = sym c.length_at.ensures.value ∙ c.in-Of.is in
-    let w = rw c.in-Of.is at c.length_at.ensures.length_within in
-    let h : p.self.at + 2 ≤ p.self.end = omega arith in
-    let l : c.in-Of.start + c.in-Of.len ≤ p.self.end = omega arith in
-    record {
-      value = sym (ap (tagged_as p.self.end) (element_known p.s.now p.self.at p.self.end c.in-Of.start c.in-Of.len h e ∙ ends-within (get_or p.s.now p.self.at 0) c.in-Of.start c.in-Of.len p.self.end l));
-      tagged_within = (w.0, omega arith, refl, l, refl);
-    }
+    let n = c.in_ok-contents.contents in
+    let w = c.in_ok-contents.ensures.contents_within in
+    sym
+    (element_known p.s.now p.self.at p.self.end n.start n.len (omega arith) (sym c.in_ok-contents.ensures.value) ∙ ends-within (get_or p.s.now p.self.at 0) n.start n.len p.self.end (omega arith))

@@ -1,58 +1,28 @@
 use mathlib.Core.Path.{sym, ◌∙◌}
-use native.Mathlib.Omega.{arith}
-use Rattle.filter_position.proofs.Laws.Position.{filter_none, filter-clause, filter_wrong, filter_other, filter_and}
+use borrow.Author.Tests.{eq-eqb, ne_eqb}
+use Rattle.filter_position.specs.Internal.Position.{filter_in, filter_at}
 use Rattle.filter_position.proofs.position.Position.filter.Goals as goal
 
-pub returns-in_default : goal.returns-in_default
-returns-in_default c =
-    let p = c.args in
-    record {
-      value = sym (filter_none p.s.now p.self.at p.self.end (sym c.element.ensures.value ∙ c.in_default.is));
-      read_within = tt;
-    }
+pub returns-in_err-element-clause-value : goal.returns-in_err-element-clause-value
+unfolding filter_at
+returns-in_err-element-clause-value c = c.from_residual.ensures ∙ rw (filter_at, sym c.in_err-element.ensures.value)
 
-pub equality-requires : goal.equality-requires
-equality-requires c =
-    let w = rw c.in-Element.is at c.element.ensures.tagged_within in
-    omega arith
+pub returns-in_err-clause-clause-value : goal.returns-in_err-clause-clause-value
+unfolding filter_in filter_at
+returns-in_err-clause-clause-value c =
+    c.from_residual-in_err-clause.ensures ∙ rw (filter_at, sym c.in_ok-element.ensures.value, filter_in, eq-eqb _ _ c.if-element.true, sym c.in_err-clause.ensures.value)
 
-pub returns-in_default-equality : goal.returns-in_default-equality
-returns-in_default-equality c =
-    let p = c.args in
-    let e = sym c.element.ensures.value ∙ c.in-Element.is in
-    let f = sym c.equality.ensures.value ∙ c.in_default-equality.is in
-    record {
-      value = sym (filter_wrong p.s.now p.self.at p.self.end c.in-Element.tag c.in-Element.inside c.in-Element.rest e c.if-tag.true f);
-      read_within = tt;
-    }
+pub returns-then-element-clause-value : goal.returns-then-element-clause-value
+unfolding filter_in filter_at
+returns-then-element-clause-value c =
+    rw (filter_at, sym c.in_ok-element.ensures.value, filter_in, eq-eqb _ _ c.if-element.true, sym c.in_ok-clause.ensures.value)
 
-pub returns-then-tag : goal.returns-then-tag
-returns-then-tag c =
-    let p = c.args in
-    let e = sym c.element.ensures.value ∙ c.in-Element.is in
-    let f = sym c.equality.ensures.value ∙ c.in-Clause.is in
-    let w = rw c.in-Element.is at c.element.ensures.tagged_within in
-    let i = rw c.in-Clause.is at c.equality.ensures.equality_within in
-    record {
-      value = sym (filter-clause p.s.now p.self.at p.self.end c.in-Element.tag c.in-Element.inside c.in-Element.rest e c.in-Clause.clause c.if-tag.true f);
-      read_within = (omega arith, w.3, w.4, (i.0, omega arith, omega arith));
-    }
+pub returns-then-element-2-clause-value : goal.returns-then-element-2-clause-value
+unfolding filter_in filter_at
+returns-then-element-2-clause-value c =
+    rw (filter_at, sym c.in_ok-element.ensures.value, filter_in, ne_eqb _ _ c.if-element.false, ne_eqb _ _ c.if-element-2.true)
 
-pub returns-then-tag-2 : goal.returns-then-tag-2
-returns-then-tag-2 c =
-    let p = c.args in
-    let e = sym c.element.ensures.value ∙ c.in-Element.is in
-    record {
-      value = sym (filter_other p.s.now p.self.at p.self.end c.in-Element.tag c.in-Element.inside c.in-Element.rest e c.if-tag.false c.if-tag-2.true);
-      read_within = tt;
-    }
-
-pub returns : goal.returns
-returns c =
-    let p = c.args in
-    let e = sym c.element.ensures.value ∙ c.in-Element.is in
-    let w = rw c.in-Element.is at c.element.ensures.tagged_within in
-    record {
-      value = sym (filter_and p.s.now p.self.at p.self.end c.in-Element.tag c.in-Element.inside c.in-Element.rest e c.if-tag-2.false);
-      read_within = (omega arith, w.3, w.4, (w.1, omega arith));
-    }
+pub returns-clause-value : goal.returns-clause-value
+unfolding filter_in filter_at
+returns-clause-value c =
+    rw (filter_at, sym c.in_ok-element.ensures.value, filter_in, ne_eqb _ _ c.if-element.false, eq-eqb _ _ c.if-element-2.false)

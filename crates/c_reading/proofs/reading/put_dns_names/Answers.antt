@@ -1,9 +1,0 @@
-use Rattle.c_reading.proofs.reading.put_dns_names.Goals as goal
-
-pub returns : goal.returns
-returns c =
-    rw (
-      c.put_name-3.ensures,
-      c.put_name-2.ensures,
-      c.put_name.ensures,
-    )

@@ -1,0 +1,64 @@
+// Octets as hex digits, two for each.
+ghost use Rattle.std.specs.Char.{digit_value};
+ghost use Rattle.std.specs.Prelude.{◌≡◌, ◌+◌, ◌*◌, ◌<◌, IfOk, IfSome, SomeIff, length, vec_len};
+
+use std::alloc::{AllocError, Global};
+use std::fmt;
+use std::fmt::Display;
+
+// Octets, shown in lowercase digits.
+#[derive(Clone, Copy)]
+pub struct Hex<'a>(pub &'a [u8]);
+
+impl Display for Hex<'_> {
+    fn fmt<W: fmt::Write>(&self, f: &mut fmt::Formatter<W>) -> fmt::Result {
+        for octet in self.0 {
+            write!(f, "{octet:02x}")?;
+        }
+        Ok(())
+    }
+}
+
+// The octet that two digits of either case stand for.
+pub fn hex_octet(high: u8, low: u8) -> Option<u8>
+    ensures { SomeIff result ((digit_value high < 16) × (digit_value low < 16)) (digit_value high * 16 + digit_value low) }
+{
+    let high = char::from(high).to_digit(16)?;
+    let low = char::from(low).to_digit(16)?;
+    Some((high * 16 + low) as u8)
+}
+
+// The octets that digits stand for; nothing where some octet is no digit, or one digit is left over.
+pub fn hex_octets(alloc: Global, text: &[u8]) -> Result<Option<Vec<u8>>, AllocError>
+    ensures { IfOk result (λ found. IfSome found (λ octets. 2 * vec_len octets ≡ length text.now)) }
+{
+    let (pairs, rest) = text.as_chunks::<2>();
+    if !rest.is_empty() {
+        return Ok(None);
+    }
+    let mut octets = Vec::with_capacity(alloc, pairs.len())?;
+    for [high, low] in pairs {
+        let Some(octet) = hex_octet(*high, *low) else {
+            return Ok(None);
+        };
+        octets.push(octet)?;
+    }
+    Ok(Some(octets))
+}
+
+#[cfg(test)]
+mod tests {
+    use super::*;
+    use std::test::Fail;
+
+    #[test]
+    fn digits_and_octets(rt: HostRuntime) -> Result<(), Fail> {
+        let octets = hex_octets(rt.alloc(), b"00a5Ff")?;
+        assert_eq!(rt; octets.as_deref(), Some([0, 0xA5, 0xFF].as_slice()));
+        let text = format!(in rt.alloc(); "{}", Hex(&[0, 0xA5, 0xFF]))?;
+        assert_eq!(rt; text.as_str(), "00a5ff");
+        assert_eq!(rt; hex_octets(rt.alloc(), b"0")?.is_none(), true);
+        assert_eq!(rt; hex_octets(rt.alloc(), b"0g")?.is_none(), true);
+        Ok(())
+    }
+}
