@@ -3,10 +3,9 @@ ghost use Rattle.std.specs.Char.{digit_value};
 ghost use Rattle.std.specs.Prelude.{◌≡◌, ◌+◌, ◌*◌, ◌<◌, IfOk, IfSome, SomeIff, length, vec_len};
 
 use std::alloc::{AllocError, Global};
-use std::fmt;
 use std::fmt::Display;
-use std::io;
 use std::io::Write;
+use std::{fmt, io};
 
 // How many octets are shown at a time: formatting each by itself takes a hundred times as long.
 const PART: usize = 128;
