@@ -3,7 +3,8 @@ use crate::escape::{EscapeError, unescape};
 use crate::number::number_of;
 use crate::word::split_word;
 use console::source::append;
-use filter::request::{CLAUSE_NAMES, ClauseName, Request, spelling_of};
+use filter::request::{ClauseName, Request};
+use filter_gather::gather::name_of;
 use std::alloc::{AllocError, Global};
 use std::fmt;
 use std::fmt::Display;
@@ -55,13 +56,6 @@ impl From<AllocError> for ClauseError {
     fn from(_error: AllocError) -> ClauseError {
         ClauseError::OutOfMemory
     }
-}
-
-fn name_of(text: &[u8]) -> Option<ClauseName> {
-    CLAUSE_NAMES
-        .iter()
-        .copied()
-        .find(|name| text.eq_ignore_ascii_case(spelling_of(*name)))
 }
 
 // A number is four octets, the least significant first. One may be given as octets too: with \hh in front, or none at all.

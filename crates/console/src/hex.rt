@@ -3,20 +3,50 @@ ghost use Rattle.std.specs.Char.{digit_value};
 ghost use Rattle.std.specs.Prelude.{◌≡◌, ◌+◌, ◌*◌, ◌<◌, IfOk, IfSome, SomeIff, length, vec_len};
 
 use std::alloc::{AllocError, Global};
-use std::fmt;
 use std::fmt::Display;
+use std::io::Write;
+use std::{fmt, io};
+
+// How many octets are shown at a time: formatting each by itself takes a hundred times as long.
+const PART: usize = 128;
+
+const DIGITS: [u8; 16] = *b"0123456789abcdef";
 
 // Octets, shown in lowercase digits.
 #[derive(Clone, Copy)]
 pub struct Hex<'a>(pub &'a [u8]);
 
+// The digits of no more than PART octets.
+fn digits_of(octets: &[u8]) -> [u8; 256] {
+    let mut digits = [0; 256];
+    for i in 0..octets.len().min(PART) {
+        let octet = octets[i];
+        digits[2 * i] = DIGITS[(octet / 16) as usize];
+        digits[2 * i + 1] = DIGITS[(octet % 16) as usize];
+    }
+    digits
+}
+
 impl Display for Hex<'_> {
     fn fmt<W: fmt::Write>(&self, f: &mut fmt::Formatter<W>) -> fmt::Result {
-        for octet in self.0 {
-            write!(f, "{octet:02x}")?;
+        for octets in self.0.chunks(PART) {
+            let digits = digits_of(octets);
+            let Ok(text) = str::from_utf8(&digits[..2 * octets.len().min(PART)]) else {
+                return Err(fmt::Error);
+            };
+            f.write_str(text)?;
         }
         Ok(())
     }
+}
+
+// The same to a stream, which takes octets as they are: a Formatter wants them held to be text, which takes twice the time.
+pub fn say_hex<W: Write>(to: &mut W, octets: &[u8]) -> io::Result<()> {
+    for octets in octets.chunks(PART) {
+        let digits = digits_of(octets);
+        to.write_all(&digits[..2 * octets.len().min(PART)])?;
+    }
+    Ok(())
 }
 
 // The octet that two digits of either case stand for.

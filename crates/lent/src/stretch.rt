@@ -1,6 +1,8 @@
 // Stretches of two slices that are lent together.
 ghost use Rattle.std.specs.Prelude.{◌≤◌};
 
+pub use crate::slices::slot_text;
+
 // Which of the two a stretch lies in: the table image, or the octets that the ping came in.
 #[derive(Clone, Copy)]
 pub enum Lender {

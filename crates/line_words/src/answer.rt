@@ -1,21 +1,16 @@
 // The words of an answer.
 use answers::{Refusal, number_in};
-use console::hex::Hex;
+use console::hex::{Hex, say_hex};
 use std::fmt::Display;
 use std::io::Write;
 use std::{fmt, io};
 
 // Octets as a word: none at all is `-`.
-#[derive(Clone, Copy)]
-pub struct Octets<'a>(pub &'a [u8]);
-
-impl Display for Octets<'_> {
-    fn fmt<W: fmt::Write>(&self, f: &mut fmt::Formatter<W>) -> fmt::Result {
-        if self.0.is_empty() {
-            return write!(f, "-");
-        }
-        write!(f, "{}", Hex(self.0))
+pub fn say_octets<W: Write>(to: &mut W, octets: &[u8]) -> io::Result<()> {
+    if octets.is_empty() {
+        return write!(to, "-");
     }
+    say_hex(to, octets)
 }
 
 // A text as a word: `=` and two digits for each octet.
@@ -42,5 +37,6 @@ pub fn say_written<W: Write>(
 ) -> io::Result<()> {
     let number = number_in(&written);
     let length = written.unwrap_or(0);
-    write!(to, "{kind} {number} {length} {}", Octets(out))
+    write!(to, "{kind} {number} {length} ")?;
+    say_octets(to, out)
 }

@@ -65,13 +65,30 @@ pub fn number_of(word: &str) -> Option<u64>
     word.parse().ok()
 }
 
-// The buffer that a word lends to a call, by its room: A5h in every octet.
-pub fn buffer_of(alloc: Global, room: &str) -> Result<Option<Vec<u8>>, AllocError>
+// The room that a word gives a buffer.
+pub fn room_of(word: &str) -> Option<usize>
+    ensures { IfSome result (λ room. room ≤ 4096) }
+{
+    match number_of(word) {
+        Some(room) if room <= MOST_ROOM => Some(room as usize),
+        _ => None,
+    }
+}
+
+// A buffer of A5h in every octet.
+pub fn filled(alloc: Global, room: usize) -> Result<Vec<u8>, AllocError>
+    ensures { IfOk result (λ buffer. vec_len buffer ≡ room) }
+{
+    vec![in alloc; 0xA5; room]
+}
+
+// The buffer that a word lends to a call.
+pub fn buffer_of(alloc: Global, word: &str) -> Result<Option<Vec<u8>>, AllocError>
     ensures { IfOk result (λ lent. IfSome lent (λ buffer. vec_len buffer ≤ 4096)) }
 {
-    match number_of(room) {
-        Some(room) if room <= MOST_ROOM => Ok(Some(vec![in alloc; 0xA5; room as usize]?)),
-        _ => Ok(None),
+    match room_of(word) {
+        Some(room) => Ok(Some(filled(alloc, room)?)),
+        None => Ok(None),
     }
 }
 

@@ -11,7 +11,8 @@ use lent::slices::Lent;
 use reply::raw::RawReply;
 use reply_plan::plan::plan_reply;
 
-// The length of a reply, or 19.
+// The length of a reply, or 19. Not inlined: its plan would lie under the comparison of accounts, where the stack is deepest.
+#[inline(never)]
 pub fn fit_reply<'a>(
     out: &mut [u8],
     lent: Lent<'a>,

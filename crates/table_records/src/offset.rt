@@ -43,13 +43,22 @@ fn kind_offsets(image: &[u8], format: &RecordFormat, out: &mut [u16]) -> usize
     count
 }
 
-// The offsets of the used records of a kind, put at the start of out.
-pub fn offsets_of<'a>(image: &[u8], kind: RecordKind, out: &'a mut [u16]) -> &'a mut [u16]
+// Puts the offsets of the used records of a kind at the start of out, and gives back how many there are.
+pub fn offsets_of(image: &[u8], kind: RecordKind, out: &mut [u16]) -> usize
+    requires { (length image.now ≤ image_most) × ((format_of kind).count * blocks_most ≤ length out.old) }
+    ensures out_after { records_at image.now (format_of kind).width (take result out.new) ≡ records_of kind (blocks_of image.now) }
+    ensures upper_bound { result ≤ (format_of kind).count * blocks_most }
+{
+    let format = format_of(kind);
+    kind_offsets(image, &format, out)
+}
+
+// The part of out that they fill.
+pub fn offsets_in<'a>(image: &[u8], kind: RecordKind, out: &'a mut [u16]) -> &'a mut [u16]
     requires { (length image.now ≤ image_most) × ((format_of kind).count * blocks_most ≤ length out.old) }
     ensures records { records_at image.now (format_of kind).width result.now ≡ records_of kind (blocks_of image.now) }
     ensures upper_bound { length result.now ≤ (format_of kind).count * blocks_most }
 {
-    let format = format_of(kind);
-    let count = kind_offsets(image, &format, out);
+    let count = offsets_of(image, kind, out);
     &mut out[..count]
 }

@@ -10,7 +10,7 @@ use table::block::BLOCKS_MOST;
 use table::record::RecordKind;
 use table::{account, context, server, site, subnet};
 use table_records::alike::{Contexts, all_unique};
-use table_records::offset::offsets_of;
+use table_records::offset::offsets_in;
 use table_refer::mark::{Marks, mark_sites};
 use table_refer::refer::{all_sites_refer, all_subnets_refer, are_in_contexts, has_context};
 use table_unique::unique::{are_accounts_unique, are_networks_unique};
@@ -35,7 +35,7 @@ fn good_accounts_of(image: &[u8], contexts: &[u16]) -> bool
     ensures { result ≡ good_accounts (table_from image.now) }
 {
     let mut room: [u16; ACCOUNTS_MOST] = [0; ACCOUNTS_MOST];
-    let accounts = offsets_of(image, RecordKind::Account, &mut room);
+    let accounts = offsets_in(image, RecordKind::Account, &mut room);
     are_accounts_good(image, accounts, contexts)
 }
 
@@ -59,7 +59,7 @@ fn is_context_half_good(image: &[u8]) -> bool
     ensures { result ≡ context_half (table_from image.now) }
 {
     let mut room: [u16; CONTEXTS_MOST] = [0; CONTEXTS_MOST];
-    let contexts = offsets_of(image, RecordKind::Context, &mut room);
+    let contexts = offsets_in(image, RecordKind::Context, &mut room);
     let count = contexts.len();
     if count == 0 {
         return false;
@@ -98,7 +98,7 @@ fn is_site_half_good(image: &[u8]) -> bool
     ensures { result ≡ site_half (table_from image.now) }
 {
     let mut room: [u16; SITES_MOST] = [0; SITES_MOST];
-    let sites = offsets_of(image, RecordKind::Site, &mut room);
+    let sites = offsets_in(image, RecordKind::Site, &mut room);
     let count = sites.len();
     if count == 0 {
         return false;
@@ -112,7 +112,7 @@ fn are_subnets_unique(image: &[u8]) -> bool
     ensures { result ≡ subnets_unique (table_from image.now).subnets }
 {
     let mut room: [u16; subnet::MOST] = [0; subnet::MOST];
-    let subnets = offsets_of(image, RecordKind::Subnet, &mut room);
+    let subnets = offsets_in(image, RecordKind::Subnet, &mut room);
     are_networks_unique(image, subnets)
 }
 

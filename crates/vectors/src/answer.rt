@@ -57,12 +57,16 @@ fn answer_words<W: Write>(to: &mut W, words: &[&str], image: &mut Vec<u8>) -> io
     }
 }
 
-// No kind of line has an octet that is not ASCII.
+// No kind of line has an octet that is not ASCII, nor more words than this: what is behind them is left in one piece more.
+const WORDS_MOST: usize = 10;
+
 fn answer_text<W: Write>(to: &mut W, line: &[u8], image: &mut Vec<u8>) -> io::Result<()> {
     let Ok(text) = str::from_utf8(line) else {
         return say_unknown(to);
     };
-    let words: Vec<&str> = text.split(' ').collect(*image.allocator())?;
+    let words: Vec<&str> = text
+        .splitn(WORDS_MOST + 1, ' ')
+        .collect(*image.allocator())?;
     answer_words(to, &words, image)
 }
 
@@ -75,5 +79,7 @@ pub fn answer_line<W: Write>(to: &mut W, line: &[u8], image: &mut Vec<u8>) -> io
     } else {
         answer_text(to, line, image)?;
     }
-    writeln!(to)
+    // Each answer is out before the next line is read. A LineWriter would look at every octet for this.
+    writeln!(to)?;
+    to.flush()
 }

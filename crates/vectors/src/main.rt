@@ -8,10 +8,10 @@ mod ping_lines;
 mod write;
 
 use std::io;
-use std::io::LineWriter;
+use std::io::BufWriter;
 
 fn main(rt: HostRuntime) -> io::Result<()> {
     let alloc = rt.alloc();
-    let mut to = LineWriter::new(alloc, rt.stdout())?;
+    let mut to = BufWriter::new(alloc, rt.stdout())?;
     input::answer_all(alloc, rt.stdin(), &mut to)
 }

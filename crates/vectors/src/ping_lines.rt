@@ -1,6 +1,6 @@
 // `ping` and `mailping` lines: the standing image's answer to a client's filter, or to its mailslot message.
 use answers::{Form, Refusal, number_of};
-use line_words::answer::{Octets, say_unknown};
+use line_words::answer::{say_octets, say_unknown};
 use line_words::word::{bits_of, buffer_of, octets_of};
 use locator::Answered;
 use locator::ping::answer_ping;
@@ -25,16 +25,16 @@ fn say_answer<W: Write>(
     answer: Result<Answered, Refusal>,
     reply: &[u8],
 ) -> io::Result<()> {
-    let reply = Octets(reply);
     match answer {
         Ok(answered) => {
             let length = answered.length;
             let context = answered.context.0;
             let form = form_word(answered.form);
-            write!(to, "{kind} 0 {length} {context} {form} {reply}")
+            write!(to, "{kind} 0 {length} {context} {form} ")?;
         }
-        Err(refusal) => write!(to, "{kind} {} 0 0 none {reply}", number_of(refusal)),
+        Err(refusal) => write!(to, "{kind} {} 0 0 none ", number_of(refusal))?,
     }
+    say_octets(to, reply)
 }
 
 pub fn answer_ping_line<W: Write>(

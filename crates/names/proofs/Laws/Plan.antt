@@ -11,7 +11,7 @@ use Rattle.octets.specs.Label.{labels}
 use Rattle.octets.specs.Number.{big_octets, little_octets}
 use Rattle.lent.specs.declared.stretch.Stretch.{Stretch}
 use Rattle.lent.specs.Internal.Stretch.{octets_at, empty_stretch}
-use Rattle.lent.proofs.Laws.Stretch.{stretch_short}
+use Rattle.lent.proofs.Laws.Stretch.{text_short}
 use Rattle.names.specs.declared.plan.Aim.{Aim}
 use Rattle.names.specs.declared.plan.PlannedName.{PlannedName}
 use Rattle.names.specs.Name.{Tail, Writing, pointer_to, write_name, write_names}
@@ -76,7 +76,7 @@ module _ (table request : List ℕ) where
     pub literal_short : name.«literal» ≤ 256
     literal_short =
         let octets : List ℕ = octets_at table request name.«text» in
-        omega (arith, fit.labels, literal_length octets, size-within (length octets), stretch_short table request name.«text»)
+        omega (arith, fit.labels, literal_length octets, size-within (length octets), text_short table request name.«text»)
 
   -- the names up to one, and those with it
   module _ (names : List PlannedName) (i : ℕ) (d : PlannedName) (h : i < length names) where
@@ -151,8 +151,8 @@ module _ (table request : List ℕ) where
 
     plan_small : (aim : Option Aim) → AimWithin (length octets) aim → (plan aim).«literal» + length (ending_octets (plan aim).pointer) ≤ 257
     unfolding pointer_to big_octets little_octets
-    plan_small (Some a) h = omega (arith, stretch_short table request text)
-    plan_small None h = omega (arith, size-within (length octets), stretch_short table request text)
+    plan_small (Some a) h = omega (arith, text_short table request text)
+    plan_small None h = omega (arith, size-within (length octets), text_short table request text)
 
     plan_writes : (aim : Option Aim) → written offset aim (labels octets) ≡ writing_of table request (plan aim)
     unfolding name_octets name_tails literal_octets

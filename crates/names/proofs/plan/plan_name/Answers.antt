@@ -5,14 +5,14 @@ use lib.ListN.{length}
 use Rattle.octets.specs.Label.{labels}
 use Rattle.names.specs.Name.{Tail}
 use Rattle.names.specs.Internal.Plan.{first_aim, AimWithin, names_tails, plan_by, PlanOf}
-use Rattle.lent.proofs.Laws.Stretch.{stretch_short}
+use Rattle.lent.proofs.Laws.Stretch.{text_short}
 use Rattle.names.proofs.Laws.Plan.{plan_of}
 use Rattle.names.proofs.plan.plan_name.Goals as goal
 
 pub planned-requires : goal.planned-requires
 planned-requires c =
     let p = c.args in
-    rw c.text-octets.ensures (stretch_short p.lent.table.now p.lent.request.now p.text)
+    rw c.text-octets.ensures (text_short p.lent.table.now p.lent.request.now p.text)
 
 pub returns : goal.returns
 returns c =

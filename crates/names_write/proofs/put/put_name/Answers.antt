@@ -8,7 +8,7 @@ use Rattle.octets.specs.Buffer.{over}
 use Rattle.octets.proofs.Laws.Buffer.{over_lent}
 use Rattle.lent.specs.Internal.Stretch.{octets_at}
 use Rattle.names.specs.Internal.Plan.{literal_octets, ending_octets, name_octets}
-use Rattle.lent.proofs.Laws.Stretch.{stretch_short}
+use Rattle.lent.proofs.Laws.Stretch.{text_short}
 use Rattle.names.proofs.Laws.Plan.{name-length}
 use Rattle.names_write.proofs.put.put_name.Goals as goal
 
@@ -18,7 +18,7 @@ put_labels-requires c =
     let f = c.requires.fit in
     let n = name-length p.lent.table.now p.lent.request.now p.name.now f in
     let e = c.text.ensures in
-    (rw e (stretch_short p.lent.table.now p.lent.request.now p.name.now.text), rw e f.labels, omega arith)
+    (rw e (text_short p.lent.table.now p.lent.request.now p.name.now.text), rw e f.labels, omega arith)
 
 pub slice_bounds-put_ending-count : goal.slice_bounds-put_ending-count
 slice_bounds-put_ending-count c =

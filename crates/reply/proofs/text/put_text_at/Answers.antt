@@ -6,7 +6,7 @@ use lib.ListN.{length, get_or, take, drop, length-take, length-drop}
 use Rattle.octets.specs.Buffer.{over}
 use Rattle.octets.proofs.Laws.Buffer.{lent_back}
 use Rattle.lent.specs.Internal.OverAt.{over_at}
-use Rattle.lent.proofs.Laws.Stretch.{stretch_short}
+use Rattle.lent.proofs.Laws.Stretch.{text_short}
 use Rattle.reply.specs.Reply.{text16}
 use Rattle.lent.specs.Internal.Stretch.{octets_at}
 use Rattle.reply.proofs.text.put_text_at.Goals as goal
@@ -15,7 +15,7 @@ pub put_text-requires : goal.put_text-requires
 put_text-requires c =
     let a = c.args in
     let e = c.text.ensures in
-    let s = stretch_short a.lent.table.now a.lent.request.now a.slot in (
+    let s = text_short a.lent.table.now a.lent.request.now a.slot in (
       omega (arith, ap length e, s),
       simp (length-take, length-drop) (omega (arith, ap (λ (x : List ℕ). length (text16 x)) e, c.requires)),
     )

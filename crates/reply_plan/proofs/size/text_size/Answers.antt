@@ -4,14 +4,14 @@ use Prim.Native.Nat.{ℕ, ◌+◌, ◌≤◌}
 use native.Mathlib.Omega.{arith}
 use lib.ListN.{length}
 use Rattle.lent.specs.Internal.Stretch.{octets_at}
-use Rattle.lent.proofs.Laws.Stretch.{stretch_short}
+use Rattle.lent.proofs.Laws.Stretch.{text_short}
 use Rattle.unicode_text.specs.Utf16.{utf16}
 use Rattle.reply.proofs.Laws.Reply.{text-length}
 use Rattle.reply_plan.proofs.size.text_size.Goals as goal
 use Rattle.reply_plan.proofs.size.text_size.Goals.{After-text}
 
 short : (c : After-text) → length c.text.result.now ≤ 255
-short c = omega (arith, ap length c.text.ensures, stretch_short c.args.lent.table.now c.args.lent.request.now c.args.text)
+short c = omega (arith, ap length c.text.ensures, text_short c.args.lent.table.now c.args.lent.request.now c.args.text)
 
 pub utf16_size-requires : goal.utf16_size-requires
 utf16_size-requires c = short (goal.at.utf16_size-requires c).After-text

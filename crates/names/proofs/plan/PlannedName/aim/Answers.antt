@@ -3,7 +3,7 @@ use mathlib.Core.List.{List}
 use Prim.Native.Nat.{ℕ}
 use Rattle.octets.specs.Label.{labels}
 use Rattle.names.specs.Internal.Plan.{first_aim, tails_from, name_tails}
-use Rattle.lent.proofs.Laws.Stretch.{stretch_short}
+use Rattle.lent.proofs.Laws.Stretch.{text_short}
 use Rattle.names.proofs.plan.PlannedName.aim.Goals as goal
 
 pub aim_in-requires : goal.aim_in-requires
@@ -11,7 +11,7 @@ aim_in-requires c =
     let p = c.args in
     let f = c.requires in
     let e = c.text.ensures in
-    (rw e (stretch_short p.lent.table.now p.lent.request.now p.self.now.text), f.low, rw e f.labels)
+    (rw e (text_short p.lent.table.now p.lent.request.now p.self.now.text), f.low, rw e f.labels)
 
 pub returns : goal.returns
 unfolding name_tails
