@@ -1,6 +1,6 @@
 // Octets as hex digits, two for each.
 ghost use Rattle.std.specs.Char.{digit_value};
-ghost use Rattle.std.specs.Prelude.{◌≡◌, ◌+◌, ◌*◌, ◌<◌, IfOk, IfSome, SomeIff, length, vec_len};
+ghost use Rattle.std.specs.Prelude.{◌≡◌, ◌+◌, ◌*◌, ◌<◌, ◌≤◌, IfOk, IfSome, SomeIff, length, vec_len};
 
 use std::alloc::{AllocError, Global};
 use std::fmt::Display;
@@ -58,6 +58,25 @@ pub fn hex_octet(high: u8, low: u8) -> Option<u8>
     Some((high * 16 + low) as u8)
 }
 
+// Whether a text is digits of either case, two for each octet.
+pub fn is_hex(text: &[u8]) -> bool {
+    (text.len() % 2 == 0) & text.iter().all(|x| x.is_ascii_hexdigit())
+}
+
+// The octets that two digits each stand for, at the front of out: how many, no more than fit. Two that are no digits stand for 0.
+pub fn decode(text: &[u8], out: &mut [u8]) -> usize
+    ensures fits { result ≤ length out.new }
+    ensures pairs { 2 * result ≤ length text.now }
+{
+    let (pairs, _) = text.as_chunks::<2>();
+    let count = pairs.len().min(out.len());
+    for i in 0..count {
+        let [high, low] = pairs[i];
+        out[i] = hex_octet(high, low).unwrap_or(0);
+    }
+    count
+}
+
 // The octets that digits stand for; nothing where some octet is no digit, or one digit is left over.
 pub fn hex_octets(alloc: Global, text: &[u8]) -> Result<Option<Vec<u8>>, AllocError>
     ensures { IfOk result (λ found. IfSome found (λ octets. 2 * vec_len octets ≡ length text.now)) }
@@ -83,6 +102,10 @@ mod tests {
 
     #[test]
     fn digits_and_octets(rt: HostRuntime) -> Result<(), Fail> {
+        let mut room = [7; 2];
+        assert_eq!(rt; decode(b"00a5Ff", &mut room), 2);
+        assert_eq!(rt; room, [0, 0xA5]);
+        assert_eq!(rt; is_hex(b"00a5Ff") & !is_hex(b"0") & !is_hex(b"0g"), true);
         let octets = hex_octets(rt.alloc(), b"00a5Ff")?;
         assert_eq!(rt; octets.as_deref(), Some([0, 0xA5, 0xFF].as_slice()));
         let text = format!(in rt.alloc(); "{}", Hex(&[0, 0xA5, 0xFF]))?;
