@@ -67,6 +67,7 @@ pub fn is_hex(text: &[u8]) -> bool {
 pub fn decode(text: &[u8], out: &mut [u8]) -> usize
     ensures fits { result ≤ length out.new }
     ensures pairs { 2 * result ≤ length text.now }
+    ensures full { 2 * length out.new ≤ length text.now → result ≡ length out.new }
 {
     let (pairs, _) = text.as_chunks::<2>();
     let count = pairs.len().min(out.len());
