@@ -13,5 +13,8 @@ use std::io::BufWriter;
 fn main(rt: HostRuntime) -> io::Result<()> {
     let alloc = rt.alloc();
     let mut to = BufWriter::new(alloc, rt.stdout())?;
-    input::answer_all(alloc, rt.stdin(), &mut to)
+    let told = input::answer_all(alloc, rt.stdin(), &mut to);
+    // Each answer is flushed, so only a failed write leaves octets behind. The writer's drop would write them again: it is taken apart.
+    let _ = to.into_parts();
+    told
 }
