@@ -61,7 +61,7 @@ fn walk_from<F: FnMut(&[u8]) -> io::Result<()>>(
     Ok(None)
 }
 
-// Their count stands before the labels. The walk is done again to show them, which takes no memory.
+// An answer has the count of the labels before them, so the walk is done once to count and once to show: that takes no memory.
 fn say_walk<W: Write>(to: &mut W, reply: &[u8], start: usize) -> io::Result<()> {
     let mut labels: u64 = 0;
     let found = walk_from(reply, start, |_| {
