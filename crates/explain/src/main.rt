@@ -31,7 +31,7 @@ const REPLY_MOST: usize = 65536;
 // One octet more than is read, so that a longer file is told from it.
 const REPLY_SIZE: usize = REPLY_MOST + 1;
 
-// The longest argument that Linux hands over.
+// The longest argument that Linux hands over. What lends so much room is not inlined, so that not every run claims it.
 const WORD_SIZE: usize = 131072;
 
 fn form_named(name: &[u8]) -> Option<Form> {
@@ -80,6 +80,7 @@ fn reply_in<F: Files>(files: &F, text: &[u8], room: &mut [u8]) -> Result<usize, 
     }
 }
 
+#[inline(never)]
 fn reply_asked<'a, E: Env + Files>(env: &E, room: &'a mut [u8]) -> Result<&'a [u8], Fault> {
     let mut word = [0; WORD_SIZE];
     let text = take_word(env, REPLY, "REPLY", &mut word)?;

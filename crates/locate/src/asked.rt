@@ -9,7 +9,7 @@ pub const ASKED_SIZE: usize = 4096;
 // The first argument after CLIENT.
 pub const AFTER_CLIENT: usize = 3;
 
-// The longest argument that Linux hands over.
+// The longest argument that Linux hands over. What lends so much room is not inlined, so that not every run claims it.
 pub const WORD_SIZE: usize = 131072;
 
 // Whether the first argument after CLIENT is an option.

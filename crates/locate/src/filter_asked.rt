@@ -20,6 +20,7 @@ fn refuse_option(word: &[u8]) -> Result<(), Fault> {
 }
 
 // The clauses with that of one more argument.
+#[inline(never)]
 fn with_argument<E: Env>(
     env: &E,
     number: usize,
@@ -58,6 +59,7 @@ fn written_filter<E: Env>(env: &E, room: &mut [u8]) -> Result<usize, Fault> {
 }
 
 // The octets of the argument HEX after --filter.
+#[inline(never)]
 fn given_filter<E: Env>(env: &E, room: &mut [u8]) -> Result<usize, Fault> {
     if has_word(env, AFTER_CLIENT + 2) {
         return Err(Fault::Slip("no argument is taken after --filter HEX"));

@@ -11,6 +11,7 @@ use std::env::Env;
 const FIRST_WORD: usize = AFTER_CLIENT + 1;
 
 // Reads one more word than those that are given.
+#[inline(never)]
 fn add_word<E: Env>(
     env: &E,
     number: usize,
@@ -61,12 +62,14 @@ fn written_message<E: Env>(env: &E, room: &mut [u8]) -> Result<usize, Fault> {
 }
 
 // Whether the first argument after --mailslot is WORD=VALUE.
+#[inline(never)]
 fn has_equals<E: Env>(env: &E) -> bool {
     let mut room = [0; WORD_SIZE];
     take_word(env, FIRST_WORD, "HEX", &mut room).is_ok_and(|word| word.contains(&b'='))
 }
 
 // The octets of the argument HEX after --mailslot.
+#[inline(never)]
 fn given_message<E: Env>(env: &E, room: &mut [u8]) -> Result<usize, Fault> {
     if has_word(env, FIRST_WORD + 1) {
         return Err(Fault::Slip("no argument is taken after --mailslot HEX"));
