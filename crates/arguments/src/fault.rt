@@ -11,7 +11,7 @@ const SHOWN_MOST: usize = 80;
 // More than an error's text has.
 const ERROR_MOST: usize = 300;
 
-// What is shown of an argument: its front, and how long it is. It stands here by itself, so that the argument's room can be lent again.
+// What is shown of an argument: its front, and how long it is. It outlives the room that the argument stands in.
 #[derive(Clone, Copy)]
 pub struct Shown {
     front: [u8; SHOWN_MOST],

@@ -142,6 +142,10 @@ fn octets_word(word: Word, source: &mut [u8], text: &[u8]) -> Result<Stretch, Wo
 
 // The same of a text in UTF-8, put as UTF-16LE.
 fn text_word(word: Word, source: &mut [u8], text: &[u8]) -> Result<Stretch, WordError> {
+    let start = room_start(word);
+    let Some(room) = source.get_mut(start..start + TEXT_ROOM) else {
+        return Err(WordError::TooLong);
+    };
     let mut octets = [0; TEXT_MOST];
     let len = unescape(text, &mut octets)?;
     let text = part(&octets, 0, len);
@@ -149,10 +153,9 @@ fn text_word(word: Word, source: &mut [u8], text: &[u8]) -> Result<Stretch, Word
     if (size == 0) & !text.is_empty() {
         return Err(WordError::NotUtf8);
     }
-    let start = room_start(word);
-    let Some(room) = source.get_mut(start..start + size) else {
+    if room.len() < size {
         return Err(WordError::TooLong);
-    };
+    }
     let len = put_utf16(room, text);
     Ok(Stretch { start, len })
 }
@@ -197,11 +200,10 @@ mod tests {
             read_word(b"Repeat=0x10", &mut source, &mut words).is_ok(),
             true
         );
-        assert_eq!(rt;
-            words.user.map(|user| user.of(&source)),
-            Some([b'a', 0].as_slice())
-        );
-        assert_eq!(rt; words.sid.map(|sid| sid.of(&source)), Some([1].as_slice()));
+        assert_eq!(rt; words.user.map(|user| user.start), Some(1020));
+        assert_eq!(rt; part(&source, 1020, 2), [b'a', 0].as_slice());
+        assert_eq!(rt; words.sid.map(|sid| sid.len), Some(1));
+        assert_eq!(rt; part(&source, 3060, 1), [1].as_slice());
         assert_eq!(rt; words.repeat, Some(16));
         assert_eq!(rt;
             read_word(b"User=b", &mut source, &mut words).is_err(),

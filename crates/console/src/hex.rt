@@ -7,8 +7,11 @@ use std::fmt::Display;
 use std::io::Write;
 use std::{fmt, io};
 
-// How many octets are shown at a time: formatting each by itself takes a hundred times as long.
+// How many octets a Formatter is given at a time: each by itself takes a hundred times as long.
 const PART: usize = 128;
+
+// How many a stream is given by one write.
+const WRITTEN: usize = 4096;
 
 const DIGITS: [u8; 16] = *b"0123456789abcdef";
 
@@ -16,22 +19,25 @@ const DIGITS: [u8; 16] = *b"0123456789abcdef";
 #[derive(Clone, Copy)]
 pub struct Hex<'a>(pub &'a [u8]);
 
-// The digits of no more than PART octets.
-fn digits_of(octets: &[u8]) -> [u8; 256] {
-    let mut digits = [0; 256];
-    for i in 0..octets.len().min(PART) {
+// Puts the digits of octets at the front of out: how many, no more than fit.
+fn put_digits(octets: &[u8], out: &mut [u8]) -> usize
+    ensures { result ≤ length out.new }
+{
+    let count = octets.len().min(out.len() / 2);
+    for i in 0..count {
         let octet = octets[i];
-        digits[2 * i] = DIGITS[(octet / 16) as usize];
-        digits[2 * i + 1] = DIGITS[(octet % 16) as usize];
+        out[2 * i] = DIGITS[(octet / 16) as usize];
+        out[2 * i + 1] = DIGITS[(octet % 16) as usize];
     }
-    digits
+    2 * count
 }
 
 impl Display for Hex<'_> {
     fn fmt<W: fmt::Write>(&self, f: &mut fmt::Formatter<W>) -> fmt::Result {
+        let mut digits = [0; 2 * PART];
         for octets in self.0.chunks(PART) {
-            let digits = digits_of(octets);
-            let Ok(text) = str::from_utf8(&digits[..2 * octets.len().min(PART)]) else {
+            let len = put_digits(octets, &mut digits);
+            let Ok(text) = str::from_utf8(&digits[..len]) else {
                 return Err(fmt::Error);
             };
             f.write_str(text)?;
@@ -42,9 +48,10 @@ impl Display for Hex<'_> {
 
 // The same to a stream, which takes octets as they are: a Formatter wants them held to be text, which takes twice the time.
 pub fn say_hex<W: Write>(to: &mut W, octets: &[u8]) -> io::Result<()> {
-    for octets in octets.chunks(PART) {
-        let digits = digits_of(octets);
-        to.write_all(&digits[..2 * octets.len().min(PART)])?;
+    let mut digits = [0; 2 * WRITTEN];
+    for octets in octets.chunks(WRITTEN) {
+        let len = put_digits(octets, &mut digits);
+        to.write_all(&digits[..len])?;
     }
     Ok(())
 }
@@ -63,11 +70,12 @@ pub fn is_hex(text: &[u8]) -> bool {
     (text.len() % 2 == 0) & text.iter().all(|x| x.is_ascii_hexdigit())
 }
 
-// The octets that two digits each stand for, at the front of out: how many, no more than fit. Two that are no digits stand for 0.
+// The octets that two digits of either case each stand for, at the front of out: how many, no more than fit. A pair that is none stands for 0.
 pub fn decode(text: &[u8], out: &mut [u8]) -> usize
     ensures fits { result ≤ length out.new }
     ensures pairs { 2 * result ≤ length text.now }
     ensures full { 2 * length out.new ≤ length text.now → result ≡ length out.new }
+    ensures whole { length text.now ≤ 2 * length out.new + 1 → length text.now ≤ 2 * result + 1 }
 {
     let (pairs, _) = text.as_chunks::<2>();
     let count = pairs.len().min(out.len());

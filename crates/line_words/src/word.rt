@@ -2,6 +2,7 @@
 ghost use Rattle.std.specs.Prelude.{◌≡◌, ◌+◌, ◌*◌, ◌≤◌, IfOk, IfSome, OnSome, length, vec_len};
 
 use console::hex::{decode, hex_octets};
+use console::source::append;
 use octets::part::Stretch;
 use std::alloc::{AllocError, Global};
 
@@ -122,9 +123,9 @@ pub fn text_of(source: &mut Vec<u8>, word: &str) -> Result<Option<Stretch>, Allo
     if (digits.len() % 2 != 0) | !are_hex_digits(digits) {
         return Ok(None);
     }
-    let start = source.len();
-    source.resize(start + digits.len() / 2, 0)?;
-    Ok(Some(take_text(digits, source, start)))
+    let mut octets = vec![in *source.allocator(); 0; digits.len() / 2]?;
+    let text = take_text(digits, &mut octets, 0);
+    Ok(Some(append(source, text.of(&octets))?))
 }
 
 #[cfg(test)]
@@ -133,7 +134,7 @@ mod tests {
     use std::test::Fail;
 
     #[test]
-    fn lent_buffers(rt: HostRuntime) -> Result<(), Fail> {
+    fn lent_buffers(rt: HostRuntime) {
         assert_eq!(rt; filled().iter().all(|x| *x == 0xA5), true);
         let mut source = [7; 4];
         let text = take_text("0102a5", &mut source, 2);
@@ -142,7 +143,6 @@ mod tests {
         let past = take_text("03", &mut source, 5);
         assert_eq!(rt; (past.start, past.len), (0, 0));
         assert_eq!(rt; source, [7, 7, 1, 2]);
-        Ok(())
     }
 
     #[test]

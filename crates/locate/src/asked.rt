@@ -21,8 +21,8 @@ pub fn is_asked<E: Env>(env: &E, option: &[u8]) -> bool {
     }
 }
 
-// Puts the octets of the argument HEX at the front of lent room: how many. Where they don't fit, all of the room is what asks, since it gets
-// the number of what is too long, where the table gets none.
+// Puts the octets of the argument HEX at the front of lent room: how many. Where they don't fit, all of the room asks, since it gets the
+// number of what is too long, where the table gets none.
 pub fn octets_asked(digits: &[u8], wanted: &'static str, room: &mut [u8]) -> Result<usize, Fault> {
     if (digits.len() % 2 == 0) & (room.len() < digits.len() / 2) {
         return Ok(room.len());

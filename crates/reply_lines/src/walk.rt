@@ -3,7 +3,7 @@ ghost use Rattle.std.specs.Prelude.{length, IfSome};
 ghost use Rattle.reply_lines.specs.Internal.Walk.{StepWithin};
 
 use console::hex::say_hex;
-use line_words::answer::say_unknown;
+use line_words::answer::{say_numbers, say_unknown};
 use line_words::word::{number_of, octets_of};
 use octets::part::part;
 use reader_names::look::{Look, look_at};
@@ -71,7 +71,7 @@ fn say_walk<W: Write>(to: &mut W, reply: &[u8], start: usize) -> io::Result<()> 
     let Some(pointers) = found else {
         return write!(to, "walk none");
     };
-    write!(to, "walk {pointers} {labels}")?;
+    say_numbers(to, "walk", &[pointers, labels])?;
     walk_from(reply, start, |label| {
         write!(to, " ")?;
         say_hex(to, label)

@@ -8,13 +8,8 @@ mod ping_lines;
 mod write;
 
 use std::io;
-use std::io::BufWriter;
 
 fn main(rt: HostRuntime) -> io::Result<()> {
-    let alloc = rt.alloc();
-    let mut to = BufWriter::new(alloc, rt.stdout())?;
-    let told = input::answer_all(alloc, rt.stdin(), &mut to);
-    // Each answer is flushed, so only a failed write leaves octets behind. The writer's drop would write them again: it is taken apart.
-    let _ = to.into_parts();
-    told
+    // No buffer: its drop would write again what a failed write left.
+    input::answer_all(rt.alloc(), rt.stdin(), &mut rt.stdout())
 }
