@@ -10,6 +10,6 @@ mod write;
 use std::io;
 
 fn main(rt: HostRuntime) -> io::Result<()> {
-    // No buffer: its drop would write again what a failed write left.
+    // No buffered writer: its drop would write again what a failed write left.
     input::answer_all(rt.alloc(), rt.stdin(), &mut rt.stdout())
 }
