@@ -45,6 +45,7 @@ pub enum Fault {
     // An argument of this name is not there, or too long.
     Missing(&'static str),
     TooLong(&'static str),
+    // A line that tells it, with its LF.
     Slip(&'static str),
     // What is wrong with an argument.
     Of(&'static str, Shown),
@@ -94,7 +95,7 @@ fn say_slip<W: Write>(err: &mut W, fault: &Fault) -> io::Result<()> {
     match fault {
         Fault::Missing(name) => writeln!(err, "{name} is missing"),
         Fault::TooLong(name) => writeln!(err, "{name} is too long"),
-        Fault::Slip(what) => writeln!(err, "{what}"),
+        Fault::Slip(line) => write!(err, "{line}"),
         Fault::Of(what, argument) => {
             write!(err, "{what}")?;
             say_argument(err, argument)

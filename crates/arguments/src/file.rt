@@ -51,7 +51,7 @@ pub fn read_table<'a, E: Env + Files>(env: &E, room: &'a mut [u8]) -> Result<&'a
     let mut word = [0; PATH_SIZE];
     let path = take_word(env, TABLE, "TABLE", &mut word)?;
     if path.is_empty() {
-        return Err(Fault::Slip("TABLE is empty"));
+        return Err(Fault::Slip("TABLE is empty\n"));
     }
     match read_file(env, path, room) {
         Ok(len) => Ok(part(room, 0, len)),

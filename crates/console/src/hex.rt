@@ -55,8 +55,8 @@ impl Display for Hex<'_> {
 
 // The same to a stream, which takes octets as they are: a Formatter wants them held to be text, which takes twice the time.
 pub fn say_hex<W: Write>(to: &mut W, octets: &[u8]) -> io::Result<()> {
-    let mut digits = [0; 2 * WRITTEN];
     for octets in octets.chunks(WRITTEN) {
+        let mut digits = [0; 2 * WRITTEN];
         let len = put_digits(octets, &mut digits);
         to.write_all(&digits[..len])?;
     }
@@ -77,7 +77,7 @@ pub fn is_hex(text: &[u8]) -> bool {
     (text.len() % 2 == 0) & text.iter().all(|x| x.is_ascii_hexdigit())
 }
 
-// The octets that two digits of either case each stand for, at the front of out: how many, no more than fit. A pair that is none stands for 0.
+// The octets that two digits of either case each stand for, at the front of out: how many, no more than fit. Another pair stands for 0.
 pub fn decode(text: &[u8], out: &mut [u8]) -> usize
     ensures fits { result ≤ length out.new }
     ensures pairs { 2 * result ≤ length text.now }

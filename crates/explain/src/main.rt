@@ -86,7 +86,7 @@ fn reply_asked<'a, E: Env + Files>(env: &E, room: &'a mut [u8]) -> Result<&'a [u
     let text = take_word(env, REPLY, "REPLY", &mut word)?;
     let len = reply_in(env, text, room)?;
     if REPLY_MOST < len {
-        return Err(Fault::Slip("REPLY is longer than 65,536 octets"));
+        return Err(Fault::Slip("REPLY is longer than 65,536 octets\n"));
     }
     Ok(&room[..len])
 }
@@ -101,7 +101,7 @@ fn show_reply<W: Write>(to: &mut W, reply: &[u8], form: Form, version: u32) -> i
 // What the arguments give is read.
 fn explain_asked<E: Env + Files, W: Write>(env: &E, to: &mut W) -> Result<(), Fault> {
     if has_word(env, ARGUMENTS_END) {
-        return Err(Fault::Slip("no argument is taken after FORM, V and REPLY"));
+        return Err(Fault::Slip("no argument is taken after FORM, V and REPLY\n"));
     }
     let form = form_asked(env)?;
     let version = version_asked(env)?;

@@ -11,10 +11,10 @@ use std::env::Env;
 // A word that should be a clause may begin with an option: it is told where that stands.
 fn refuse_option(word: &[u8]) -> Result<(), Fault> {
     if word.starts_with(b"--filter") {
-        return Err(Fault::Slip("--filter HEX stands alone after CLIENT"));
+        return Err(Fault::Slip("--filter HEX stands alone after CLIENT\n"));
     }
     if word.starts_with(b"--mailslot") {
-        return Err(Fault::Slip("--mailslot stands right after CLIENT"));
+        return Err(Fault::Slip("--mailslot stands right after CLIENT\n"));
     }
     Ok(())
 }
@@ -51,7 +51,7 @@ fn request_asked<E: Env>(env: &E, source: &mut [u8]) -> Result<Request, Fault> {
 // Clauses that no filter has room for ask with all of the room, which is too long.
 fn written_filter<E: Env>(env: &E, room: &mut [u8]) -> Result<usize, Fault> {
     if !has_word(env, AFTER_CLIENT) {
-        return Err(Fault::Slip("no clause is given"));
+        return Err(Fault::Slip("no clause is given\n"));
     }
     let mut source = [0; SOURCE_SIZE];
     let request = request_asked(env, &mut source)?;
@@ -62,7 +62,7 @@ fn written_filter<E: Env>(env: &E, room: &mut [u8]) -> Result<usize, Fault> {
 #[inline(never)]
 fn given_filter<E: Env>(env: &E, room: &mut [u8]) -> Result<usize, Fault> {
     if has_word(env, AFTER_CLIENT + 2) {
-        return Err(Fault::Slip("no argument is taken after --filter HEX"));
+        return Err(Fault::Slip("no argument is taken after --filter HEX\n"));
     }
     let mut word = [0; WORD_SIZE];
     let digits = take_word(env, AFTER_CLIENT + 1, "HEX", &mut word)?;

@@ -72,7 +72,7 @@ fn has_equals<E: Env>(env: &E) -> bool {
 #[inline(never)]
 fn given_message<E: Env>(env: &E, room: &mut [u8]) -> Result<usize, Fault> {
     if has_word(env, FIRST_WORD + 1) {
-        return Err(Fault::Slip("no argument is taken after --mailslot HEX"));
+        return Err(Fault::Slip("no argument is taken after --mailslot HEX\n"));
     }
     let mut word = [0; WORD_SIZE];
     let digits = take_word(env, FIRST_WORD, "HEX", &mut word)?;
@@ -86,7 +86,7 @@ fn given_message<E: Env>(env: &E, room: &mut [u8]) -> Result<usize, Fault> {
 // The message, put at the front of lent room.
 pub fn message_asked<'a, E: Env>(env: &E, room: &'a mut [u8]) -> Result<&'a [u8], Fault> {
     if !has_word(env, FIRST_WORD) {
-        return Err(Fault::Slip("neither HEX nor WORD=VALUE is given after --mailslot"));
+        return Err(Fault::Slip("neither HEX nor WORD=VALUE is given after --mailslot\n"));
     }
     let len = if has_equals(env) {
         written_message(env, room)?

@@ -42,7 +42,7 @@ fn show_judgement<W: Write>(to: &mut W, image: &[u8]) -> io::Result<()> {
 // The table that the arguments name is judged.
 fn check_asked<E: Env + Files, W: Write>(env: &E, to: &mut W) -> Result<(), Fault> {
     if has_word(env, ARGUMENTS_END) {
-        return Err(Fault::Slip("no argument is taken after TABLE"));
+        return Err(Fault::Slip("no argument is taken after TABLE\n"));
     }
     let mut room = [0; IMAGE_SIZE];
     let image = read_table(env, &mut room)?;
