@@ -1,25 +1,58 @@
 // Why a program answers nothing: a slip of its arguments, which it tells on standard error, or an error of the system.
 use crate::clause::ClauseError;
 use crate::message_word::WordError;
-use std::alloc::AllocError;
+use octets::part::part;
 use std::io;
-use std::io::Write;
+use std::io::{Cursor, Write};
 
 // How much of an argument is shown.
 const SHOWN_MOST: usize = 80;
+
+// More than an error's text has.
+const ERROR_MOST: usize = 300;
+
+// What is shown of an argument: its front, and how long it is. It outlives the room that the argument stands in.
+#[derive(Clone, Copy)]
+pub struct Shown {
+    front: [u8; SHOWN_MOST],
+    len: usize,
+}
+
+// An octet that moves no terminal.
+fn printable(x: u8) -> u8 {
+    if x.is_ascii_control() { b'?' } else { x }
+}
+
+impl Shown {
+    pub fn of(argument: &[u8]) -> Shown {
+        let mut front = [0; SHOWN_MOST];
+        for i in 0..argument.len().min(SHOWN_MOST) {
+            front[i] = printable(argument[i]);
+        }
+        Shown {
+            front,
+            len: argument.len(),
+        }
+    }
+
+    fn octets(&self) -> &[u8] {
+        part(&self.front, 0, self.len)
+    }
+}
 
 #[derive(Drop)]
 pub enum Fault {
     // An argument of this name is not there, or too long.
     Missing(&'static str),
     TooLong(&'static str),
+    // A line that tells it, with its LF.
     Slip(&'static str),
     // What is wrong with an argument.
-    Of(&'static str, Vec<u8>),
-    Clause(ClauseError, Vec<u8>),
-    Word(WordError, Vec<u8>),
+    Of(&'static str, Shown),
+    Clause(ClauseError, Shown),
+    Word(WordError, Shown),
     // A file of this name that can't be read.
-    File(io::Error, Vec<u8>),
+    File(io::Error, Shown),
     System(io::Error),
 }
 
@@ -29,29 +62,11 @@ impl From<io::Error> for Fault {
     }
 }
 
-impl From<AllocError> for Fault {
-    fn from(error: AllocError) -> Fault {
-        Fault::System(io::Error::from(error))
-    }
-}
-
-// An octet that moves no terminal.
-fn shown(x: u8) -> u8 {
-    if x.is_ascii_control() { b'?' } else { x }
-}
-
-// The front of an argument, as it was given, so that this is no Display.
-fn say_shown<W: Write>(err: &mut W, argument: &[u8]) -> io::Result<()> {
-    for x in argument.iter().take(SHOWN_MOST) {
-        err.write_all(&[shown(*x)])?;
-    }
-    Ok(())
-}
-
-fn say_argument<W: Write>(err: &mut W, argument: &[u8]) -> io::Result<()> {
+// The front of an argument is written as it was given, so that Shown is no Display.
+fn say_argument<W: Write>(err: &mut W, argument: &Shown) -> io::Result<()> {
     write!(err, ": ")?;
-    say_shown(err, argument)?;
-    if SHOWN_MOST < argument.len() {
+    err.write_all(argument.octets())?;
+    if SHOWN_MOST < argument.len {
         write!(err, "...")?;
     }
     writeln!(err)
@@ -65,10 +80,14 @@ fn without_number(text: &str) -> &str {
     }
 }
 
-fn say_file<W: Write>(err: &mut W, path: &Vec<u8>, error: &io::Error) -> io::Result<()> {
-    let text = format!(in *path.allocator(); "{error}")?;
-    say_shown(err, path)?;
-    writeln!(err, ": {}", without_number(text.as_str()))
+fn say_file<W: Write>(err: &mut W, path: &Shown, error: &io::Error) -> io::Result<()> {
+    let mut room = [0; ERROR_MOST];
+    let mut text = Cursor::new(room.as_mut_slice());
+    write!(text, "{error}")?;
+    let len = text.position() as usize;
+    let text = str::from_utf8(part(&room, 0, len)).unwrap_or("");
+    err.write_all(path.octets())?;
+    writeln!(err, ": {}", without_number(text))
 }
 
 // One line: what is wrong, and the argument that is.
@@ -76,7 +95,7 @@ fn say_slip<W: Write>(err: &mut W, fault: &Fault) -> io::Result<()> {
     match fault {
         Fault::Missing(name) => writeln!(err, "{name} is missing"),
         Fault::TooLong(name) => writeln!(err, "{name} is too long"),
-        Fault::Slip(what) => writeln!(err, "{what}"),
+        Fault::Slip(line) => write!(err, "{line}"),
         Fault::Of(what, argument) => {
             write!(err, "{what}")?;
             say_argument(err, argument)

@@ -1,10 +1,10 @@
 // WORD=VALUE of a mailslot message: a word, ASCII case ignored, and its number or its octets. Octets stand as they are or as \hh.
+ghost use Rattle.std.specs.Prelude.{◌≤◌};
+
 use crate::escape::{EscapeError, unescape};
 use crate::number::number_of;
 use crate::word::split_word;
-use console::source::append;
-use octets::part::Stretch;
-use std::alloc::AllocError;
+use octets::part::{Stretch, part};
 use std::fmt;
 use std::fmt::Display;
 use unicode_text::utf16::{put_utf16, utf16_size};
@@ -12,8 +12,10 @@ use unicode_text::utf16::{put_utf16, utf16_size};
 // The longest text that is turned into UTF-16.
 const TEXT_MOST: usize = 255;
 
-// The longest of another.
-const OCTETS_MOST: usize = 4 * TEXT_MOST;
+// Each word with octets has room of its own in the source.
+const TEXT_ROOM: usize = 4 * TEXT_MOST;
+
+pub const TEXTS_SIZE: usize = 4 * TEXT_ROOM;
 
 // What is wrong with a word.
 #[derive(Clone, Copy)]
@@ -25,7 +27,6 @@ pub enum WordError {
     BadEscape,
     NotUtf8,
     TooLong,
-    OutOfMemory,
 }
 
 impl Display for WordError {
@@ -42,7 +43,6 @@ impl Display for WordError {
             WordError::BadEscape => "a backslash takes two hex digits after it",
             WordError::NotUtf8 => "Computer and User are texts in UTF-8",
             WordError::TooLong => "longer than any message",
-            WordError::OutOfMemory => "there is no memory for it",
         })
     }
 }
@@ -52,14 +52,7 @@ impl From<EscapeError> for WordError {
         match error {
             EscapeError::BadEscape => WordError::BadEscape,
             EscapeError::TooLong => WordError::TooLong,
-            EscapeError::OutOfMemory => WordError::OutOfMemory,
         }
-    }
-}
-
-impl From<AllocError> for WordError {
-    fn from(_error: AllocError) -> WordError {
-        WordError::OutOfMemory
     }
 }
 
@@ -125,26 +118,50 @@ fn repeat_word(text: &[u8]) -> Result<u16, WordError> {
     u16::try_from(number).map_err(|_| WordError::BadNumber)
 }
 
-fn octets_word(source: &mut Vec<u8>, text: &[u8]) -> Result<Stretch, WordError> {
-    let octets = unescape(*source.allocator(), text, OCTETS_MOST)?;
-    Ok(append(source, &octets)?)
+// Where a word's room starts in the source.
+fn room_start(word: Word) -> usize
+    ensures { result ≤ 3060 }
+{
+    match word {
+        Word::Computer => 0,
+        Word::User => TEXT_ROOM,
+        Word::Mailslot => 2 * TEXT_ROOM,
+        Word::Repeat | Word::Bits | Word::Sid | Word::Version => 3 * TEXT_ROOM,
+    }
 }
 
-// A text in UTF-8, put as UTF-16LE.
-fn text_word(source: &mut Vec<u8>, text: &[u8]) -> Result<Stretch, WordError> {
-    let alloc = *source.allocator();
-    let octets = unescape(alloc, text, TEXT_MOST)?;
-    let size = utf16_size(&octets);
-    if (size == 0) & !octets.is_empty() {
+// Puts octets into a word's room.
+fn octets_word(word: Word, source: &mut [u8], text: &[u8]) -> Result<Stretch, WordError> {
+    let start = room_start(word);
+    let Some(room) = source.get_mut(start..start + TEXT_ROOM) else {
+        return Err(WordError::TooLong);
+    };
+    let len = unescape(text, room)?;
+    Ok(Stretch { start, len })
+}
+
+// The same of a text in UTF-8, put as UTF-16LE.
+fn text_word(word: Word, source: &mut [u8], text: &[u8]) -> Result<Stretch, WordError> {
+    let start = room_start(word);
+    let Some(room) = source.get_mut(start..start + TEXT_ROOM) else {
+        return Err(WordError::TooLong);
+    };
+    let mut octets = [0; TEXT_MOST];
+    let len = unescape(text, &mut octets)?;
+    let text = part(&octets, 0, len);
+    let size = utf16_size(text);
+    if (size == 0) & !text.is_empty() {
         return Err(WordError::NotUtf8);
     }
-    let mut units = vec![in alloc; 0; size]?;
-    put_utf16(&mut units, &octets);
-    Ok(append(source, &units)?)
+    if room.len() < size {
+        return Err(WordError::TooLong);
+    }
+    let len = put_utf16(room, text);
+    Ok(Stretch { start, len })
 }
 
-// Reads one more word than those that are given, and puts its octets at the end of the source.
-pub fn read_word(text: &[u8], source: &mut Vec<u8>, words: &mut Words) -> Result<(), WordError> {
+// Reads one more word than those that are given, and puts its octets into its room of the source.
+pub fn read_word(text: &[u8], source: &mut [u8], words: &mut Words) -> Result<(), WordError> {
     let Some((name, value)) = split_word(text) else {
         return Err(WordError::NoEquals);
     };
@@ -156,11 +173,11 @@ pub fn read_word(text: &[u8], source: &mut Vec<u8>, words: &mut Words) -> Result
     }
     match word {
         Word::Repeat => words.repeat = Some(repeat_word(value)?),
-        Word::Computer => words.computer = Some(text_word(source, value)?),
-        Word::User => words.user = Some(text_word(source, value)?),
-        Word::Mailslot => words.mailslot = Some(octets_word(source, value)?),
+        Word::Computer => words.computer = Some(text_word(word, source, value)?),
+        Word::User => words.user = Some(text_word(word, source, value)?),
+        Word::Mailslot => words.mailslot = Some(octets_word(word, source, value)?),
         Word::Bits => words.bits = Some(number_word(value)?),
-        Word::Sid => words.sid = Some(octets_word(source, value)?),
+        Word::Sid => words.sid = Some(octets_word(word, source, value)?),
         Word::Version => words.version = Some(number_word(value)?),
     }
     Ok(())
@@ -169,11 +186,10 @@ pub fn read_word(text: &[u8], source: &mut Vec<u8>, words: &mut Words) -> Result
 #[cfg(test)]
 mod tests {
     use super::*;
-    use std::test::Fail;
 
     #[test]
-    fn words_are_read(rt: HostRuntime) -> Result<(), Fail> {
-        let mut source = Vec::new(rt.alloc());
+    fn words_are_read(rt: HostRuntime) {
+        let mut source = [7; TEXTS_SIZE];
         let mut words = Words::default();
         assert_eq!(rt; read_word(b"user=a", &mut source, &mut words).is_ok(), true);
         assert_eq!(rt;
@@ -184,8 +200,10 @@ mod tests {
             read_word(b"Repeat=0x10", &mut source, &mut words).is_ok(),
             true
         );
-        assert_eq!(rt; source.as_slice(), [b'a', 0, 1].as_slice());
-        assert_eq!(rt; words.sid.map(|sid| sid.start), Some(2));
+        assert_eq!(rt; words.user.map(|user| user.start), Some(1020));
+        assert_eq!(rt; part(&source, 1020, 2), [b'a', 0].as_slice());
+        assert_eq!(rt; words.sid.map(|sid| sid.len), Some(1));
+        assert_eq!(rt; part(&source, 3060, 1), [1].as_slice());
         assert_eq!(rt; words.repeat, Some(16));
         assert_eq!(rt;
             read_word(b"User=b", &mut source, &mut words).is_err(),
@@ -195,6 +213,5 @@ mod tests {
             read_word(b"Computer=\xff", &mut source, &mut words).is_err(),
             true
         );
-        Ok(())
     }
 }

@@ -1,5 +1,5 @@
 // An argument as it was given.
-ghost use Rattle.std.specs.Prelude.{◌≡◌, ◌+◌, ◌≤◌, IfOk, IfSome, length, vec_len};
+ghost use Rattle.std.specs.Prelude.{◌≡◌, ◌+◌, ◌≤◌, IfOk, IfSome, length};
 
 use crate::fault::Fault;
 use std::env::{Env, FillError};
@@ -12,21 +12,17 @@ pub fn has_word<E: Env>(env: &E, number: usize) -> bool {
     }
 }
 
-// An argument that has to be there, of at most so many octets.
-pub fn take_word<E: Env + AllocGlobal>(
+// An argument that has to be there, put at the front of lent room.
+pub fn take_word<'a, E: Env>(
     env: &E,
     number: usize,
     name: &'static str,
-    most: usize,
-) -> Result<Vec<u8>, Fault>
-    ensures { IfOk result (λ word. vec_len word ≤ most) }
+    room: &'a mut [u8],
+) -> Result<&'a [u8], Fault>
+    ensures { IfOk result (λ word. length word.now ≤ length room.old) }
 {
-    let mut word = vec![in env.alloc(); 0; most]?;
-    match env.arg(number, &mut word) {
-        Ok(len) => {
-            word.truncate(len);
-            Ok(word)
-        }
+    match env.arg(number, room) {
+        Ok(len) => Ok(&room[..len]),
         Err(FillError::NotPresent) => Err(Fault::Missing(name)),
         Err(FillError::TooLong) => Err(Fault::TooLong(name)),
     }
@@ -47,10 +43,12 @@ mod tests {
     #[test]
     fn the_program_has_a_name(rt: HostRuntime) {
         assert_eq!(rt; has_word(&rt, 0), true);
+        let mut room = [0; 4096];
         assert_eq!(rt;
-            take_word(&rt, 0, "NAME", 4096).is_ok_and(|name| !name.is_empty()),
+            take_word(&rt, 0, "NAME", &mut room).is_ok_and(|name| !name.is_empty()),
             true
         );
-        assert_eq!(rt; take_word(&rt, 1000, "NAME", 4096).is_err(), true);
+        assert_eq!(rt; take_word(&rt, 0, "NAME", &mut room[..0]).is_err(), true);
+        assert_eq!(rt; take_word(&rt, 1000, "NAME", &mut room).is_err(), true);
     }
 }

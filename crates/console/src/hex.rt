@@ -1,37 +1,50 @@
 // Octets as hex digits, two for each.
 ghost use Rattle.std.specs.Char.{digit_value};
-ghost use Rattle.std.specs.Prelude.{◌≡◌, ◌+◌, ◌*◌, ◌<◌, IfOk, IfSome, SomeIff, length, vec_len};
+ghost use Rattle.std.specs.Prelude.{◌≡◌, ◌+◌, ◌*◌, ◌<◌, ◌≤◌, IfOk, IfSome, SomeIff, length, vec_len};
 
 use std::alloc::{AllocError, Global};
 use std::fmt::Display;
 use std::io::Write;
 use std::{fmt, io};
 
-// How many octets are shown at a time: formatting each by itself takes a hundred times as long.
+// How many octets a Formatter is given at a time: each by itself takes a hundred times as long.
 const PART: usize = 128;
 
-const DIGITS: [u8; 16] = *b"0123456789abcdef";
+// How many a stream is given by one write.
+const WRITTEN: usize = 4096;
 
 // Octets, shown in lowercase digits.
 #[derive(Clone, Copy)]
 pub struct Hex<'a>(pub &'a [u8]);
 
-// The digits of no more than PART octets.
-fn digits_of(octets: &[u8]) -> [u8; 256] {
-    let mut digits = [0; 256];
-    for i in 0..octets.len().min(PART) {
-        let octet = octets[i];
-        digits[2 * i] = DIGITS[(octet / 16) as usize];
-        digits[2 * i + 1] = DIGITS[(octet % 16) as usize];
+// The digit of a value under 16. It is computed, since a table takes three times as long.
+fn digit_of(value: u8) -> u8 {
+    if value < 10 {
+        value.wrapping_add(b'0')
+    } else {
+        value.wrapping_add(b'a' - 10)
     }
-    digits
+}
+
+// Puts the digits of octets at the front of out: how many, no more than fit.
+fn put_digits(octets: &[u8], out: &mut [u8]) -> usize
+    ensures { result ≤ length out.new }
+{
+    let count = octets.len().min(out.len() / 2);
+    for i in 0..count {
+        let octet = octets[i];
+        out[2 * i] = digit_of(octet / 16);
+        out[2 * i + 1] = digit_of(octet % 16);
+    }
+    2 * count
 }
 
 impl Display for Hex<'_> {
     fn fmt<W: fmt::Write>(&self, f: &mut fmt::Formatter<W>) -> fmt::Result {
+        let mut digits = [0; 2 * PART];
         for octets in self.0.chunks(PART) {
-            let digits = digits_of(octets);
-            let Ok(text) = str::from_utf8(&digits[..2 * octets.len().min(PART)]) else {
+            let len = put_digits(octets, &mut digits);
+            let Ok(text) = str::from_utf8(&digits[..len]) else {
                 return Err(fmt::Error);
             };
             f.write_str(text)?;
@@ -42,9 +55,10 @@ impl Display for Hex<'_> {
 
 // The same to a stream, which takes octets as they are: a Formatter wants them held to be text, which takes twice the time.
 pub fn say_hex<W: Write>(to: &mut W, octets: &[u8]) -> io::Result<()> {
-    for octets in octets.chunks(PART) {
-        let digits = digits_of(octets);
-        to.write_all(&digits[..2 * octets.len().min(PART)])?;
+    for octets in octets.chunks(WRITTEN) {
+        let mut digits = [0; 2 * WRITTEN];
+        let len = put_digits(octets, &mut digits);
+        to.write_all(&digits[..len])?;
     }
     Ok(())
 }
@@ -56,6 +70,27 @@ pub fn hex_octet(high: u8, low: u8) -> Option<u8>
     let high = char::from(high).to_digit(16)?;
     let low = char::from(low).to_digit(16)?;
     Some((high * 16 + low) as u8)
+}
+
+// Whether a text is digits of either case, two for each octet.
+pub fn is_hex(text: &[u8]) -> bool {
+    (text.len() % 2 == 0) & text.iter().all(|x| x.is_ascii_hexdigit())
+}
+
+// The octets that two digits of either case each stand for, at the front of out: how many, no more than fit. Another pair stands for 0.
+pub fn decode(text: &[u8], out: &mut [u8]) -> usize
+    ensures fits { result ≤ length out.new }
+    ensures pairs { 2 * result ≤ length text.now }
+    ensures full { 2 * length out.new ≤ length text.now → result ≡ length out.new }
+    ensures whole { length text.now ≤ 2 * length out.new + 1 → length text.now ≤ 2 * result + 1 }
+{
+    let (pairs, _) = text.as_chunks::<2>();
+    let count = pairs.len().min(out.len());
+    for i in 0..count {
+        let [high, low] = pairs[i];
+        out[i] = hex_octet(high, low).unwrap_or(0);
+    }
+    count
 }
 
 // The octets that digits stand for; nothing where some octet is no digit, or one digit is left over.
@@ -83,6 +118,10 @@ mod tests {
 
     #[test]
     fn digits_and_octets(rt: HostRuntime) -> Result<(), Fail> {
+        let mut room = [7; 2];
+        assert_eq!(rt; decode(b"00a5Ff", &mut room), 2);
+        assert_eq!(rt; room, [0, 0xA5]);
+        assert_eq!(rt; is_hex(b"00a5Ff") & !is_hex(b"0") & !is_hex(b"0g"), true);
         let octets = hex_octets(rt.alloc(), b"00a5Ff")?;
         assert_eq!(rt; octets.as_deref(), Some([0, 0xA5, 0xFF].as_slice()));
         let text = format!(in rt.alloc(); "{}", Hex(&[0, 0xA5, 0xFF]))?;

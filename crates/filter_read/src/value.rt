@@ -1,7 +1,7 @@
 // The values of a request's clauses, judged.
 ghost use Rattle.filter_read.specs.Value.{JudgeValuesPromise};
 
-use crate::wrong_value::{has_wrong_value, number_or};
+use crate::wrong_value::{clause_number, has_wrong_value};
 use answers::Refusal;
 use answers::wire::NETLOGON_NT_VERSION_1;
 use filter::request::Request;
@@ -16,5 +16,8 @@ pub fn judge_values(s: &[u8], request: Request) -> Result<u32, Refusal>
     if has_wrong_value(s, nt_ver, aac, user) {
         return Err(Refusal::ClauseValue);
     }
-    Ok(number_or(s, nt_ver, NETLOGON_NT_VERSION_1))
+    let Some(stretch) = nt_ver else {
+        return Ok(NETLOGON_NT_VERSION_1);
+    };
+    Ok(clause_number(s, stretch))
 }

@@ -1,8 +1,9 @@
 // 9: clauses whose values are wrong, and the numbers of those that are not.
-ghost use Rattle.std.specs.Prelude.{◌≡◌, false, ◌||◌, option_map, unwrap_or};
-ghost use Rattle.octets.specs.Number.{little};
+ghost use Rattle.std.specs.Prelude.{◌≡◌, false, true, ◌||◌, option_map, unwrap_or};
+ghost use Rattle.octets.specs.{Number.little, Stretch.stretch_of};
 ghost use Rattle.filter.specs.Request.{octets_of};
 ghost use Rattle.filter_read.specs.Internal.WrongValue.{wrong_number, wrong_user};
+ghost use Rattle.filter_read.specs.Value.{is_number};
 
 use octets::number::u32_at;
 use octets::part::Stretch;
@@ -43,6 +44,14 @@ pub fn has_wrong_value(
     is_wrong_number(s, nt_ver) | is_wrong_number(s, aac) | is_wrong_user(s, user)
 }
 
+// The number that the octets of NtVer or AAC make.
+pub fn clause_number(s: &[u8], stretch: Stretch) -> u32
+    requires { is_number (stretch_of s.now stretch) ≡ true }
+    ensures { result ≡ little (stretch_of s.now stretch) }
+{
+    u32_at(stretch.of(s), 0)
+}
+
 // The number of a clause, once 9 was judged, or the one that stands for it where it is absent.
 pub fn number_or(s: &[u8], clause: Option<Stretch>, absent: u32) -> u32
     requires { wrong_number s.now clause ≡ false }
@@ -51,5 +60,5 @@ pub fn number_or(s: &[u8], clause: Option<Stretch>, absent: u32) -> u32
     let Some(stretch) = clause else {
         return absent;
     };
-    u32_at(stretch.of(s), 0)
+    clause_number(s, stretch)
 }

@@ -1,26 +1,31 @@
 // The words of an answer.
 use answers::{Refusal, number_in};
-use console::hex::{Hex, say_hex};
-use std::fmt::Display;
+use console::hex::say_hex;
+use std::io;
 use std::io::Write;
-use std::{fmt, io};
+
+// The first words of an answer: the kind of its line, and numbers.
+pub fn say_numbers<W: Write>(to: &mut W, kind: &str, numbers: &[u64]) -> io::Result<()> {
+    write!(to, "{kind}")?;
+    for number in numbers {
+        write!(to, " {number}")?;
+    }
+    Ok(())
+}
 
 // Octets as a word: none at all is `-`.
 pub fn say_octets<W: Write>(to: &mut W, octets: &[u8]) -> io::Result<()> {
     if octets.is_empty() {
-        return write!(to, "-");
+        return write!(to, " -");
     }
+    write!(to, " ")?;
     say_hex(to, octets)
 }
 
 // A text as a word: `=` and two digits for each octet.
-#[derive(Clone, Copy)]
-pub struct Text<'a>(pub &'a [u8]);
-
-impl Display for Text<'_> {
-    fn fmt<W: fmt::Write>(&self, f: &mut fmt::Formatter<W>) -> fmt::Result {
-        write!(f, "={}", Hex(self.0))
-    }
+pub fn say_text<W: Write>(to: &mut W, octets: &[u8]) -> io::Result<()> {
+    write!(to, " =")?;
+    say_hex(to, octets)
 }
 
 // A line of another shape, or of a kind that no call answers.
@@ -37,6 +42,6 @@ pub fn say_written<W: Write>(
 ) -> io::Result<()> {
     let number = number_in(&written);
     let length = written.unwrap_or(0);
-    write!(to, "{kind} {number} {length} ")?;
+    say_numbers(to, kind, &[number as u64, length as u64])?;
     say_octets(to, out)
 }

@@ -1,7 +1,7 @@
 // What the words of a line stand for. A word of another shape stands for nothing.
 ghost use Rattle.std.specs.Prelude.{◌≡◌, ◌+◌, ◌*◌, ◌≤◌, IfOk, IfSome, OnSome, length, vec_len};
 
-use console::hex::hex_octets;
+use console::hex::{decode, hex_octets};
 use console::source::append;
 use octets::part::Stretch;
 use std::alloc::{AllocError, Global};
@@ -75,11 +75,19 @@ pub fn room_of(word: &str) -> Option<usize>
     }
 }
 
-// A buffer of A5h in every octet.
-pub fn filled(alloc: Global, room: usize) -> Result<Vec<u8>, AllocError>
+// A lent buffer before a call: A5h in every octet.
+pub fn filled() -> [u8; 4096]
+    ensures { 4096 ≡ length result }
+{
+    [0xA5; 4096]
+}
+
+// As much of it as a line asks.
+pub fn filled_room(alloc: Global, room: usize) -> Result<Vec<u8>, AllocError>
+    requires { room ≤ 4096 }
     ensures { IfOk result (λ buffer. vec_len buffer ≡ room) }
 {
-    vec![in alloc; 0xA5; room]
+    Vec::from_slice(alloc, &filled()[..room])
 }
 
 // The buffer that a word lends to a call.
@@ -87,9 +95,22 @@ pub fn buffer_of(alloc: Global, word: &str) -> Result<Option<Vec<u8>>, AllocErro
     ensures { IfOk result (λ lent. IfSome lent (λ buffer. vec_len buffer ≤ 4096)) }
 {
     match room_of(word) {
-        Some(room) => Ok(Some(filled(alloc, room)?)),
+        Some(room) => Ok(Some(filled_room(alloc, room)?)),
         None => Ok(None),
     }
+}
+
+// Puts the octets of a text's digits at a place of a lent source: where they stand, no more than fit. A place past its end takes none.
+pub fn take_text(digits: &str, source: &mut [u8], start: usize) -> Stretch
+    ensures within { result.start + result.len ≤ length source.new }
+    ensures full { start ≤ length source.new → 2 * length source.new ≤ 2 * start + length digits.now
+        → result.start + result.len ≡ length source.new }
+{
+    if source.len() < start {
+        return Stretch { start: 0, len: 0 };
+    }
+    let len = decode(digits.as_bytes(), &mut source[start..]);
+    Stretch { start, len }
 }
 
 // A text: `=` and two digits for each octet. Its octets are put at the end of the source.
@@ -99,16 +120,30 @@ pub fn text_of(source: &mut Vec<u8>, word: &str) -> Result<Option<Stretch>, Allo
     let Some(digits) = word.strip_prefix('=') else {
         return Ok(None);
     };
-    let Some(octets) = octets_of_digits(*source.allocator(), digits)? else {
+    if (digits.len() % 2 != 0) | !are_hex_digits(digits) {
         return Ok(None);
-    };
-    Ok(Some(append(source, &octets)?))
+    }
+    let mut octets = vec![in *source.allocator(); 0; digits.len() / 2]?;
+    let text = take_text(digits, &mut octets, 0);
+    Ok(Some(append(source, text.of(&octets))?))
 }
 
 #[cfg(test)]
 mod tests {
     use super::*;
     use std::test::Fail;
+
+    #[test]
+    fn lent_buffers(rt: HostRuntime) {
+        assert_eq!(rt; filled().iter().all(|x| *x == 0xA5), true);
+        let mut source = [7; 4];
+        let text = take_text("0102a5", &mut source, 2);
+        assert_eq!(rt; (text.start, text.len), (2, 2));
+        assert_eq!(rt; source, [7, 7, 1, 2]);
+        let past = take_text("03", &mut source, 5);
+        assert_eq!(rt; (past.start, past.len), (0, 0));
+        assert_eq!(rt; source, [7, 7, 1, 2]);
+    }
 
     #[test]
     fn words_that_take_memory(rt: HostRuntime) -> Result<(), Fail> {
@@ -119,6 +154,7 @@ mod tests {
         );
         assert_eq!(rt; octets_of(alloc, "-")?.as_deref(), Some([].as_slice()));
         assert_eq!(rt; octets_of(alloc, "00A5")?.is_none(), true);
+        assert_eq!(rt; filled_room(alloc, 1)?.as_slice(), [0xA5].as_slice());
         assert_eq!(rt;
             buffer_of(alloc, "2")?.as_deref(),
             Some([0xA5, 0xA5].as_slice())
@@ -131,6 +167,7 @@ mod tests {
         );
         assert_eq!(rt; source.as_slice(), [7, 1, 2].as_slice());
         assert_eq!(rt; text_of(&mut source, "0102")?.is_none(), true);
+        assert_eq!(rt; text_of(&mut source, "=012")?.is_none(), true);
         Ok(())
     }
 }

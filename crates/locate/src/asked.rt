@@ -1,16 +1,15 @@
 // What the arguments after CLIENT ask with.
-use arguments::fault::Fault;
-use console::hex::hex_octets;
-use std::alloc::{AllocError, Global};
+use arguments::fault::{Fault, Shown};
+use console::hex::{decode, is_hex};
 use std::env::Env;
 
-// More than a filter or a message may have, so that a longer one gets its number.
-const ASKED_SIZE: usize = 4096;
+// The room for a filter or a message: more than either may have, so that a longer one gets its number.
+pub const ASKED_SIZE: usize = 4096;
 
 // The first argument after CLIENT.
 pub const AFTER_CLIENT: usize = 3;
 
-// The longest argument that Linux hands over.
+// The longest argument that Linux hands over. What lends so much room is not inlined, so that not every run claims it.
 pub const WORD_SIZE: usize = 131072;
 
 // Whether the first argument after CLIENT is an option.
@@ -22,22 +21,14 @@ pub fn is_asked<E: Env>(env: &E, option: &[u8]) -> bool {
     }
 }
 
-// What asks with more than any filter or message has. It gets its number, where the table gets none.
-pub fn too_long(alloc: Global) -> Result<Vec<u8>, AllocError> {
-    vec![in alloc; 0; ASKED_SIZE]
-}
-
-// The octets of the argument HEX.
-pub fn octets_asked(
-    alloc: Global,
-    digits: Vec<u8>,
-    wanted: &'static str,
-) -> Result<Vec<u8>, Fault> {
-    if (digits.len() % 2 == 0) & (2 * ASKED_SIZE < digits.len()) {
-        return Ok(too_long(alloc)?);
+// Puts the octets of the argument HEX at the front of lent room: how many. Where they don't fit, all of the room asks, since it gets the
+// number of what is too long, where the table gets none.
+pub fn octets_asked(digits: &[u8], wanted: &'static str, room: &mut [u8]) -> Result<usize, Fault> {
+    if (digits.len() % 2 == 0) & (room.len() < digits.len() / 2) {
+        return Ok(room.len());
     }
-    match hex_octets(alloc, &digits)? {
-        Some(octets) => Ok(octets),
-        None => Err(Fault::Of(wanted, digits)),
+    if !is_hex(digits) {
+        return Err(Fault::Of(wanted, Shown::of(digits)));
     }
+    Ok(decode(digits, room))
 }

@@ -10,12 +10,12 @@ mod message_asked;
 mod message_shown;
 mod show;
 
-use crate::asked::is_asked;
+use crate::asked::{ASKED_SIZE, is_asked};
 use crate::filter_asked::filter_asked;
 use crate::message_asked::message_asked;
 use crate::show::{show_filter, show_message};
-use arguments::fault::Fault;
-use arguments::file::read_table;
+use arguments::fault::{Fault, Shown};
+use arguments::file::{IMAGE_SIZE, read_table};
 use arguments::word::take_word;
 use std::env::Env;
 use std::fs::Files;
@@ -26,26 +26,29 @@ use table::Caller;
 
 const CLIENT: usize = 2;
 
-fn client_asked<E: Env + AllocGlobal>(env: &E) -> Result<Caller, Fault> {
-    let text = take_word(env, CLIENT, "CLIENT", 64)?;
-    match Ipv4Addr::parse_ascii(&text) {
+fn client_asked<E: Env>(env: &E) -> Result<Caller, Fault> {
+    let mut room = [0; 64];
+    let text = take_word(env, CLIENT, "CLIENT", &mut room)?;
+    match Ipv4Addr::parse_ascii(text) {
         Ok(client) => Ok(Caller {
             address: client.octets(),
         }),
-        Err(_) => Err(Fault::Of("CLIENT is no IPv4 address", text)),
+        Err(_) => Err(Fault::Of("CLIENT is no IPv4 address", Shown::of(text))),
     }
 }
 
 // What the arguments ask is answered.
-fn answer_asked<E: Env + Files + AllocGlobal, W: Write>(env: &E, to: &mut W) -> Result<(), Fault> {
-    let image = read_table(env)?;
+fn answer_asked<E: Env + Files, W: Write>(env: &E, to: &mut W) -> Result<(), Fault> {
+    let mut image = [0; IMAGE_SIZE];
+    let image = read_table(env, &mut image)?;
     let caller = client_asked(env)?;
+    let mut asked = [0; ASKED_SIZE];
     if is_asked(env, b"--mailslot") {
-        let message = message_asked(env)?;
-        show_message(to, &image, caller, &message)?;
+        let message = message_asked(env, &mut asked)?;
+        show_message(to, image, caller, message)?;
     } else {
-        let filter = filter_asked(env)?;
-        show_filter(to, &image, caller, &filter)?;
+        let filter = filter_asked(env, &mut asked)?;
+        show_filter(to, image, caller, filter)?;
     }
     Ok(())
 }

@@ -1,30 +1,32 @@
 // The mailslot message that the arguments after --mailslot ask with: written from words, or given as it is.
-use crate::asked::{AFTER_CLIENT, WORD_SIZE, octets_asked, too_long};
-use arguments::fault::Fault;
-use arguments::message_word::{Words, read_word};
+use crate::asked::{AFTER_CLIENT, WORD_SIZE, octets_asked};
+use arguments::fault::{Fault, Shown};
+use arguments::message_word::{TEXTS_SIZE, Words, read_word};
 use arguments::word::{has_word, take_word};
 use mailslot::message::Message;
 use mailslot_write::write::write_message;
-use octets::part::Stretch;
+use octets::part::{Stretch, part};
 use std::env::Env;
 
 const FIRST_WORD: usize = AFTER_CLIENT + 1;
 
 // Reads one more word than those that are given.
-fn add_word<E: Env + AllocGlobal>(
+#[inline(never)]
+fn add_word<E: Env>(
     env: &E,
     number: usize,
-    source: &mut Vec<u8>,
+    source: &mut [u8],
     words: &mut Words,
 ) -> Result<(), Fault> {
-    let word = take_word(env, number, "a word", WORD_SIZE)?;
-    match read_word(&word, source, words) {
+    let mut room = [0; WORD_SIZE];
+    let word = take_word(env, number, "a word", &mut room)?;
+    match read_word(word, source, words) {
         Ok(()) => Ok(()),
-        Err(error) => Err(Fault::Word(error, word)),
+        Err(error) => Err(Fault::Word(error, Shown::of(word))),
     }
 }
 
-fn words_asked<E: Env + AllocGlobal>(env: &E, source: &mut Vec<u8>) -> Result<Words, Fault> {
+fn words_asked<E: Env>(env: &E, source: &mut [u8]) -> Result<Words, Fault> {
     let mut words = Words::default();
     for i in FIRST_WORD..usize::MAX {
         if !has_word(env, i) {
@@ -52,31 +54,44 @@ fn message_of(words: Words) -> Message {
     }
 }
 
-// Words that no message can have ask with one that is too long.
-fn written_message<E: Env + AllocGlobal>(env: &E) -> Result<Vec<u8>, Fault> {
-    let mut source = Vec::new(env.alloc());
+// Words that no message can have ask with all of the room, which is too long.
+fn written_message<E: Env>(env: &E, room: &mut [u8]) -> Result<usize, Fault> {
+    let mut source = [0; TEXTS_SIZE];
     let words = words_asked(env, &mut source)?;
-    let mut message = too_long(env.alloc())?;
-    if let Ok(len) = write_message(&source, message_of(words), &mut message) {
-        message.truncate(len);
-    }
-    Ok(message)
+    Ok(write_message(&source, message_of(words), room).unwrap_or(room.len()))
 }
 
-pub fn message_asked<E: Env + AllocGlobal>(env: &E) -> Result<Vec<u8>, Fault> {
-    if !has_word(env, FIRST_WORD) {
-        return Err(Fault::Slip("neither HEX nor WORD=VALUE is given after --mailslot"));
-    }
-    let first = take_word(env, FIRST_WORD, "HEX", WORD_SIZE)?;
-    if first.contains(&b'=') {
-        return written_message(env);
-    }
+// Whether the first argument after --mailslot is WORD=VALUE.
+#[inline(never)]
+fn has_equals<E: Env>(env: &E) -> bool {
+    let mut room = [0; WORD_SIZE];
+    take_word(env, FIRST_WORD, "HEX", &mut room).is_ok_and(|word| word.contains(&b'='))
+}
+
+// The octets of the argument HEX after --mailslot.
+#[inline(never)]
+fn given_message<E: Env>(env: &E, room: &mut [u8]) -> Result<usize, Fault> {
     if has_word(env, FIRST_WORD + 1) {
-        return Err(Fault::Slip("no argument is taken after --mailslot HEX"));
+        return Err(Fault::Slip("no argument is taken after --mailslot HEX\n"));
     }
+    let mut word = [0; WORD_SIZE];
+    let digits = take_word(env, FIRST_WORD, "HEX", &mut word)?;
     octets_asked(
-        env.alloc(),
-        first,
+        digits,
         "--mailslot takes two hex digits for each octet, or words as User=ann",
+        room,
     )
+}
+
+// The message, put at the front of lent room.
+pub fn message_asked<'a, E: Env>(env: &E, room: &'a mut [u8]) -> Result<&'a [u8], Fault> {
+    if !has_word(env, FIRST_WORD) {
+        return Err(Fault::Slip("neither HEX nor WORD=VALUE is given after --mailslot\n"));
+    }
+    let len = if has_equals(env) {
+        written_message(env, room)?
+    } else {
+        given_message(env, room)?
+    };
+    Ok(part(room, 0, len))
 }

@@ -10,7 +10,7 @@ use std::io::Write;
 
 fn say_sid<W: Write>(to: &mut W, octets: &[u8], sid: Stretch) -> io::Result<()> {
     if sid.len == 0 {
-        writeln!(to, "sid       none")
+        writeln!(to, "sid       {}", "none")
     } else {
         writeln!(to, "sid       {}", Hex(sid.of(octets)))
     }

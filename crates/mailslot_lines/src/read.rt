@@ -1,6 +1,6 @@
 // `mailslot` lines: a mailslot message is read.
 use answers::number_in;
-use line_words::answer::{Text, say_unknown};
+use line_words::answer::{say_numbers, say_text, say_unknown};
 use line_words::word::only_octets;
 use mailslot::message::Message;
 use mailslot_read::read::read_message;
@@ -9,17 +9,13 @@ use std::io;
 use std::io::Write;
 
 fn say_message<W: Write>(to: &mut W, octets: &[u8], message: Message) -> io::Result<()> {
-    let repeat = message.repeat;
-    let computer = Text(message.computer.of(octets));
-    let user = Text(message.user.of(octets));
-    let mailslot = Text(message.mailslot.of(octets));
-    let bits = message.bits;
-    let sid = Text(message.sid.of(octets));
-    let version = message.version;
-    write!(
-        to,
-        " {repeat} {computer} {user} {mailslot} {bits:08x} {sid} {version:08x}"
-    )
+    write!(to, " {}", message.repeat)?;
+    say_text(to, message.computer.of(octets))?;
+    say_text(to, message.user.of(octets))?;
+    say_text(to, message.mailslot.of(octets))?;
+    write!(to, " {:08x}", message.bits)?;
+    say_text(to, message.sid.of(octets))?;
+    write!(to, " {:08x}", message.version)
 }
 
 // A refusal has no fields.
@@ -28,7 +24,7 @@ pub fn answer_mailslot<W: Write>(to: &mut W, alloc: Global, fields: &[&str]) -> 
         return say_unknown(to);
     };
     let read = read_message(&octets);
-    write!(to, "mailslot {}", number_in(&read))?;
+    say_numbers(to, "mailslot", &[number_in(&read) as u64])?;
     match read {
         Ok(message) => say_message(to, &octets, message),
         Err(_) => Ok(()),

@@ -1,7 +1,7 @@
 // `read` lines: a received reply is read in a form, with version bits.
 use answers::{Form, number_in};
-use console::hex::Hex;
-use line_words::answer::{Text, say_unknown};
+use console::hex::say_hex;
+use line_words::answer::{say_numbers, say_octets, say_unknown};
 use line_words::word::{bits_of, octets_of};
 use octets::part::{Stretch, part};
 use reader_forms::reading::{ExFields, Fields, Nt40Fields, ResponseFields};
@@ -9,76 +9,70 @@ use reader_names::NameAt;
 use reader_reply::read::read_reply;
 use reader_text::text::name_text;
 use std::alloc::Global;
-use std::fmt::Display;
+use std::io;
 use std::io::Write;
-use std::{fmt, io};
 
-// A name of a reply as a word: its text, and how many pointers it has.
-#[derive(Clone, Copy)]
-struct Name<'a> {
-    reply: &'a [u8],
-    at: NameAt,
+// A text of a reply as a word.
+fn say_reply_text<W: Write>(to: &mut W, octets: &[u8]) -> io::Result<()> {
+    write!(to, " {}", "=")?;
+    say_hex(to, octets)
 }
 
-impl Display for Name<'_> {
-    fn fmt<W: fmt::Write>(&self, f: &mut fmt::Formatter<W>) -> fmt::Result {
-        let text = name_text(self.reply, self.at.start);
-        let octets = part(&text.octets, 0, text.len.unwrap_or(0));
-        let pointers = self.at.pointers;
-        write!(f, "{}/{pointers}", Text(octets))
-    }
+// A name of a reply as a word: its text, and how many pointers it has.
+fn say_name<W: Write>(to: &mut W, reply: &[u8], at: NameAt) -> io::Result<()> {
+    let text = name_text(reply, at.start);
+    say_reply_text(to, part(&text.octets, 0, text.len.unwrap_or(0)))?;
+    write!(to, "/{}", at.pointers)
 }
 
 fn say_names<W: Write>(to: &mut W, reply: &[u8], names: &[NameAt]) -> io::Result<()> {
     for at in names {
-        write!(to, " {}", Name { reply, at: *at })?;
+        say_name(to, reply, *at)?;
     }
     Ok(())
 }
 
 fn say_nt40<W: Write>(to: &mut W, reply: &[u8], fields: &Nt40Fields) -> io::Result<()> {
-    let opcode = fields.opcode;
-    let server = Text(fields.server.of(reply));
-    let user = Text(fields.user.of(reply));
-    let domain = Text(fields.domain.of(reply));
-    let version = fields.version;
-    write!(to, " {opcode} {server} {user} {domain} {version}")
+    write!(to, " {}", fields.opcode)?;
+    say_reply_text(to, fields.server.of(reply))?;
+    say_reply_text(to, fields.user.of(reply))?;
+    say_reply_text(to, fields.domain.of(reply))?;
+    write!(to, " {}", fields.version)
 }
 
 fn say_response<W: Write>(to: &mut W, reply: &[u8], fields: &ResponseFields) -> io::Result<()> {
-    let opcode = fields.opcode;
-    let server = Text(fields.server.of(reply));
-    let user = Text(fields.user.of(reply));
-    let domain = Text(fields.domain.of(reply));
-    let guid = Hex(fields.guid.of(reply));
-    write!(to, " {opcode} {server} {user} {domain} {guid}")?;
+    write!(to, " {}", fields.opcode)?;
+    say_reply_text(to, fields.server.of(reply))?;
+    say_reply_text(to, fields.user.of(reply))?;
+    say_reply_text(to, fields.domain.of(reply))?;
+    say_octets(to, fields.guid.of(reply))?;
     say_names(to, reply, &[fields.forest, fields.context, fields.host])?;
-    let ipv4 = Hex(fields.ipv4.of(reply));
-    let flags = fields.flags;
-    let version = fields.version;
-    write!(to, " {ipv4} {flags:08x} {version}")
+    say_octets(to, fields.ipv4.of(reply))?;
+    write!(to, " {:08x} {}", fields.flags, fields.version)
 }
 
 // What is absent is `.`.
+fn say_absent<W: Write>(to: &mut W) -> io::Result<()> {
+    write!(to, " {}", ".")
+}
+
 fn say_address<W: Write>(to: &mut W, reply: &[u8], address: Option<Stretch>) -> io::Result<()> {
     match address {
-        None => write!(to, " ."),
-        Some(ipv4) => write!(to, " {}", Hex(ipv4.of(reply))),
+        None => say_absent(to),
+        Some(ipv4) => say_octets(to, ipv4.of(reply)),
     }
 }
 
 fn say_next_site<W: Write>(to: &mut W, reply: &[u8], next_site: Option<NameAt>) -> io::Result<()> {
     match next_site {
-        None => write!(to, " ."),
-        Some(at) => write!(to, " {}", Name { reply, at }),
+        None => say_absent(to),
+        Some(at) => say_name(to, reply, at),
     }
 }
 
 fn say_ex<W: Write>(to: &mut W, reply: &[u8], fields: &ExFields) -> io::Result<()> {
-    let opcode = fields.opcode;
-    let flags = fields.flags;
-    let guid = Hex(fields.guid.of(reply));
-    write!(to, " {opcode} {flags:08x} {guid}")?;
+    write!(to, " {} {:08x}", fields.opcode, fields.flags)?;
+    say_octets(to, fields.guid.of(reply))?;
     let names = [
         fields.forest,
         fields.context,
@@ -92,8 +86,7 @@ fn say_ex<W: Write>(to: &mut W, reply: &[u8], fields: &ExFields) -> io::Result<(
     say_names(to, reply, &names)?;
     say_address(to, reply, fields.ipv4)?;
     say_next_site(to, reply, fields.next_site)?;
-    let version = fields.version;
-    write!(to, " {version}")
+    write!(to, " {}", fields.version)
 }
 
 // A line has the fields of each form in an order of its own.
@@ -117,13 +110,13 @@ fn form_of(word: &str) -> Option<Form> {
 // A refusal has no length, and no fields.
 fn say_reading<W: Write>(to: &mut W, reply: &[u8], form: Form, version: u32) -> io::Result<()> {
     let reading = read_reply(reply, form, version);
-    write!(to, "read {}", number_in(&reading))?;
+    let number = number_in(&reading);
     match reading {
         Ok(reading) => {
-            write!(to, " {}", reading.length)?;
+            say_numbers(to, "read", &[number as u64, reading.length as u64])?;
             say_fields(to, reply, &reading.fields)
         }
-        Err(_) => write!(to, " 0"),
+        Err(_) => say_numbers(to, "read", &[number as u64, 0]),
     }
 }
 

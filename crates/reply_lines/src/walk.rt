@@ -2,12 +2,12 @@
 ghost use Rattle.std.specs.Prelude.{length, IfSome};
 ghost use Rattle.reply_lines.specs.Internal.Walk.{StepWithin};
 
-use console::hex::Hex;
-use line_words::answer::say_unknown;
+use console::hex::say_hex;
+use line_words::answer::{say_numbers, say_unknown};
 use line_words::word::{number_of, octets_of};
 use octets::part::part;
 use reader_names::look::{Look, look_at};
-use std::alloc::{AllocError, Global};
+use std::alloc::Global;
 use std::io;
 use std::io::Write;
 
@@ -17,13 +17,6 @@ enum WalkStep {
     Ends,
     Label(usize),
     Pointer(usize),
-}
-
-// A name that the walk found: how many pointers it has, and its labels.
-#[derive(Drop)]
-struct Name<'a> {
-    pointers: u64,
-    labels: Vec<&'a [u8]>,
 }
 
 // The step at an offset, in a run that starts at `run`.
@@ -38,18 +31,24 @@ fn walk_step(reply: &[u8], run: usize, at: usize) -> Option<WalkStep>
     }
 }
 
-// The name at an offset, if the walk finds one. The sum may wrap, so that no bound has to be proved; no line is so long.
-fn walk_from(alloc: Global, reply: &[u8], start: usize) -> Result<Option<Name<'_>>, AllocError> {
+// Walks from an offset, and shows each label on the way: how many pointers the name has, if the walk finds one. The sum may wrap, so that
+// no bound has to be proved; no line is so long.
+fn walk_from<F: FnMut(&[u8]) -> io::Result<()>>(
+    reply: &[u8],
+    start: usize,
+    mut show: F,
+) -> io::Result<Option<u64>>
+    requires { F.IsAlwaysCallable show }
+{
     let mut run = start;
     let mut at = start;
     let mut pointers: u64 = 0;
-    let mut labels = Vec::new(alloc);
     // A step goes on by a label's length, or back to where a pointer aims: no `for`.
     while let Some(step) = walk_step(reply, run, at) {
         match step {
-            WalkStep::Ends => return Ok(Some(Name { pointers, labels })),
+            WalkStep::Ends => return Ok(Some(pointers)),
             WalkStep::Label(len) => {
-                labels.push(part(reply, at + 1, len))?;
+                show(part(reply, at + 1, len))?;
                 at = at + 1 + len;
             }
             WalkStep::Pointer(aim) => {
@@ -62,11 +61,21 @@ fn walk_from(alloc: Global, reply: &[u8], start: usize) -> Result<Option<Name<'_
     Ok(None)
 }
 
-fn say_name<W: Write>(to: &mut W, name: &Name<'_>) -> io::Result<()> {
-    write!(to, "walk {} {}", name.pointers, name.labels.len())?;
-    for label in &name.labels {
-        write!(to, " {}", Hex(label))?;
-    }
+// An answer has the count of the labels before them, so the walk is done once to count and once to show: that takes no memory.
+fn say_walk<W: Write>(to: &mut W, reply: &[u8], start: usize) -> io::Result<()> {
+    let mut labels: u64 = 0;
+    let found = walk_from(reply, start, |_| {
+        labels = labels.wrapping_add(1);
+        Ok(())
+    })?;
+    let Some(pointers) = found else {
+        return write!(to, "walk none");
+    };
+    say_numbers(to, "walk", &[pointers, labels])?;
+    walk_from(reply, start, |label| {
+        write!(to, " ")?;
+        say_hex(to, label)
+    })?;
     Ok(())
 }
 
@@ -77,8 +86,5 @@ pub fn answer_walk<W: Write>(to: &mut W, alloc: Global, fields: &[&str]) -> io::
     let (Some(start), Some(reply)) = (number_of(start), octets_of(alloc, reply)?) else {
         return say_unknown(to);
     };
-    match walk_from(alloc, &reply, start as usize)? {
-        Some(name) => say_name(to, &name),
-        None => write!(to, "walk none"),
-    }
+    say_walk(to, &reply, start as usize)
 }

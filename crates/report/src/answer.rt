@@ -1,5 +1,5 @@
 // An answer number with its meaning: document 01, "Answer numbers" and "Reading a reply", and document 02.
-use answers::{Form, Refusal, number_of};
+use answers::{Form, Refusal, number_in};
 use std::io;
 use std::io::Write;
 
@@ -41,20 +41,18 @@ pub fn say_answer<T, W: Write>(
     answer: &Result<T, Refusal>,
     good: &str,
 ) -> io::Result<()> {
+    write!(to, "answer    {}", number_in(answer))?;
     match answer {
-        Ok(_) => writeln!(to, "answer    0, {good}"),
-        Err(refusal) => {
-            let number = number_of(*refusal);
-            writeln!(to, "answer    {number}, refused: {}", meaning_of(*refusal))
-        }
+        Ok(_) => writeln!(to, ", {good}"),
+        Err(refusal) => writeln!(to, ", refused: {}", meaning_of(*refusal)),
     }
 }
 
 pub fn say_form<W: Write>(to: &mut W, form: Form) -> io::Result<()> {
     let name = match form {
-        Form::Nt40 => "NT40",
-        Form::Response => "RESPONSE",
-        Form::Ex => "EX",
+        Form::Nt40 => "NT40\n",
+        Form::Response => "RESPONSE\n",
+        Form::Ex => "EX\n",
     };
-    writeln!(to, "form      {name}")
+    write!(to, "form      {name}")
 }

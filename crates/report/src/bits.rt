@@ -51,17 +51,22 @@ pub fn say_flags<W: Write>(to: &mut W, flags: u32) -> io::Result<()> {
 // A reading has no other opcode.
 fn opcode_name(opcode: u16) -> &'static str {
     match opcode {
-        LOGON_SAM_LOGON_RESPONSE => " LOGON_SAM_LOGON_RESPONSE",
-        LOGON_SAM_PAUSE_RESPONSE => " LOGON_SAM_PAUSE_RESPONSE",
-        LOGON_SAM_USER_UNKNOWN => " LOGON_SAM_USER_UNKNOWN",
-        LOGON_SAM_LOGON_RESPONSE_EX => " LOGON_SAM_LOGON_RESPONSE_EX",
-        LOGON_SAM_PAUSE_RESPONSE_EX => " LOGON_SAM_PAUSE_RESPONSE_EX",
-        LOGON_SAM_USER_UNKNOWN_EX => " LOGON_SAM_USER_UNKNOWN_EX",
+        LOGON_SAM_LOGON_RESPONSE => "LOGON_SAM_LOGON_RESPONSE",
+        LOGON_SAM_PAUSE_RESPONSE => "LOGON_SAM_PAUSE_RESPONSE",
+        LOGON_SAM_USER_UNKNOWN => "LOGON_SAM_USER_UNKNOWN",
+        LOGON_SAM_LOGON_RESPONSE_EX => "LOGON_SAM_LOGON_RESPONSE_EX",
+        LOGON_SAM_PAUSE_RESPONSE_EX => "LOGON_SAM_PAUSE_RESPONSE_EX",
+        LOGON_SAM_USER_UNKNOWN_EX => "LOGON_SAM_USER_UNKNOWN_EX",
         _ => "",
     }
 }
 
 // The line of a reply's opcode.
 pub fn say_opcode<W: Write>(to: &mut W, opcode: u16) -> io::Result<()> {
-    writeln!(to, "opcode    {opcode}{}", opcode_name(opcode))
+    write!(to, "opcode    {opcode}")?;
+    let name = opcode_name(opcode);
+    if !name.is_empty() {
+        write!(to, " {name}")?;
+    }
+    writeln!(to)
 }

@@ -1,5 +1,6 @@
 // Octets as lines of sixteen: the offset, hex digits, and what is printable of them.
 use crate::text::is_printable;
+use console::hex::Hex;
 use octets::part::part;
 use std::io;
 use std::io::Write;
@@ -13,7 +14,7 @@ fn say_columns<W: Write>(to: &mut W, line: &[u8]) -> io::Result<()> {
             write!(to, " ")?;
         }
         match line.get(i) {
-            Some(octet) => write!(to, " {octet:02x}")?,
+            Some(octet) => write!(to, " {}", Hex(&[*octet]))?,
             None => write!(to, "   ")?,
         }
     }

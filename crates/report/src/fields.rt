@@ -37,8 +37,12 @@ fn say_name<W: Write>(to: &mut W, title: &str, reply: &[u8], name: NameAt) -> io
         Err(_) => write!(to, "broken")?,
     }
     let pointers = name.pointers;
-    let plural = if pointers == 1 { "" } else { "s" };
-    writeln!(to, ", {pointers} pointer{plural}")
+    write!(to, ", {pointers}")?;
+    if pointers == 1 {
+        writeln!(to, " pointer")
+    } else {
+        writeln!(to, " pointers")
+    }
 }
 
 // The texts of the two older forms.
@@ -91,10 +95,9 @@ fn say_address<W: Write>(to: &mut W, reply: &[u8], address: Option<Stretch>) -> 
 }
 
 fn say_next_site<W: Write>(to: &mut W, reply: &[u8], next_site: Option<NameAt>) -> io::Result<()> {
-    let title = "name 8    next closest site  ";
     match next_site {
-        None => writeln!(to, "{title}none"),
-        Some(name) => say_name(to, title, reply, name),
+        None => writeln!(to, "name 8    next closest site  none"),
+        Some(name) => say_name(to, "name 8    next closest site  ", reply, name),
     }
 }
 

@@ -6,7 +6,7 @@ mod first;
 use crate::first::{BlockRule, first_wrong};
 use answers::Refusal;
 use arguments::fault::Fault;
-use arguments::file::{TABLE, read_table};
+use arguments::file::{IMAGE_SIZE, TABLE, read_table};
 use arguments::word::has_word;
 use report::answer::say_answer;
 use std::env::Env;
@@ -40,12 +40,13 @@ fn show_judgement<W: Write>(to: &mut W, image: &[u8]) -> io::Result<()> {
 }
 
 // The table that the arguments name is judged.
-fn check_asked<E: Env + Files + AllocGlobal, W: Write>(env: &E, to: &mut W) -> Result<(), Fault> {
+fn check_asked<E: Env + Files, W: Write>(env: &E, to: &mut W) -> Result<(), Fault> {
     if has_word(env, ARGUMENTS_END) {
-        return Err(Fault::Slip("no argument is taken after TABLE"));
+        return Err(Fault::Slip("no argument is taken after TABLE\n"));
     }
-    let image = read_table(env)?;
-    show_judgement(to, &image)?;
+    let mut room = [0; IMAGE_SIZE];
+    let image = read_table(env, &mut room)?;
+    show_judgement(to, image)?;
     Ok(())
 }
 

@@ -3,7 +3,7 @@ use crate::filter_lines::{answer_filter, answer_values};
 use crate::ping_lines::answer_ping_line;
 use crate::write::answer_write;
 use answers::number_in;
-use line_words::answer::say_unknown;
+use line_words::answer::{say_numbers, say_unknown};
 use line_words::word::only_octets;
 use mailslot_lines::read::answer_mailslot;
 use mailslot_lines::write::answer_mailwrite;
@@ -22,7 +22,7 @@ fn answer_check<W: Write>(to: &mut W, alloc: Global, fields: &[&str]) -> io::Res
     match only_octets(alloc, fields)? {
         Some(block) if block.len() == 508 => {
             let check = check_of(&block);
-            write!(to, "check {} {}", check.a, check.b)
+            say_numbers(to, "check", &[check.a as u64, check.b as u64])
         }
         _ => say_unknown(to),
     }
@@ -34,7 +34,7 @@ fn answer_table<W: Write>(to: &mut W, fields: &[&str], image: &mut Vec<u8>) -> i
         return say_unknown(to);
     };
     *image = octets;
-    write!(to, "table {}", number_in(&judge(image)))
+    say_numbers(to, "table", &[number_in(&judge(image)) as u64])
 }
 
 fn answer_words<W: Write>(to: &mut W, words: &[&str], image: &mut Vec<u8>) -> io::Result<()> {
@@ -79,7 +79,5 @@ pub fn answer_line<W: Write>(to: &mut W, line: &[u8], image: &mut Vec<u8>) -> io
     } else {
         answer_text(to, line, image)?;
     }
-    // Each answer is out before the next line is read. A LineWriter would look at every octet for this.
-    writeln!(to)?;
-    to.flush()
+    writeln!(to)
 }

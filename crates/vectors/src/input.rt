@@ -1,52 +1,62 @@
 // A reader, gathered into lines.
-ghost use Rattle.std.specs.Prelude.{◌≡◌, ◌+◌, ◌≤◌, IfErr, IfOk, vec_len};
+ghost use Rattle.std.specs.Prelude.{◌≡◌, ◌≤◌, IfErr, IfOk, length};
 
 use crate::answer::{LONGEST, answer_line};
 use std::alloc::Global;
 use std::io;
 use std::io::{Read, Write};
 
-// A line is kept up to one octet more than the longest, so that a longer one is told from it.
+// One octet more than the longest line has, so that a longer one is told from it.
+const LINE_SIZE: usize = LONGEST + 1;
+
+// Takes one octet: an LF ends the line, another is kept while there is room. How many octets of the line are kept then. An error is the
+// writer's, or one of memory, of the line's answer.
 fn take_octet<W: Write>(
     to: &mut W,
     octet: u8,
-    line: &mut Vec<u8>,
+    line: &mut [u8],
+    len: usize,
     image: &mut Vec<u8>,
-) -> io::Result<()>
-    requires { vec_len line.old ≤ LONGEST + 1 }
-    ensures taken { IfOk result (λ _. vec_len line.new ≤ LONGEST + 1) }
-    ensures failed { IfErr result (λ _. line.new.items ≡ line.old.items) }
+) -> io::Result<usize>
+    requires { len ≤ length line.old }
+    ensures taken { IfOk result (λ longer. longer ≤ length line.old) }
+    ensures failed { IfErr result (λ _. line.new ≡ line.old) }
 {
     if octet == b'\n' {
-        answer_line(to, line, image)?;
-        line.clear();
-    } else if line.len() <= LONGEST {
-        line.push(octet)?;
+        answer_line(to, &line[..len], image)?;
+        return Ok(0);
     }
-    Ok(())
+    if len < line.len() {
+        line[len] = octet;
+        return Ok(len + 1);
+    }
+    Ok(len)
 }
 
 // The octets of one read.
 fn take_octets<W: Write>(
     to: &mut W,
     octets: &[u8],
-    line: &mut Vec<u8>,
+    line: &mut [u8],
+    len: usize,
     image: &mut Vec<u8>,
-) -> io::Result<()>
-    requires { vec_len line.old ≤ LONGEST + 1 }
-    ensures { IfOk result (λ _. vec_len line.new ≤ LONGEST + 1) }
+) -> io::Result<usize>
+    requires { len ≤ length line.old }
+    ensures { IfOk result (λ longer. longer ≤ length line.old) }
 {
+    let mut kept = len;
     for octet in octets {
-        take_octet(to, *octet, line, image)?;
+        kept = take_octet(to, *octet, line, kept, image)?;
     }
-    Ok(())
+    Ok(kept)
 }
 
 // A proved loop has to end, so the reads are counted up to a number that no input uses up.
 pub fn answer_all<R: Read + Drop, W: Write>(alloc: Global, from: R, to: &mut W) -> io::Result<()> {
     let mut from = from;
     let mut octets = vec![in alloc; 0; 65536]?;
-    let mut line = Vec::new(alloc);
+    let mut line = [0; LINE_SIZE];
+    let mut len = 0;
     // what the last `table` line gave
     let mut image = Vec::new(alloc);
     for _ in 0..u64::MAX {
@@ -54,7 +64,7 @@ pub fn answer_all<R: Read + Drop, W: Write>(alloc: Global, from: R, to: &mut W) 
         if count == 0 {
             break;
         }
-        take_octets(to, &octets[..count], &mut line, &mut image)?;
+        len = take_octets(to, &octets[..count], &mut line, len, &mut image)?;
     }
-    answer_line(to, &line, &mut image)
+    answer_line(to, &line[..len], &mut image)
 }

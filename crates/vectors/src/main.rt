@@ -8,10 +8,8 @@ mod ping_lines;
 mod write;
 
 use std::io;
-use std::io::BufWriter;
 
 fn main(rt: HostRuntime) -> io::Result<()> {
-    let alloc = rt.alloc();
-    let mut to = BufWriter::new(alloc, rt.stdout())?;
-    input::answer_all(alloc, rt.stdin(), &mut to)
+    // No buffered writer: its drop would write again what a failed write left.
+    input::answer_all(rt.alloc(), rt.stdin(), &mut rt.stdout())
 }

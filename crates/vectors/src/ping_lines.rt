@@ -1,6 +1,6 @@
 // `ping` and `mailping` lines: the standing image's answer to a client's filter, or to its mailslot message.
 use answers::{Form, Refusal, number_of};
-use line_words::answer::{say_octets, say_unknown};
+use line_words::answer::{say_numbers, say_octets, say_unknown};
 use line_words::word::{bits_of, buffer_of, octets_of};
 use locator::Answered;
 use locator::ping::answer_ping;
@@ -27,12 +27,14 @@ fn say_answer<W: Write>(
 ) -> io::Result<()> {
     match answer {
         Ok(answered) => {
-            let length = answered.length;
             let context = answered.context.0;
-            let form = form_word(answered.form);
-            write!(to, "{kind} 0 {length} {context} {form} ")?;
+            say_numbers(to, kind, &[0, answered.length as u64, context as u64])?;
+            write!(to, " {}", form_word(answered.form))?;
         }
-        Err(refusal) => write!(to, "{kind} {} 0 0 none ", number_of(refusal))?,
+        Err(refusal) => {
+            say_numbers(to, kind, &[number_of(refusal) as u64, 0, 0])?;
+            write!(to, " {}", "none")?;
+        }
     }
     say_octets(to, reply)
 }

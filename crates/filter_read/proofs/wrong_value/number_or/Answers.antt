@@ -1,27 +1,11 @@
-use mathlib.Core.Path.{◌≡◌, ap, ◌∙◌}
-use mathlib.Core.List.{List}
-use Prim.Native.Nat.{ℕ}
-use native.Mathlib.Omega.{arith}
-use borrow.Author.Tests.{eqb-true, not-false}
-use lib.ListN.{length, take}
-use lib.Seq.{take_all}
-use Rattle.octets.specs.Number.{little}
-use Rattle.octets.specs.Stretch.{stretch_of}
+use borrow.Author.Tests.{not-false}
 use Rattle.filter_read.proofs.wrong_value.number_or.Goals as goal
-use Rattle.filter_read.proofs.wrong_value.number_or.Goals.{After-of}
 
-four : (c : After-of) → length c.of.result.now ≡ 4
-four c =
-    let p = c.args in
+pub clause_number-requires : goal.clause_number-requires
+clause_number-requires c =
     let e = c.requires in
     let f = rw c.in-Some.is at e in
-    ap length c.of.ensures ∙ eqb-true (length (stretch_of p.s.now c.in-Some.stretch)) 4 (not-false _ f)
-
-pub u32_at-requires : goal.u32_at-requires
-u32_at-requires c = omega (arith, four (goal.at.u32_at-requires c).After-of)
+    not-false _ f
 
 pub returns : goal.returns
-returns c =
-    let x : List ℕ = c.of.result.now in
-    let w : take 4 x ≡ x = take_all 4 x (omega (arith, four (goal.at.returns c).After-of)) in
-    rw c.in-Some.is (c.u32_at.ensures ∙ ap little (w ∙ c.of.ensures))
+returns c = rw c.in-Some.is c.clause_number.ensures

@@ -1,5 +1,5 @@
-use Rattle.std.proofs.Common.{◌≤◌, vec_len}
+use Rattle.std.proofs.Common.{◌≤◌}
 use Rattle.vectors.proofs.input.answer_all.Given as goal
 
 abbrev pub invariant-loop : goal.invariant-loop
-invariant-loop g l = vec_len l.line ≤ 140101
+invariant-loop g l = l.len ≤ 140101
